@@ -1,0 +1,12 @@
+-- The order of dots and of identities.
+use Rattle.std.specs.declared.cmp.Ordering.{Ordering}
+use Rattle.std.specs.Ordering.{nat_cmp, ordering_then}
+use Rattle.td_base.specs.Value.{DotValue, AtomIdValue}
+
+-- by site, then by seq
+abbrev pub dot_cmp : DotValue → DotValue → Ordering
+dot_cmp d e = ordering_then (nat_cmp d.site e.site) (nat_cmp d.seq e.seq)
+
+-- by dot, then by offset
+abbrev pub id_cmp : AtomIdValue → AtomIdValue → Ordering
+id_cmp x y = ordering_then (dot_cmp x.dot y.dot) (nat_cmp x.offset y.offset)

@@ -1,0 +1,78 @@
+ghost use Rattle.std.specs.Prelude.{◌≡◌, IfErr};
+ghost use Rattle.std.specs.Result.{OkIff};
+ghost use Rattle.td_base.specs.Atom.{IsAtom, IsAtomFault};
+
+use std::marker::Model;
+
+/// The greatest length of an atom in bytes.
+pub const MAX_ATOM_LEN: usize = 64;
+
+/// Why bytes are no atom: the first of these that holds.
+#[derive(Clone, Copy, Debug, PartialEq, Eq)]
+pub enum AtomFault {
+    /// There are no bytes.
+    Empty,
+    /// There are more than `MAX_ATOM_LEN` bytes.
+    Long { len: usize },
+    /// The bytes are not UTF-8: their longest front that is UTF-8 has `at` bytes.
+    Utf8 { at: usize },
+}
+
+/// An atom of the text: 1 to `MAX_ATOM_LEN` bytes of UTF-8. Contracts see the list of its bytes.
+#[derive(Clone, Copy, Debug, PartialEq, Eq)]
+pub struct Atom {
+    len: u8,
+    // past `len` the bytes are 0
+    bytes: [u8; MAX_ATOM_LEN],
+}
+
+impl Model for Atom {
+    ghost use Rattle.std.specs.Prelude.{ℕ, List, length, take};
+
+    ghost Value = { List ℕ };
+
+    ghost use Rattle.td_base.specs.AtomParts.{IsAtomParts, padded_with_zeros, len_again};
+    ghost use Rattle.std.proofs.Common.{sym};
+
+    ghost view = { λ a. take a.len a.bytes };
+
+    ghost invariant = { λ a. IsAtomParts a.len a.bytes };
+
+    ghost inverse = { λ bytes. record { len = length bytes; bytes = padded_with_zeros bytes } };
+
+    ghost inverse_ok = { λ a h i. record { len = len_again a.len a.bytes h i; bytes = sym h.zeros i } };
+}
+
+impl Atom {
+    /// The atom with these bytes. Takes no memory.
+    pub fn new(bytes: &[u8]) -> Result<Atom, AtomFault>
+        ensures ok { OkIff result (IsAtom bytes.now) bytes.now }
+        ensures fault { IfErr result (IsAtomFault bytes.now) }
+    {
+        if bytes.is_empty() {
+            return Err(AtomFault::Empty);
+        }
+        let len = bytes.len();
+        if len > MAX_ATOM_LEN {
+            return Err(AtomFault::Long { len });
+        }
+        if let Err(error) = str::from_utf8(bytes) {
+            return Err(AtomFault::Utf8 {
+                at: error.valid_up_to(),
+            });
+        }
+        let mut all = [0; MAX_ATOM_LEN];
+        all[..len].copy_from_slice(bytes);
+        Ok(Atom {
+            len: len as u8,
+            bytes: all,
+        })
+    }
+
+    pub fn bytes(&self) -> &[u8]
+        ensures bytes { result.now ≡ self.now }
+        ensures atom { IsAtom self.now }
+    {
+        &self.bytes[..self.len as usize]
+    }
+}

@@ -1,0 +1,26 @@
+//! The values that every crate of treedoc speaks of: sites, dots, identities of atoms, atoms, lists of bytes.
+//!
+//! Each is in its range by construction, is compared as its contract says, and is seen by contracts as a number, a record
+//! of numbers or a list. Begin at `dot`, and at `specs/Value.antt` for what contracts see.
+#![tactic(auto)]
+
+mod atom;
+mod atom_id;
+mod bit;
+mod bytes;
+mod dot;
+mod memory;
+mod order;
+mod site;
+
+pub use atom::{Atom, AtomFault, MAX_ATOM_LEN};
+pub use atom_id::{AtomId, MAX_OFFSET};
+pub use bit::Bit;
+pub use bytes::Bytes;
+pub use dot::{Dot, MAX_SEQ};
+pub use memory::Memory;
+pub use order::{dots_are_ordered, identities_are_ordered};
+pub use site::{MAX_SITE, Site};
+
+#[cfg(test)]
+mod tests;

@@ -1,0 +1,20 @@
+// The derived orders are the orders of the definitions.
+ghost use Rattle.std.specs.Prelude.{◌≡◌, ◌↔◌};
+ghost use Rattle.std.specs.declared.cmp.Ordering.TheVariants.{Equal};
+ghost use Rattle.td_base.specs.Value.{DotValue, AtomIdValue};
+ghost use Rattle.td_base.specs.Order.{dot_cmp, id_cmp};
+
+use crate::atom_id::AtomId;
+use crate::dot::Dot;
+
+/// Dots compare by site, then by seq, and are equal where both are.
+pub fn dots_are_ordered()
+    ensures order { (d e : DotValue) → ⟦<Dot as Ord>⟧.cmp d e ≡ dot_cmp d e }
+    ensures equal { (d e : DotValue) → (dot_cmp d e ≡ Equal) ↔ (d ≡ e) }
+{}
+
+/// Identities compare by dot, then by offset, and are equal where both are.
+pub fn identities_are_ordered()
+    ensures order { (x y : AtomIdValue) → ⟦<AtomId as Ord>⟧.cmp x y ≡ id_cmp x y }
+    ensures equal { (x y : AtomIdValue) → (id_cmp x y ≡ Equal) ↔ (x ≡ y) }
+{}
