@@ -19,7 +19,7 @@ pub use bit::Bit;
 pub use bytes::Bytes;
 pub use dot::{Dot, MAX_SEQ};
 pub use memory::Memory;
-pub use order::{dots_are_ordered, identities_are_ordered};
+pub use order::{bits_are_ordered, dots_are_ordered, identities_are_ordered};
 pub use site::{MAX_SITE, Site};
 
 #[cfg(test)]

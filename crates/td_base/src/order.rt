@@ -2,9 +2,11 @@
 ghost use Rattle.std.specs.Prelude.{◌≡◌, ◌↔◌};
 ghost use Rattle.std.specs.declared.cmp.Ordering.TheVariants.{Equal};
 ghost use Rattle.td_base.specs.Value.{DotValue, AtomIdValue};
-ghost use Rattle.td_base.specs.Order.{dot_cmp, id_cmp};
+ghost use Rattle.td_base.specs.Order.{dot_cmp, id_cmp, bit_cmp};
+ghost use Rattle.td_base.specs.declared.bit.Bit.{Bit};
 
 use crate::atom_id::AtomId;
+use crate::bit::Bit;
 use crate::dot::Dot;
 
 /// Dots compare by site, then by seq, and are equal where both are.
@@ -17,4 +19,10 @@ pub fn dots_are_ordered()
 pub fn identities_are_ordered()
     ensures order { (x y : AtomIdValue) → ⟦<AtomId as Ord>⟧.cmp x y ≡ id_cmp x y }
     ensures equal { (x y : AtomIdValue) → (id_cmp x y ≡ Equal) ↔ (x ≡ y) }
+{}
+
+/// `Left` is before `Right`.
+pub fn bits_are_ordered()
+    ensures order { (b c : Bit) → ⟦<Bit as Ord>⟧.cmp b c ≡ bit_cmp b c }
+    ensures equal { (b c : Bit) → (bit_cmp b c ≡ Equal) ↔ (b ≡ c) }
 {}
