@@ -1,0 +1,4 @@
+pub mod Infix
+pub mod SlotPaths
+pub use Rattle.td_base.specs.Value
+pub use Rattle.td_base.specs.Order
