@@ -14,4 +14,4 @@ pub use infix_order::infix;
 pub use laws::{infix_is_a_total_order, slots_stand_beside_their_node};
 pub use path::Path;
 pub use slot::Slot;
-pub use slot_path::{SlotPath, contains, overlap};
+pub use slot_path::{SlotPath, contains, goes_on, overlap};

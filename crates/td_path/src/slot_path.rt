@@ -18,7 +18,7 @@ pub fn contains(slot: &SlotPath, path: &Path) -> bool
 {
     match slot {
         SlotPath::Whole => true,
-        SlotPath::Below { path: front, bit } => goes_on(front.as_slice(), *bit, path.as_slice()),
+        SlotPath::Below { path: front, bit } => goes_on(front, *bit, path),
     }
 }
 
@@ -37,14 +37,20 @@ fn contains_slot(slot: &SlotPath, other: &SlotPath) -> bool
         (SlotPath::Whole, _) => true,
         (SlotPath::Below { .. }, SlotPath::Whole) => false,
         (SlotPath::Below { path: front, bit }, SlotPath::Below { path, bit: side }) => {
-            (infix(front, path).is_eq() && bit == side)
-                || goes_on(front.as_slice(), *bit, path.as_slice())
+            (infix(front, path).is_eq() && bit == side) || goes_on(front, *bit, path)
         }
     }
 }
 
-// Whether the path begins with the front and goes on by the bit.
-fn goes_on(front: &[(Bit, AtomId)], bit: Bit, mut path: &[(Bit, AtomId)]) -> bool
+/// Whether the path begins with the front and goes on by the bit: whether the slot on that side of the node at the front
+/// contains the row with the path. Takes no memory.
+pub fn goes_on(front: &Path, bit: Bit, path: &Path) -> bool
+    ensures { result ≡ goes_on front.now bit path.now }
+{
+    pairs_go_on(front.as_slice(), bit, path.as_slice())
+}
+
+fn pairs_go_on(front: &[(Bit, AtomId)], bit: Bit, mut path: &[(Bit, AtomId)]) -> bool
     ensures { result ≡ goes_on front.now bit path.entry.now }
 {
     for q in front {

@@ -1,0 +1,43 @@
+-- What the calls of a document answer.
+use Rattle.std.specs.Prelude.{◌≡◌, ℕ, List, [], ◌∷◌, ◌+◌, cond, length, Option, IsNone, IsSome, slice_get}
+use Rattle.std.specs.Option.{option_map}
+use Rattle.td_base.specs.Value.{AtomIdValue}
+use Rattle.td_path.specs.declared.slot.Slot.{Slot}
+use Rattle.td_path.specs.declared.slot.Slot.TheVariants.{Root, At}
+use Rattle.td_doc.specs.declared.doc.Row.{Row}
+use Rattle.td_doc.specs.declared.doc.DocFault.{DocFault}
+use Rattle.td_doc.specs.declared.doc.DocFault.TheVariants.{Gone, Memory}
+use Rattle.td_doc.specs.Document.{DocRow, row_id, has_id, is_live, live_rows, find_row}
+use Rattle.td_doc.specs.Slots.{own_slot}
+
+-- the atom is a row
+abbrev pub IsRow : List DocRow → AtomIdValue → Type 0
+IsRow rows x = IsSome (find_row x rows)
+
+-- the atom that the slot names, where it names one, is a row
+abbrev pub IsRooted : List DocRow → Slot → Type 0
+IsRooted rows Root = Unit {0}
+IsRooted rows (At x bit) = IsRow rows x
+
+-- the slot names the atom
+abbrev pub Names : Slot → AtomIdValue → Type 0
+Names Root x = ⊥
+Names (At y bit) x = x ≡ y
+
+-- why an insertion in the slot is refused: its atom is no row
+abbrev pub IsSlotFault : List DocRow → Slot → DocFault → Type 0
+IsSlotFault rows slot (Gone id) = Names slot id × IsNone (find_row id rows)
+IsSlotFault rows slot Memory = Unit {0}
+
+-- how many live rows stand before the row x
+abbrev pub live_before : AtomIdValue → List DocRow → ℕ
+live_before x [] = 0
+live_before x (r ∷ rows) = cond (has_id x r) 0 (cond (is_live r) 1 0 + live_before x rows)
+
+-- what is told of the row x
+abbrev pub row_told : List DocRow → AtomIdValue → Option Row
+row_told rows x = option_map (λ (r : DocRow). record { id = row_id r; slot = own_slot r; atom = r.atom; deletes = length r.deletes; index = live_before x rows }) (find_row x rows)
+
+-- the identity of the live row at an index
+abbrev pub live_id_at : List DocRow → ℕ → Option AtomIdValue
+live_id_at rows index = option_map row_id (slice_get (live_rows rows) index)

@@ -1,0 +1,70 @@
+-- Rows and documents (Preguiça et al. 2009): a Treedoc document as the list of its rows in infix order.
+use Rattle.std.specs.Prelude.{◌≡◌, ◌≢◌, ◌⊎◌, ℕ, List, [], ◌∷◌, ◌++◌, Bool, true, false, filter, find, Option}
+use Rattle.std.specs.declared.cmp.Ordering.TheVariants.{Less}
+use Rattle.std.specs.List.{AllByRecursion, flat_map}
+use Rattle.std.specs.Ordering.{is_eq}
+use Rattle.td_base.specs.declared.bit.Bit.TheVariants.{Right}
+use Rattle.td_base.specs.Value.{DotValue, AtomIdValue}
+use Rattle.td_base.specs.Order.{id_cmp}
+use Rattle.td_path.specs.Infix.{Pair, Pairs, path_cmp}
+
+-- a row: its path, its atom, and the dots of the deletes that named it, in their order
+pub record DocRow : Type 0 where
+  pub path : Pairs
+  pub atom : List ℕ
+  pub deletes : List DotValue
+
+-- the identity of the last pair, or x where there is none
+abbrev pub last_id : AtomIdValue → Pairs → AtomIdValue
+last_id x [] = x
+last_id x (p ∷ path) = last_id p.1 path
+
+-- the identity of a row: that of its last pair (a row's path is not empty)
+abbrev pub row_id : DocRow → AtomIdValue
+row_id r = last_id (record { dot = record { site = 0; seq = 0 }; offset = 0 }) r.path
+
+abbrev pub is_empty_list : {X : Type 0} → List X → Bool
+is_empty_list [] = true
+is_empty_list (x ∷ xs) = false
+
+-- a row without delete dots is live, another is a tombstone
+abbrev pub is_live : DocRow → Bool
+is_live r = is_empty_list r.deletes
+
+abbrev pub live_rows : List DocRow → List DocRow
+live_rows rows = filter is_live rows
+
+-- the text that a document shows
+abbrev pub text_of : List DocRow → List ℕ
+text_of rows = flat_map (λ (r : DocRow). r.atom) (live_rows rows)
+
+abbrev pub has_id : AtomIdValue → DocRow → Bool
+has_id x r = is_eq (id_cmp (row_id r) x)
+
+abbrev pub find_row : AtomIdValue → List DocRow → Option DocRow
+find_row x rows = find (has_id x) rows
+
+-- R holds of each element and each that follows it
+abbrev pub Successive : {X : Type 0} → (X → X → Type 0) → List X → Type 0
+Successive R [] = Unit {0}
+Successive R (x ∷ xs) = AllByRecursion (R x) xs × Successive R xs
+
+abbrev pub In : {X : Type 0} → X → List X → Type 0
+In x [] = ⊥
+In x (y ∷ ys) = (x ≡ y) ⊎ In x ys
+
+-- a path has a pair, and its first pair has the bit Right
+abbrev pub IsPath : Pairs → Type 0
+IsPath [] = ⊥
+IsPath (p ∷ path) = p.0 ≡ Right
+
+-- the rules of a document
+pub record IsDocument (rows : List DocRow) : Type 0 where
+  -- paths increase by infix order
+  pub ascending : Successive (λ (r s : DocRow). path_cmp r.path s.path ≡ Less) rows
+  -- identities differ
+  pub apart : Successive (λ (r s : DocRow). row_id r ≢ row_id s) rows
+  pub paths : (r : DocRow) → In r rows → IsPath r.path
+  -- each nonempty proper front of a row's path is the path of a row
+  pub rooted : (r : DocRow) (front : Pairs) (next : Pair) (rest : Pairs) → In r rows → r.path ≡ front ++ next ∷ rest → front ≢ []
+      → (s : DocRow) × In s rows × (s.path ≡ front)

@@ -1,0 +1,9 @@
+pub mod Document
+pub mod Slots
+pub mod Allocation
+pub mod Insertion
+pub mod Answers
+pub use Rattle.td_base.specs.Value
+pub use Rattle.td_base.specs.Order
+pub use Rattle.td_path.specs.Infix
+pub use Rattle.td_path.specs.SlotPaths

@@ -1,0 +1,85 @@
+ghost use Rattle.std.specs.Prelude.{◌≡◌, ◌↔◌, List, [], length, IfOk, IfErr, OnOk, OnErr, IsNone, MatchOption};
+ghost use Rattle.td_doc.specs.Document.{DocRow, find_row, live_rows};
+ghost use Rattle.td_doc.specs.Slots.{is_empty_slot};
+ghost use Rattle.td_doc.specs.Allocation.{id_after};
+ghost use Rattle.td_doc.specs.Insertion.{insert_atom};
+ghost use Rattle.td_doc.specs.Answers.{IsRow, IsRooted, IsSlotFault, row_told, live_id_at};
+
+use std::alloc::Global;
+use td_base::{Atom, AtomId, Memory};
+use td_path::Slot;
+
+/// Why a document refuses a change. It is as before then.
+#[derive(Clone, Copy, Debug, PartialEq, Eq)]
+pub enum DocFault {
+    /// The atom is no row.
+    Gone { id: AtomId },
+    /// Want of memory, or more than `u32::MAX` rows.
+    Memory,
+}
+
+impl From<Memory> for DocFault {
+    ghost use Rattle.std.specs.Prelude.{◌≡◌};
+    ghost use Rattle.td_doc.specs.declared.doc.DocFault.TheVariants.{Memory as OutOfMemory};
+
+    ghost from_gives = { λ _ fault. fault ≡ OutOfMemory };
+
+    fn from(_memory: Memory) -> DocFault {
+        DocFault::Memory
+    }
+}
+
+/// What a document tells of one of its rows.
+#[derive(Clone, Copy, Debug, PartialEq, Eq)]
+pub struct Row {
+    pub id: AtomId,
+    /// The slot in which the row stands.
+    pub slot: Slot,
+    pub atom: Atom,
+    /// The number of its delete dots: 0 where it is live, else it is a tombstone.
+    pub deletes: u32,
+    /// The number of live rows before it.
+    pub index: u32,
+}
+
+/// A Treedoc document, seen as the list of its rows (Preguiça et al. 2009).
+pub trait Doc: Sized {
+    /// The rows in infix order.
+    ghost rows: { Self → List DocRow };
+
+    /// A document with no rows.
+    fn empty(alloc: Global) -> Result<Self, Memory>
+        ensures { IfOk result (λ doc. rows doc ≡ []) };
+
+    /// Puts an atom in a slot.
+    fn insert(&mut self, slot: Slot, id: AtomId, atom: Atom) -> Result<(), DocFault>
+        requires { IsNone (find_row id (rows self.old)) }
+        ensures ok { OnOk result (IsRooted (rows self.old) slot × (rows self.new ≡ insert_atom slot id atom (rows self.old))) }
+        ensures fault { IfErr result (IsSlotFault (rows self.old) slot) }
+        ensures err { OnErr result (rows self.new ≡ rows self.old) };
+
+    /// The number of rows, tombstones included. Takes no memory, like all calls below.
+    fn rows(&self) -> u32
+        ensures { result ≡ length (rows self.now) };
+
+    /// The number of live rows.
+    fn live(&self) -> u32
+        ensures { result ≡ length (live_rows (rows self.now)) };
+
+    /// The atom that stands at an index among the live ones, from 0.
+    fn live_at(&self, index: u32) -> Option<AtomId>
+        ensures { result ≡ live_id_at (rows self.now) index };
+
+    /// What is told of a row, where the atom is one.
+    fn find(&self, id: AtomId) -> Option<Row>
+        ensures { result ≡ row_told (rows self.now) id };
+
+    /// The row that follows a row, or the first row.
+    fn after(&self, id: Option<AtomId>) -> Option<AtomId>
+        requires { MatchOption id (Unit {0}) (IsRow (rows self.now)) }
+        ensures { result ≡ id_after (rows self.now) id };
+
+    /// Whether the slot contains no row.
+    fn slot_empty(&self, slot: Slot) -> bool
+        ensures { result ≡ is_empty_slot (rows self.now) slot };
+}

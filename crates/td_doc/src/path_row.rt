@@ -1,0 +1,73 @@
+ghost use Rattle.std.specs.Prelude.{◌≡◌, ◌≢◌, []};
+ghost use Rattle.td_doc.specs.Document.{has_id, is_live, row_id};
+ghost use Rattle.td_doc.specs.Slots.{own_slot};
+
+use std::alloc::Global;
+use std::marker::Model;
+use td_base::{Atom, AtomId, Dot};
+use td_path::{Path, Slot};
+
+/// A row with its whole path. Contracts see the row.
+#[derive(Debug, Drop)]
+pub struct PathRow {
+    pub path: Path,
+    pub atom: Atom,
+    pub deletes: Vec<Dot>,
+}
+
+impl Model for PathRow {
+    ghost use Rattle.std.specs.Prelude.{◌≢◌, ◌<◌, ◌^◌, [], length};
+    ghost use Rattle.td_doc.specs.Document.{DocRow};
+
+    ghost Value = { DocRow };
+
+    ghost view = { λ r. record { path = r.path; atom = r.atom; deletes = r.deletes.items } };
+
+    ghost invariant = { λ r. (r.path ≢ []) × (length r.deletes.items < 2 ^ 32) };
+}
+
+impl PathRow {
+    /// A live row that ends at the path.
+    pub fn new(alloc: Global, path: Path, atom: Atom) -> PathRow
+        requires { path ≢ [] }
+        ensures { result ≡ record { path = path; atom = atom; deletes = [] } }
+    {
+        PathRow {
+            path,
+            atom,
+            deletes: Vec::new(alloc),
+        }
+    }
+
+    pub fn id(&self) -> AtomId
+        ensures { result ≡ row_id self.now }
+    {
+        let pairs = self.path.as_slice();
+        pairs[pairs.len() - 1].1
+    }
+
+    pub fn has_id(&self, id: AtomId) -> bool
+        ensures { result ≡ has_id id self.now }
+    {
+        self.id().cmp(&id).is_eq()
+    }
+
+    pub fn is_live(&self) -> bool
+        ensures { result ≡ is_live self.now }
+    {
+        self.deletes.is_empty()
+    }
+
+    /// The slot in which the row stands.
+    pub fn own_slot(&self) -> Slot
+        ensures { result ≡ own_slot self.now }
+    {
+        match self.path.as_slice() {
+            [.., parent, last] => Slot::At {
+                atom: parent.1,
+                bit: last.0,
+            },
+            _ => Slot::Root,
+        }
+    }
+}

@@ -1,0 +1,116 @@
+// What a document asks of its rows, as a walk over all of them.
+ghost use Rattle.std.specs.Prelude.{◌≡◌, ◌<◌, ◌≤◌, length, IfSome};
+ghost use Rattle.std.specs.Option.{option_copied};
+ghost use Rattle.std.specs.List.{list_any, position, position_or_len};
+ghost use Rattle.std.specs.Ordering.{is_lt};
+ghost use Rattle.td_path.specs.Infix.{path_cmp};
+ghost use Rattle.td_path.specs.SlotPaths.{goes_on};
+ghost use Rattle.td_doc.specs.Document.{DocRow, find_row, live_rows};
+ghost use Rattle.td_doc.specs.Slots.{is_empty_slot};
+ghost use Rattle.td_doc.specs.Allocation.{next_id};
+ghost use Rattle.td_doc.specs.Answers.{live_before, live_id_at};
+
+use crate::path_row::PathRow;
+use td_base::{AtomId, Bit};
+use td_path::{Path, Slot, goes_on, infix};
+
+/// The row of an atom.
+pub fn find_row(rows: &[PathRow], id: AtomId) -> Option<&PathRow>
+    ensures { option_copied result ≡ find_row id rows.now }
+{
+    rows.iter().find(|row| row.has_id(id))
+}
+
+/// How many rows stand before a new row.
+#[tactic(auto, using(crate::proofs::RowLists::first_or_length))]
+pub fn place_of(rows: &[PathRow], new: &PathRow) -> usize
+    ensures value { result ≡ position_or_len (λ (r : DocRow). is_lt (path_cmp new.now.path r.path)) rows.now }
+    ensures bound { result ≤ length rows.now }
+{
+    first_after(rows, new).unwrap_or(rows.len())
+}
+
+// The place of the first row that stands after a new row.
+fn first_after(rows: &[PathRow], new: &PathRow) -> Option<usize>
+    ensures value { result ≡ position (λ (r : DocRow). is_lt (path_cmp new.now.path r.path)) rows.now }
+    ensures bound { IfSome result (λ place. place < length rows.now) }
+{
+    rows.iter()
+        .position(|row| infix(&new.path, &row.path).is_lt())
+}
+
+/// The number of live rows.
+pub fn count_live(rows: &[PathRow]) -> usize
+    ensures value { result ≡ length (live_rows rows.now) }
+    ensures bound { result ≤ length rows.now }
+{
+    rows.iter().filter(|row| row.is_live()).count()
+}
+
+/// The atom of the live row at an index among them.
+pub fn live_at(rows: &[PathRow], index: usize) -> Option<AtomId>
+    ensures { result ≡ live_id_at rows.now index }
+{
+    let mut left = index;
+    for row in rows {
+        if row.is_live() {
+            if left == 0 {
+                return Some(row.id());
+            }
+            left -= 1;
+        }
+    }
+    None
+}
+
+/// The number of live rows before the row of an atom.
+pub fn live_before(rows: &[PathRow], id: AtomId) -> usize
+    ensures value { result ≡ live_before id rows.now }
+    ensures bound { result ≤ length rows.now }
+{
+    let mut live = 0;
+    for row in rows {
+        if row.has_id(id) {
+            return live;
+        }
+        if row.is_live() {
+            live += 1;
+        }
+    }
+    live
+}
+
+/// The row that follows the row of an atom.
+pub fn next_id(rows: &[PathRow], id: AtomId) -> Option<AtomId>
+    ensures { result ≡ next_id id rows.now }
+{
+    let mut is_next = false;
+    for row in rows {
+        if is_next {
+            return Some(row.id());
+        }
+        is_next = row.has_id(id);
+    }
+    None
+}
+
+/// Whether no row is in the slot.
+#[tactic(auto, using(crate::proofs::RowLists::none_pass, crate::proofs::RowLists::none_of_all))]
+pub fn slot_is_empty(rows: &[PathRow], slot: Slot) -> bool
+    ensures { result ≡ is_empty_slot rows.now slot }
+{
+    match slot {
+        Slot::Root => rows.is_empty(),
+        Slot::At { atom, bit } => match find_row(rows, atom) {
+            Some(row) => !has_row_below(rows, &row.path, bit),
+            None => true,
+        },
+    }
+}
+
+// Whether a row hangs on this side of the node at the path.
+fn has_row_below(rows: &[PathRow], path: &Path, bit: Bit) -> bool
+    ensures { result ≡ list_any (λ (r : DocRow). goes_on path.now bit r.path) rows.now }
+{
+    rows.iter().any(|row| goes_on(path, bit, &row.path))
+}
