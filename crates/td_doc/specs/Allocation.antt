@@ -1,10 +1,10 @@
 -- Where what is placed after a row, or at the start, is put.
-use Rattle.std.specs.Prelude.{List, [], ◌∷◌, cond, Option, Some, None}
+use Rattle.std.specs.Prelude.{◌-◌, ℕ, nat_eq, List, [], ◌∷◌, cond, Option, Some, None}
 use Rattle.td_base.specs.declared.bit.Bit.TheVariants.{Left, Right}
 use Rattle.td_base.specs.Value.{AtomIdValue}
 use Rattle.td_path.specs.declared.slot.Slot.{Slot}
 use Rattle.td_path.specs.declared.slot.Slot.TheVariants.{Root, At}
-use Rattle.td_doc.specs.Document.{DocRow, row_id, has_id}
+use Rattle.td_doc.specs.Document.{DocRow, row_id, has_id, live_id_at}
 use Rattle.td_doc.specs.Slots.{is_empty_slot}
 
 -- the identity of the first row
@@ -32,3 +32,7 @@ slot_before (Some f) = At f Left
 abbrev pub alloc : List DocRow → Option AtomIdValue → Slot
 alloc rows None = slot_before (first_id rows)
 alloc rows (Some p) = cond (is_empty_slot rows (At p Right)) (At p Right) (slot_before (next_id p rows))
+
+-- the live row after which what goes to an index is placed: the one before it, or none at the start
+abbrev pub anchor : List DocRow → ℕ → Option AtomIdValue
+anchor rows index = cond (nat_eq index 0) None (live_id_at rows (index - 1))

@@ -1,5 +1,5 @@
 -- What the calls of a document answer.
-use Rattle.std.specs.Prelude.{◌≡◌, ℕ, List, [], ◌∷◌, ◌+◌, cond, length, Option, IsNone, IsSome, slice_get}
+use Rattle.std.specs.Prelude.{◌≡◌, ℕ, List, [], ◌∷◌, ◌+◌, cond, length, Option, IsNone, IsSome}
 use Rattle.std.specs.Option.{option_map}
 use Rattle.td_base.specs.Value.{AtomIdValue}
 use Rattle.td_path.specs.declared.slot.Slot.{Slot}
@@ -7,7 +7,7 @@ use Rattle.td_path.specs.declared.slot.Slot.TheVariants.{Root, At}
 use Rattle.td_doc.specs.declared.doc.Row.{Row}
 use Rattle.td_doc.specs.declared.doc.DocFault.{DocFault}
 use Rattle.td_doc.specs.declared.doc.DocFault.TheVariants.{Gone, Memory}
-use Rattle.td_doc.specs.Document.{DocRow, row_id, has_id, is_live, live_rows, find_row}
+use Rattle.td_doc.specs.Document.{DocRow, row_id, has_id, is_live, find_row}
 use Rattle.td_doc.specs.Slots.{own_slot}
 
 -- the atom is a row
@@ -37,7 +37,3 @@ live_before x (r ∷ rows) = cond (has_id x r) 0 (cond (is_live r) 1 0 + live_be
 -- what is told of the row x
 abbrev pub row_told : List DocRow → AtomIdValue → Option Row
 row_told rows x = option_map (λ (r : DocRow). record { id = row_id r; slot = own_slot r; atom = r.atom; deletes = length r.deletes; index = live_before x rows }) (find_row x rows)
-
--- the identity of the live row at an index
-abbrev pub live_id_at : List DocRow → ℕ → Option AtomIdValue
-live_id_at rows index = option_map row_id (slice_get (live_rows rows) index)

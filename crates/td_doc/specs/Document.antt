@@ -1,7 +1,8 @@
 -- Rows and documents (Preguiça et al. 2009): a Treedoc document as the list of its rows in infix order.
-use Rattle.std.specs.Prelude.{◌≡◌, ◌≢◌, ◌⊎◌, ℕ, List, [], ◌∷◌, ◌++◌, Bool, true, false, filter, find, Option}
+use Rattle.std.specs.Prelude.{◌≡◌, ◌≢◌, ◌⊎◌, ℕ, List, [], ◌∷◌, ◌++◌, Bool, true, false, filter, find, map, slice_get, Option}
 use Rattle.std.specs.declared.cmp.Ordering.TheVariants.{Less}
-use Rattle.std.specs.List.{AllByRecursion, flat_map}
+use Rattle.std.specs.List.{AllByRecursion, concat}
+use Rattle.std.specs.Option.{option_map}
 use Rattle.std.specs.Ordering.{is_eq}
 use Rattle.td_base.specs.declared.bit.Bit.TheVariants.{Right}
 use Rattle.td_base.specs.Value.{DotValue, AtomIdValue}
@@ -34,9 +35,17 @@ is_live r = is_empty_list r.deletes
 abbrev pub live_rows : List DocRow → List DocRow
 live_rows rows = filter is_live rows
 
--- the text that a document shows
+-- the atoms that a document shows
+abbrev pub live_atoms : List DocRow → List (List ℕ)
+live_atoms rows = map (λ (r : DocRow). r.atom) (live_rows rows)
+
+-- the text that it shows: those atoms, joined
 abbrev pub text_of : List DocRow → List ℕ
-text_of rows = flat_map (λ (r : DocRow). r.atom) (live_rows rows)
+text_of rows = concat (live_atoms rows)
+
+-- the identity of the live row at an index
+abbrev pub live_id_at : List DocRow → ℕ → Option AtomIdValue
+live_id_at rows index = option_map row_id (slice_get (live_rows rows) index)
 
 abbrev pub has_id : AtomIdValue → DocRow → Bool
 has_id x r = is_eq (id_cmp (row_id r) x)

@@ -1,9 +1,9 @@
 ghost use Rattle.std.specs.Prelude.{◌≡◌, ◌↔◌, List, [], length, IfOk, IfErr, OnOk, OnErr, IsNone, MatchOption};
-ghost use Rattle.td_doc.specs.Document.{DocRow, find_row, live_rows};
+ghost use Rattle.td_doc.specs.Document.{DocRow, find_row, live_id_at, live_rows};
 ghost use Rattle.td_doc.specs.Slots.{is_empty_slot};
 ghost use Rattle.td_doc.specs.Allocation.{id_after};
 ghost use Rattle.td_doc.specs.Insertion.{insert_atom};
-ghost use Rattle.td_doc.specs.Answers.{IsRow, IsRooted, IsSlotFault, row_told, live_id_at};
+ghost use Rattle.td_doc.specs.Answers.{IsRow, IsRooted, IsSlotFault, row_told};
 
 use std::alloc::Global;
 use td_base::{Atom, AtomId, Memory};

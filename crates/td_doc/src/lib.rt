@@ -7,10 +7,14 @@
 
 mod alloc;
 mod doc;
+mod laws;
 mod path_row;
 mod rows;
 mod search;
 
 pub use alloc::alloc_slot;
 pub use doc::{Doc, DocFault, Row};
+pub use laws::{
+    insertion_keeps_the_rules, what_is_placed_stands_there, what_is_typed_stands_at_its_index,
+};
 pub use rows::Rows;

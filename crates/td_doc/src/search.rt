@@ -5,10 +5,10 @@ ghost use Rattle.std.specs.List.{list_any, position, position_or_len};
 ghost use Rattle.std.specs.Ordering.{is_lt};
 ghost use Rattle.td_path.specs.Infix.{path_cmp};
 ghost use Rattle.td_path.specs.SlotPaths.{goes_on};
-ghost use Rattle.td_doc.specs.Document.{DocRow, find_row, live_rows};
+ghost use Rattle.td_doc.specs.Document.{DocRow, find_row, live_id_at, live_rows};
 ghost use Rattle.td_doc.specs.Slots.{is_empty_slot};
 ghost use Rattle.td_doc.specs.Allocation.{next_id};
-ghost use Rattle.td_doc.specs.Answers.{live_before, live_id_at};
+ghost use Rattle.td_doc.specs.Answers.{live_before};
 
 use crate::path_row::PathRow;
 use td_base::{AtomId, Bit};

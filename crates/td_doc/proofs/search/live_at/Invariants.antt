@@ -1,5 +1,5 @@
 use Rattle.std.proofs.Common.{◌≡◌, drop}
-use Rattle.td_doc.specs.Answers.{live_id_at}
+use Rattle.td_doc.specs.Document.{live_id_at}
 use Rattle.td_doc.proofs.search.live_at.Given as goal
 
 abbrev pub invariant-loop-row : goal.invariant-loop-row

@@ -1,0 +1,116 @@
+-- What is typed at an index stands at that index.
+use Rattle.std.proofs.Common.{◌≡◌, ◌<◌, ◌≤◌, ◌-◌, ℕ, zero, suc, List, [], ◌∷◌, ◌++◌, Bool, true, false, cond, map, length, nat_eq, Option, Some, None, refl, sym, ap, ◌∙◌, subst, arith, append_assoc, length-append}
+use Rattle.std.specs.Prelude.{insert, slice_get}
+use Rattle.std.specs.Option.{option_map}
+use Rattle.std.proofs.Math.Seq.{get_or-append_seam}
+use Rattle.std.proofs.lemmas.Bool.Decides.{nat_tests}
+use Rattle.std.proofs.lemmas.Option.{slice_get-get_or}
+use Rattle.std.proofs.lemmas.List.{map-append, take_at, drop_at}
+use Rattle.std.proofs.lemmas.List.Elements.{filter-append}
+use Rattle.td_base.specs.Value.{AtomIdValue}
+use Rattle.td_doc.specs.Document.{DocRow, row_id, is_live, is_empty_list, live_rows, live_atoms, live_id_at, IsDocument}
+use Rattle.td_doc.specs.Allocation.{alloc, anchor}
+use Rattle.td_doc.specs.Insertion.{insert_atom, IsNew, ComesBetween}
+use Rattle.td_doc.proofs.Placement.{placed_after, placed_first}
+
+live_atoms-append : (xs ys : List DocRow) → live_atoms (xs ++ ys) ≡ live_atoms xs ++ live_atoms ys
+live_atoms-append xs ys = ap (map (λ (r : DocRow). r.atom)) (filter-append is_live xs ys) ∙ map-append (λ (r : DocRow). r.atom) (live_rows xs) (live_rows ys)
+
+live_atoms-live : (r : DocRow) (rows : List DocRow) → is_live r ≡ true → live_atoms (r ∷ rows) ≡ r.atom ∷ live_atoms rows
+live_atoms-live r rows h = ap (λ b. map (λ (q : DocRow). q.atom) (cond b (r ∷ live_rows rows) (live_rows rows))) h
+
+new_is_live : (id : AtomIdValue) (atom : List ℕ) (n : DocRow) → IsNew id atom n → is_live n ≡ true
+new_is_live id atom n h = ap is_empty_list h.live
+
+-- one more atom between those of the front and those of the back
+typed_between : (id : AtomIdValue) (atom : List ℕ) (front back after : List DocRow) → ComesBetween id atom front back after → live_atoms after ≡ live_atoms front ++ atom ∷ live_atoms back
+typed_between id atom front back after h =
+    ap live_atoms h.is ∙ live_atoms-append front (h.row ∷ back)
+    ∙ ap (λ (atoms : List (List ℕ)). live_atoms front ++ atoms) (live_atoms-live h.row back (new_is_live id atom h.row h.new) ∙ ap (λ (a : List ℕ). a ∷ live_atoms back) h.new.shows)
+
+insert_at : (xs ys : List (List ℕ)) (i : ℕ) (a : List ℕ) → length xs ≡ i → xs ++ a ∷ ys ≡ insert (xs ++ ys) i a
+insert_at xs ys i a h = λ k. sym (take_at xs ys i h) k ++ a ∷ sym (drop_at xs ys i h) k
+
+-- the live row at an index, with the rows before it and after it
+record LiveAt (rows : List DocRow) (i : ℕ) : Type 0 where
+  front : List DocRow
+  row : DocRow
+  back : List DocRow
+  is : rows ≡ front ++ row ∷ back
+  live : is_live row ≡ true
+  before : length (live_rows front) ≡ i
+
+live_split_at : (r : DocRow) (rows : List DocRow) (i : ℕ) (b : Bool) → is_live r ≡ b → i < length (cond b (r ∷ live_rows rows) (live_rows rows)) → ((j : ℕ) → j < length (live_rows rows) → LiveAt rows j) → LiveAt (r ∷ rows) i
+live_split_at r rows zero true e h ih = record { front = []; row = r; back = rows; is = refl; live = e; before = refl }
+live_split_at r rows (suc i) true e h ih =
+    let s = ih i (omega arith) in
+    record {
+      front = r ∷ s.front;
+      row = s.row;
+      back = s.back;
+      is = ap (λ (q : List DocRow). r ∷ q) s.is;
+      live = s.live;
+      before = ap (λ b. length (cond b (r ∷ live_rows s.front) (live_rows s.front))) e ∙ ap suc s.before;
+    }
+live_split_at r rows i false e h ih =
+    let s = ih i h in
+    record {
+      front = r ∷ s.front;
+      row = s.row;
+      back = s.back;
+      is = ap (λ (q : List DocRow). r ∷ q) s.is;
+      live = s.live;
+      before = ap (λ b. length (cond b (r ∷ live_rows s.front) (live_rows s.front))) e ∙ s.before;
+    }
+
+live_split : (rows : List DocRow) (i : ℕ) → i < length (live_rows rows) → LiveAt rows i
+live_split [] i h = absurd (omega arith)
+live_split (r ∷ rows) i h = live_split_at r rows i (is_live r) refl h (λ j k. live_split rows j k)
+
+get_at : (xs : List DocRow) (x : DocRow) (ys : List DocRow) (i : ℕ) → length xs ≡ i → slice_get (xs ++ x ∷ ys) i ≡ Some x
+get_at xs x ys i h =
+    subst (λ k. slice_get (xs ++ x ∷ ys) k ≡ Some x) h
+    (slice_get-get_or (xs ++ x ∷ ys) (length xs) x (omega (arith, length-append xs (x ∷ ys))) ∙ ap (λ (y : DocRow). Some y) (get_or-append_seam xs x ys x))
+
+live_id : (rows : List DocRow) (i : ℕ) (s : LiveAt rows i) → live_id_at rows i ≡ Some (row_id s.row)
+live_id rows i s =
+    let split : live_rows rows ≡ live_rows s.front ++ s.row ∷ live_rows s.back =
+    ap live_rows s.is ∙ filter-append is_live s.front (s.row ∷ s.back) ∙ ap (λ b. live_rows s.front ++ cond b (s.row ∷ live_rows s.back) (live_rows s.back)) s.live in
+    ap (λ (q : List DocRow). option_map row_id (slice_get q i)) split ∙ ap (option_map row_id) (get_at (live_rows s.front) s.row (live_rows s.back) i s.before)
+
+length-map : (rows : List DocRow) → length (map (λ (r : DocRow). r.atom) rows) ≡ length rows
+length-map [] = refl
+length-map (r ∷ rows) = ap suc (length-map rows)
+
+-- after the live row that has i live ones before it
+typed_split : (front : List DocRow) (r : DocRow) (back : List DocRow) (i : ℕ) (id : AtomIdValue) (atom : List ℕ) → IsDocument (front ++ r ∷ back) → is_live r ≡ true → length (live_rows front) ≡ i
+    → live_atoms (insert_atom (alloc (front ++ r ∷ back) (Some (row_id r))) id atom (front ++ r ∷ back)) ≡ insert (live_atoms (front ++ r ∷ back)) (suc i) atom
+typed_split front r back i id atom d live count =
+    let first : List DocRow = front ++ r ∷ [] in
+    let rows : live_rows first ≡ live_rows front ++ r ∷ [] =
+    filter-append is_live front (r ∷ []) ∙ ap (λ b. live_rows front ++ cond b (r ∷ []) []) live in
+    let so_many : length (live_atoms first) ≡ suc i =
+    omega (arith, length-map (live_rows first), ap length rows, length-append (live_rows front) (r ∷ []), count) in
+    typed_between id atom first back _ (placed_after front r back d id atom)
+    ∙ insert_at (live_atoms first) (live_atoms back) (suc i) atom so_many
+    ∙ ap (λ (atoms : List (List ℕ)). insert atoms (suc i) atom) (sym (live_atoms-append first back) ∙ ap live_atoms (append_assoc front (r ∷ []) back))
+
+typed_after : (rows : List DocRow) (i : ℕ) (id : AtomIdValue) (atom : List ℕ) → IsDocument rows → (s : LiveAt rows i) → live_atoms (insert_atom (alloc rows (Some (row_id s.row))) id atom rows) ≡ insert (live_atoms rows) (suc i) atom
+typed_after rows i id atom d s =
+    subst (λ (q : List DocRow). IsDocument q → live_atoms (insert_atom (alloc q (Some (row_id s.row))) id atom q) ≡ insert (live_atoms q) (suc i) atom) (sym s.is)
+    (λ e. typed_split s.front s.row s.back i id atom e s.live s.before) d
+
+not_zero : (i : ℕ) → nat_eq (suc i) 0 ≡ false
+not_zero i = grind (arith, nat_tests)
+
+anchor_further : (rows : List DocRow) (i : ℕ) → anchor rows (suc i) ≡ live_id_at rows i
+anchor_further rows i =
+    let one_less : suc i - 1 ≡ i = omega arith in
+    ap (λ b. cond b None (live_id_at rows (suc i - 1))) (not_zero i) ∙ ap (live_id_at rows) one_less
+
+-- what is typed at an index stands at that index
+pub typed : (rows : List DocRow) (index : ℕ) (id : AtomIdValue) (atom : List ℕ) → IsDocument rows → index ≤ length (live_rows rows) → live_atoms (insert_atom (alloc rows (anchor rows index)) id atom rows) ≡ insert (live_atoms rows) index atom
+typed rows zero id atom d h = typed_between id atom [] rows _ (placed_first rows id atom)
+typed rows (suc i) id atom d h =
+    let s = live_split rows i (omega arith) in
+    ap (λ (after : Option AtomIdValue). live_atoms (insert_atom (alloc rows after) id atom rows)) (anchor_further rows i ∙ live_id rows i s) ∙ typed_after rows i id atom d s
