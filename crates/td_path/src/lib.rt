@@ -15,3 +15,6 @@ pub use laws::{infix_is_a_total_order, slots_stand_beside_their_node};
 pub use path::Path;
 pub use slot::Slot;
 pub use slot_path::{SlotPath, contains, goes_on, overlap};
+
+#[cfg(test)]
+mod tests;

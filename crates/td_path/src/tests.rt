@@ -1,0 +1,58 @@
+use super::*;
+use std::cmp::Ordering;
+use std::test::Fail;
+use td_base::{AtomId, Bit, Dot, Site};
+
+fn id(site: u8, seq: u32) -> Result<AtomId, Fail> {
+    let site = Site::new(site).ok_or("a site")?;
+    Ok(AtomId::of(Dot::new(site, seq).ok_or("a dot")?))
+}
+
+#[test]
+fn a_pair_is_pushed(rt: HostRuntime) -> Result<(), Fail> {
+    let mut path = Path::new(rt.alloc());
+    assert!(rt; path.is_empty());
+    path.push(Bit::Right, id(1, 1)?)?;
+    assert_eq!(rt; path.len(), 1);
+    assert_eq!(rt; path.pair(0), Some((Bit::Right, id(1, 1)?)));
+    assert_eq!(rt; path.pair(1), None);
+    Ok(())
+}
+
+#[test]
+fn what_hangs_on_the_left_comes_first(rt: HostRuntime) -> Result<(), Fail> {
+    let mut node = Path::new(rt.alloc());
+    node.push(Bit::Right, id(1, 1)?)?;
+    let mut left = node.try_clone()?;
+    left.push(Bit::Left, id(2, 1)?)?;
+    let mut right = node.try_clone()?;
+    right.push(Bit::Right, id(1, 2)?)?;
+    assert_eq!(rt; infix(&left, &node), Ordering::Less);
+    assert_eq!(rt; infix(&node, &right), Ordering::Less);
+    assert_eq!(rt; infix(&right, &left), Ordering::Greater);
+    assert_eq!(rt; infix(&node, &node), Ordering::Equal);
+    Ok(())
+}
+
+#[test]
+fn a_slot_contains_what_goes_on_by_its_bit(rt: HostRuntime) -> Result<(), Fail> {
+    let mut node = Path::new(rt.alloc());
+    node.push(Bit::Right, id(1, 1)?)?;
+    let mut left = node.try_clone()?;
+    left.push(Bit::Left, id(2, 1)?)?;
+    let left_slot = SlotPath::Below {
+        path: node.try_clone()?,
+        bit: Bit::Left,
+    };
+    let right_slot = SlotPath::Below {
+        path: node.try_clone()?,
+        bit: Bit::Right,
+    };
+    assert!(rt; contains(&left_slot, &left));
+    assert!(rt; !contains(&left_slot, &node));
+    assert!(rt; !contains(&right_slot, &left));
+    assert!(rt; contains(&SlotPath::Whole, &node));
+    assert!(rt; !overlap(&left_slot, &right_slot));
+    assert!(rt; overlap(&left_slot, &SlotPath::Whole));
+    Ok(())
+}
