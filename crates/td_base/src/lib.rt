@@ -1,4 +1,4 @@
-//! The values that every crate of treedoc speaks of: sites, dots, identities of atoms, atoms, lists of bytes.
+//! The values that every crate of treedoc speaks of: sites, dots, identities of atoms, atoms, runs of atoms, lists of bytes.
 //!
 //! Each is in its range by construction, is compared as its contract says, and is seen by contracts as a number, a record
 //! of numbers or a list. Begin at `dot`, and at `specs/Value.antt` for what contracts see.
@@ -11,6 +11,7 @@ mod bytes;
 mod dot;
 mod memory;
 mod order;
+mod run;
 mod site;
 
 pub use atom::{Atom, AtomFault, MAX_ATOM_LEN};
@@ -20,6 +21,7 @@ pub use bytes::Bytes;
 pub use dot::{Dot, MAX_SEQ};
 pub use memory::Memory;
 pub use order::{bits_are_ordered, dots_are_ordered, identities_are_ordered};
+pub use run::{MAX_RUN_LEN, Run, RunFault};
 pub use site::{MAX_SITE, Site};
 
 #[cfg(test)]

@@ -36,6 +36,42 @@ fn an_atom_of_64_bytes_is_read_back(rt: HostRuntime) -> Result<(), Fail> {
 }
 
 #[test]
+fn no_atoms_and_65_letters_are_no_run(rt: HostRuntime) -> Result<(), Fail> {
+    let letter = Atom::new(b"a").ok().ok_or("a letter")?;
+    let letters = [letter; 65];
+    assert_eq!(rt; Run::new(&letters[..0]).err(), Some(RunFault::Empty));
+    assert_eq!(rt; Run::new(&letters).err(), Some(RunFault::Long { len: 65 }));
+    Ok(())
+}
+
+#[test]
+fn a_run_of_64_letters_is_read_back(rt: HostRuntime) -> Result<(), Fail> {
+    let letter = Atom::new(b"a").ok().ok_or("a letter")?;
+    let run = Run::new(&[letter; 64]).ok().ok_or("64 letters")?;
+    assert_eq!(rt; run.len(), 64);
+    assert_eq!(rt; run.atom(63), Some(letter));
+    assert_eq!(rt; run.atom(64), None);
+    assert_eq!(rt; Run::new(&[letter]).ok(), Some(Run::one(letter)));
+    Ok(())
+}
+
+#[test]
+fn atoms_of_one_to_four_bytes_are_read_back(rt: HostRuntime) -> Result<(), Fail> {
+    let atoms = [
+        Atom::new("a".as_bytes()).ok().ok_or("one byte")?,
+        Atom::new("é".as_bytes()).ok().ok_or("two bytes")?,
+        Atom::new("€".as_bytes()).ok().ok_or("three bytes")?,
+        Atom::new("😀".as_bytes()).ok().ok_or("four bytes")?,
+    ];
+    let run = Run::new(&atoms).ok().ok_or("ten bytes")?;
+    assert_eq!(rt; run.len(), 4);
+    for (i, atom) in atoms.iter().enumerate() {
+        assert_eq!(rt; run.atom(i as u8), Some(*atom), "at {i}");
+    }
+    Ok(())
+}
+
+#[test]
 fn a_piece_is_pushed(rt: HostRuntime) -> Result<(), Fail> {
     let mut bytes = Bytes::new(rt.alloc());
     bytes.push(b"ab")?;

@@ -1,0 +1,127 @@
+ghost use Rattle.std.specs.Prelude.{◌≡◌, ◌<◌, ◌^◌, ◌∷◌, [], length, All, IfErr, slice_get};
+ghost use Rattle.std.specs.List.{concat};
+ghost use Rattle.std.specs.Result.{OkIff};
+ghost use Rattle.td_base.specs.Atom.{IsAtom};
+ghost use Rattle.td_base.specs.Run.{IsRun, IsRunFault};
+
+use crate::atom::Atom;
+use std::marker::Model;
+
+/// The greatest number of bytes of a run, and so of its atoms.
+pub const MAX_RUN_LEN: usize = 64;
+
+/// Why atoms are no run: the first of these that holds.
+#[derive(Clone, Copy, Debug, PartialEq, Eq)]
+pub enum RunFault {
+    /// There are no atoms.
+    Empty,
+    /// They have more than `MAX_RUN_LEN` bytes together, namely `len`.
+    Long { len: u64 },
+}
+
+/// What one insert puts into the text: 1 to 64 atoms with at most `MAX_RUN_LEN` bytes together. Contracts see the list of
+/// the atoms.
+#[derive(Clone, Copy, Debug, PartialEq, Eq)]
+pub struct Run {
+    // the atoms one after another, and zeros behind them
+    bytes: [u8; MAX_RUN_LEN],
+    // bit i is set where an atom ends with byte i
+    ends: u64,
+}
+
+impl Model for Run {
+    ghost use Rattle.std.specs.Prelude.{ℕ, List};
+
+    ghost Value = { List (List ℕ) };
+
+    ghost use Rattle.td_base.specs.RunParts.{IsRunParts, atoms_of, bytes_of, ends_of};
+    ghost use Rattle.std.proofs.Common.{sym};
+
+    ghost view = { λ r. atoms_of r.ends r.bytes };
+
+    ghost invariant = { λ r. IsRunParts r.bytes r.ends };
+
+    ghost inverse = { λ atoms. record { bytes = bytes_of atoms; ends = ends_of atoms } };
+
+    ghost inverse_ok = { λ r h i. record { bytes = sym h.bytes_again i; ends = sym h.ends_again i } };
+}
+
+impl Run {
+    /// The run of one atom. Takes no memory.
+    pub fn one(atom: Atom) -> Run
+        ensures { result ≡ atom ∷ [] }
+    {
+        let piece = atom.bytes();
+        let mut bytes = [0; MAX_RUN_LEN];
+        bytes[..piece.len()].copy_from_slice(piece);
+        Run {
+            bytes,
+            ends: 1 << (piece.len() - 1),
+        }
+    }
+
+    /// The run of these atoms. Takes no memory.
+    pub fn new(atoms: &[Atom]) -> Result<Run, RunFault>
+        requires { length atoms.now < 2 ^ 32 }
+        ensures ok { OkIff result (IsRun atoms.now) atoms.now }
+        ensures fault { IfErr result (IsRunFault atoms.now) }
+    {
+        if atoms.is_empty() {
+            return Err(RunFault::Empty);
+        }
+        let len = bytes_together(atoms);
+        if len > MAX_RUN_LEN as u64 {
+            return Err(RunFault::Long { len });
+        }
+        let mut bytes = [0; MAX_RUN_LEN];
+        let mut ends = 0;
+        let mut end = 0;
+        for atom in atoms {
+            let piece = atom.bytes();
+            let start = end;
+            end += piece.len();
+            bytes[start..end].copy_from_slice(piece);
+            ends |= 1 << (end - 1);
+        }
+        Ok(Run { bytes, ends })
+    }
+
+    /// How many atoms the run has.
+    pub fn len(&self) -> u8
+        ensures len { result ≡ length self.now }
+        ensures run { IsRun self.now }
+    {
+        self.ends.count_ones() as u8
+    }
+
+    /// The atom at a place from 0.
+    pub fn atom(&self, i: u8) -> Option<Atom>
+        ensures { result ≡ slice_get self.now i }
+    {
+        if i >= self.len() {
+            return None;
+        }
+        let mut start = 0;
+        let mut ends = self.ends;
+        for _ in 0..i {
+            let len = ends.trailing_zeros() + 1;
+            start += len as usize;
+            ends >>= len;
+        }
+        let end = start + ends.trailing_zeros() as usize + 1;
+        Atom::new(&self.bytes[start..end]).ok()
+    }
+}
+
+// How many bytes the atoms have together.
+fn bytes_together(atoms: &[Atom]) -> u64
+    requires { length atoms.now < 2 ^ 32 }
+    ensures len { result ≡ length (concat atoms.now) }
+    ensures atoms { All IsAtom atoms.now }
+{
+    let mut len = 0;
+    for atom in atoms {
+        len += atom.bytes().len() as u64;
+    }
+    len
+}
