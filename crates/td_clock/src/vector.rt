@@ -1,0 +1,130 @@
+ghost use Rattle.std.specs.Prelude.{◌≡◌, ◌<◌, ◌≤◌, ◌-◌, length, replicate, sum};
+ghost use Rattle.td_clock.specs.Vector.{IsVector, vector_get, vector_set, vector_has, vector_covers, vector_join, vector_bump};
+
+use std::marker::Model;
+use td_base::{Dot, MAX_SEQ, MAX_SITE, Site};
+
+const PLACES: usize = MAX_SITE as usize;
+
+/// A version vector: a number from 0 to `MAX_SEQ` for each of 1 to `MAX_SITE` sites. Contracts see the list of the numbers.
+/// No call takes memory.
+#[derive(Clone, Copy, Debug, PartialEq, Eq)]
+pub struct Vector {
+    size: u8,
+    // the number of site s at place s - 1, and zeros past the size
+    numbers: [u16; PLACES],
+}
+
+impl Model for Vector {
+    ghost use Rattle.std.specs.Prelude.{ℕ, List, length, take};
+
+    ghost Value = { List ℕ };
+
+    ghost use Rattle.td_clock.specs.VectorParts.{IsVectorParts, numbers_of};
+    ghost use Rattle.std.proofs.Common.{sym};
+
+    ghost view = { λ v. take v.size v.numbers };
+
+    ghost invariant = { λ v. IsVectorParts v.size v.numbers };
+
+    ghost inverse = { λ v. record { size = length v; numbers = numbers_of v } };
+
+    ghost inverse_ok = { λ v h i. record { size = sym h.size_again i; numbers = sym h.numbers_again i } };
+}
+
+impl Vector {
+    /// The vector of n sites that knows no operation.
+    pub fn new(n: u8) -> Vector
+        requires some { 1 ≤ n }
+        requires short { n ≤ MAX_SITE }
+        ensures { result ≡ replicate n 0 }
+    {
+        Vector {
+            size: n,
+            numbers: [0; PLACES],
+        }
+    }
+
+    /// The number of sites.
+    pub fn size(&self) -> u8
+        ensures size { result ≡ length self.now }
+        ensures vector { IsVector self.now }
+    {
+        self.size
+    }
+
+    pub fn get(&self, site: Site) -> u32
+        requires { site ≤ length self.now }
+        ensures number { result ≡ vector_get self.now site }
+        ensures small { result ≤ MAX_SEQ }
+    {
+        u32::from(self.numbers[place_of(site)])
+    }
+
+    pub fn set(&mut self, site: Site, value: u32)
+        requires site { site ≤ length self.old }
+        requires small { value ≤ MAX_SEQ }
+        ensures { self.new ≡ vector_set self.old site value }
+    {
+        self.numbers[place_of(site)] = value as u16;
+    }
+
+    /// Whether the other vector is at most this one in every place.
+    pub fn covers(&self, other: &Vector) -> bool
+        requires { length self.now ≡ length other.now }
+        ensures { result ≡ vector_covers self.now other.now }
+    {
+        self.used()
+            .iter()
+            .zip(other.used())
+            .all(|(own, others)| others <= own)
+    }
+
+    /// Whether the operation is known: false for a site past the size.
+    pub fn has(&self, dot: Dot) -> bool
+        ensures { result ≡ vector_has self.now dot }
+    {
+        dot.seq <= u32::from(self.numbers[place_of(dot.site)])
+    }
+
+    /// Takes the greater number in each place.
+    pub fn join(&mut self, other: &Vector)
+        requires { length self.old ≡ length other.now }
+        ensures { self.new ≡ vector_join self.old other.now }
+    {
+        for i in 0..self.size as usize {
+            self.numbers[i] = self.numbers[i].max(other.numbers[i]);
+        }
+    }
+
+    /// Knows one more operation of the site.
+    pub fn bump(&mut self, site: Site)
+        requires site { site ≤ length self.old }
+        requires below { vector_get self.old site < MAX_SEQ }
+        ensures { self.new ≡ vector_bump self.old site }
+    {
+        self.numbers[place_of(site)] += 1;
+    }
+
+    /// How many operations are known.
+    pub fn sum(&self) -> u32
+        ensures { result ≡ sum self.now }
+    {
+        self.used().iter().map(|n| u32::from(*n)).sum()
+    }
+
+    // the numbers of the sites
+    fn used(&self) -> &[u16]
+        ensures numbers { result.now ≡ self.now }
+        ensures short { length result.now ≤ PLACES }
+    {
+        &self.numbers[..self.size as usize]
+    }
+}
+
+fn place_of(site: Site) -> usize
+    ensures place { result ≡ site - 1 }
+    ensures within { result < PLACES }
+{
+    site.number() as usize - 1
+}
