@@ -1,13 +1,15 @@
 ghost use Rattle.std.specs.Prelude.{◌≡◌, ◌<◌, ◌≤◌, ◌-◌, length, replicate, sum};
-ghost use Rattle.td_clock.specs.Vector.{IsVector, vector_get, vector_set, vector_has, vector_covers, vector_join, vector_bump};
+ghost use Rattle.td_clock.specs.Vector.{IsVector, vector_get, vector_set, vector_has};
+ghost use Rattle.td_clock.specs.Vector.{vector_covers, vector_join, vector_bump};
 
 use std::marker::Model;
 use td_base::{Dot, MAX_SEQ, MAX_SITE, Site};
 
 const PLACES: usize = MAX_SITE as usize;
 
-/// A version vector: a number from 0 to `MAX_SEQ` for each of 1 to `MAX_SITE` sites. Contracts see the list of the numbers.
-/// No call takes memory.
+/// A version vector: for each of 1 to `MAX_SITE` sites, how many of its operations are known, up to `MAX_SEQ`. Contracts
+/// see the list of these numbers. Sites are within the size (of `has` they need not be), and two vectors have one size. No
+/// call takes memory.
 #[derive(Clone, Copy, Debug, PartialEq, Eq)]
 pub struct Vector {
     size: u8,
@@ -33,7 +35,7 @@ impl Model for Vector {
 }
 
 impl Vector {
-    /// The vector of n sites that knows no operation.
+    /// The vector of n sites of which no operation is known.
     pub fn new(n: u8) -> Vector
         requires some { 1 ≤ n }
         requires short { n ≤ MAX_SITE }
@@ -53,6 +55,7 @@ impl Vector {
         self.size
     }
 
+    /// How many operations of the site are known.
     pub fn get(&self, site: Site) -> u32
         requires { site ≤ length self.now }
         ensures number { result ≡ vector_get self.now site }
