@@ -1,0 +1,11 @@
+use Rattle.std.proofs.Common.{◌≡◌, ◌≤◌, ◌+◌, ◌-◌, ◌++◌, ℕ, List, length}
+use Rattle.std.specs.Io.KnownBytes.{Consumes}
+use Rattle.td_io.proofs.read_whole.read_all.Given as goal
+
+-- the bytes so far were taken, at most one too many
+abbrev pub invariant-loop-buf : goal.invariant-loop-buf
+invariant-loop-buf g l =
+    (length l.bytes ≤ l.most + 1) × Consumes (g.S.Source.left l.fn.source) (g.S.Source.left l.source) l.bytes × (g.S.Source.faults l.fn.source ≤ g.S.Source.faults l.source)
+
+abbrev pub decreases-loop-buf : goal.decreases-loop-buf
+decreases-loop-buf g l = l.most + 1 - length l.bytes
