@@ -25,3 +25,8 @@ new_source left most fails = record { left = left; most = most; fails = fails; c
 abbrev pub new_sink : ℕ → ℕ → List ℕ → SinkValue
 new_sink space most fails =
     record { held = []; space = space; most = most; fails = fails; calls = 0; faults = 0 }
+
+-- a reader or a writer, and how many calls failed
+pub record EdgeValue (Inner : Type 0) : Type 0 where
+  pub inner : Inner
+  pub faults : ℕ

@@ -2,8 +2,8 @@
 //!
 //! A `Source` gives bytes and a `Sink` takes them, piece by piece, and each counts its faults: a call answers `Failed` only
 //! where the count rose. `read_all` and `put_all` move a whole stream. `MemSource` and `MemSink` are exact, and fail at the
-//! calls that they are told; `ReadSource` and `WriteSink` stand before a reader and a writer of std, and tell nothing of
-//! what goes through them. Begin at `source`, and at `specs/Count.antt` for what "rose" means.
+//! calls that they are told. `ReadSource` and `WriteSink` stand before a reader and a writer of std, and tell a generic
+//! caller nothing of the bytes. Begin at `source` and `sink`, and at `specs/Count.antt` for what "rose" means.
 #![tactic(auto)]
 
 mod fault;
@@ -25,7 +25,6 @@ pub use read_whole::read_all;
 pub use sink::Sink;
 pub use source::Source;
 pub use write_sink::WriteSink;
-
 
 #[cfg(test)]
 mod tests;

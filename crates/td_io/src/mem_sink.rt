@@ -8,6 +8,7 @@ use std::alloc::Global;
 use std::marker::Model;
 
 /// A sink in memory, with room for so many bytes. It fails exactly at the calls that it is told, and where it is full.
+/// Contracts see the bytes that it took, and its calls.
 #[derive(Debug, Drop)]
 pub struct MemSink {
     // has room for `space` bytes from the beginning
@@ -26,12 +27,13 @@ impl Model for MemSink {
     ghost Value = { SinkValue };
 
     ghost view = { λ s. record {
-        held = s.held.items;
-        space = s.space;
-        most = s.most;
-        fails = s.fails.items;
-        calls = s.calls;
-        faults = s.faults } };
+      held = s.held.items;
+      space = s.space;
+      most = s.most;
+      fails = s.fails.items;
+      calls = s.calls;
+      faults = s.faults;
+    } };
 
     ghost invariant = { λ s. (length s.held.items ≤ s.space) × (s.space ≤ vec_capacity s.held) × (0 < s.most) };
 }
@@ -45,14 +47,24 @@ impl MemSink {
     }
 
     /// Takes at most `most` bytes in a call.
-    pub fn pieces(alloc: Global, space: u32, most: u32, fails: &[u64]) -> Result<MemSink, MemSinkFault>
+    pub fn pieces(
+        alloc: Global,
+        space: u32,
+        most: u32,
+        fails: &[u64],
+    ) -> Result<MemSink, MemSinkFault>
         requires { 0 < most }
         ensures { IfOk result (λ s. s ≡ new_sink space most fails.now) }
     {
         MemSink::with_pieces(alloc, space, most as usize, fails)
     }
 
-    fn with_pieces(alloc: Global, space: u32, most: usize, fails: &[u64]) -> Result<MemSink, MemSinkFault>
+    fn with_pieces(
+        alloc: Global,
+        space: u32,
+        most: usize,
+        fails: &[u64],
+    ) -> Result<MemSink, MemSinkFault>
         requires { 0 < most }
         ensures { IfOk result (λ s. s ≡ new_sink space most fails.now) }
     {
@@ -84,15 +96,19 @@ impl Sink for MemSink {
     /// Takes no memory.
     fn put(&mut self, bytes: &[u8]) -> Result<usize, Failed>
         requires { 0 < length bytes.now }
-        ensures fails { IsErr result
+        ensures cause { IsErr result
             ↔ (Contains self.old.fails (counted self.old.calls) ⊎ (length self.old.held ≡ self.old.space)) }
         ensures amount { IfOk result (λ k. k ≡ min (length bytes.now)
             (min self.old.most (self.old.space - length self.old.held))) }
         ensures some { IfOk result (λ k. 0 < k) }
         ensures ok { IfOk result (λ k. self.new ≡ record self.old {
-            held = self.old.held ++ take k bytes.now; calls = counted self.old.calls }) }
+          held = self.old.held ++ take k bytes.now;
+          calls = counted self.old.calls;
+        }) }
         ensures err { OnErr result (self.new ≡ record self.old {
-            calls = counted self.old.calls; faults = counted self.old.faults }) }
+          calls = counted self.old.calls;
+          faults = counted self.old.faults;
+        }) }
         ensures count { self.old.faults ≤ self.new.faults }
     {
         self.calls = self.calls.saturating_add(1);

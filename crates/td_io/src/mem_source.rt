@@ -8,7 +8,7 @@ use std::alloc::Global;
 use std::marker::Model;
 use td_base::Memory;
 
-/// A source in memory. It fails exactly at the calls that it is told.
+/// A source in memory. It fails exactly at the calls that it is told. Contracts see its bytes to come, and its calls.
 #[derive(Debug, Drop)]
 pub struct MemSource {
     bytes: Vec<u8>,
@@ -27,11 +27,12 @@ impl Model for MemSource {
     ghost Value = { SourceValue };
 
     ghost view = { λ s. record {
-        left = drop s.at s.bytes.items;
-        most = s.most;
-        fails = s.fails.items;
-        calls = s.calls;
-        faults = s.faults } };
+      left = drop s.at s.bytes.items;
+      most = s.most;
+      fails = s.fails.items;
+      calls = s.calls;
+      faults = s.faults;
+    } };
 
     ghost invariant = { λ s. (s.at ≤ length s.bytes.items) × (0 < s.most) };
 }
@@ -45,14 +46,24 @@ impl MemSource {
     }
 
     /// Gives these bytes, at most `most` in a call.
-    pub fn pieces(alloc: Global, bytes: &[u8], most: u32, fails: &[u64]) -> Result<MemSource, Memory>
+    pub fn pieces(
+        alloc: Global,
+        bytes: &[u8],
+        most: u32,
+        fails: &[u64],
+    ) -> Result<MemSource, Memory>
         requires { 0 < most }
         ensures { IfOk result (λ s. s ≡ new_source bytes.now most fails.now) }
     {
         MemSource::with_pieces(alloc, bytes, most as usize, fails)
     }
 
-    fn with_pieces(alloc: Global, bytes: &[u8], most: usize, fails: &[u64]) -> Result<MemSource, Memory>
+    fn with_pieces(
+        alloc: Global,
+        bytes: &[u8],
+        most: usize,
+        fails: &[u64],
+    ) -> Result<MemSource, Memory>
         requires { 0 < most }
         ensures { IfOk result (λ s. s ≡ new_source bytes.now most fails.now) }
     {
@@ -74,14 +85,18 @@ impl Source for MemSource {
 
     fn take(&mut self, buf: &mut [u8]) -> Result<usize, Failed>
         requires { 0 < length buf.old }
-        ensures listed { IsErr result ↔ Contains self.old.fails (counted self.old.calls) }
+        ensures cause { IsErr result ↔ Contains self.old.fails (counted self.old.calls) }
         ensures amount { IfOk result (λ k. k ≡ min (length buf.old) (min self.old.most (length self.old.left))) }
         ensures end { result ≡ Ok 0 → self.old.left ≡ [] }
         ensures gives { IfOk result (λ k. buf.new ≡ take k self.old.left ++ drop k buf.old) }
         ensures ok { IfOk result (λ k. self.new ≡ record self.old {
-            left = drop k self.old.left; calls = counted self.old.calls }) }
+          left = drop k self.old.left;
+          calls = counted self.old.calls;
+        }) }
         ensures err { OnErr result (self.new ≡ record self.old {
-            calls = counted self.old.calls; faults = counted self.old.faults }) }
+          calls = counted self.old.calls;
+          faults = counted self.old.faults;
+        }) }
         ensures count { self.old.faults ≤ self.new.faults }
     {
         self.calls = self.calls.saturating_add(1);

@@ -27,6 +27,7 @@ pub fn read_all<S: Source>(alloc: Global, source: &mut S, most: u32) -> Result<B
     let most = most as usize;
     let mut bytes = Bytes::new(alloc);
     let mut buf = [0; PIECE];
+    // each turn takes at least one byte
     while bytes.as_slice().len() <= most {
         let room = PIECE.min(most + 1 - bytes.as_slice().len());
         let piece = &mut buf[..room];

@@ -1,12 +1,14 @@
-ghost use Rattle.std.specs.Prelude.{◌≡◌, None};
+ghost use Rattle.std.specs.Prelude.{◌≡◌, ◌<◌, ◌≤◌, None, length, IfOk, OnOk, OnErr};
+ghost use Rattle.std.specs.Io.KnownBytes.{WriteAppends};
+ghost use Rattle.td_io.specs.Count.{counted};
 
 use crate::fault::Failed;
 use crate::sink::Sink;
 use std::io::Write;
 use std::marker::Model;
 
-/// A sink that writes to a writer. Contracts see its count of faults, which each error of the writer raises, and each write
-/// that takes nothing, and nothing of the bytes.
+/// A sink that writes to a writer, and counts each of its errors, and each write that takes nothing. It tells a
+/// generic caller nothing of the bytes that it took.
 #[derive(Drop)]
 pub struct WriteSink<W: Write> {
     writer: W,
@@ -14,16 +16,16 @@ pub struct WriteSink<W: Write> {
 }
 
 impl<W: Write> Model for WriteSink<W> {
-    ghost use Rattle.std.specs.Prelude.{ℕ};
+    ghost use Rattle.td_io.specs.Value.{EdgeValue};
 
-    ghost Value = { ℕ };
+    ghost Value = { EdgeValue W };
 
-    ghost view = { λ s. s.faults };
+    ghost view = { λ s. record { inner = s.writer; faults = s.faults } };
 }
 
 impl<W: Write> WriteSink<W> {
     pub fn new(writer: W) -> WriteSink<W>
-        ensures { result ≡ 0 }
+        ensures { result ≡ record { inner = writer; faults = 0 } }
     {
         WriteSink { writer, faults: 0 }
     }
@@ -32,9 +34,18 @@ impl<W: Write> WriteSink<W> {
 impl<W: Write> Sink for WriteSink<W> {
     ghost held = { λ _. None };
 
-    ghost faults = { λ count. count };
+    ghost faults = { λ s. s.faults };
 
-    fn put(&mut self, bytes: &[u8]) -> Result<usize, Failed> {
+    /// One write.
+    fn put(&mut self, bytes: &[u8]) -> Result<usize, Failed>
+        requires { 0 < length bytes.now }
+        ensures some { IfOk result (λ k. 0 < k) }
+        ensures within { IfOk result (λ k. k ≤ length bytes.now) }
+        ensures write { WriteAppends (W.contents self.old.inner) (W.contents self.new.inner) result bytes.now }
+        ensures ok { OnOk result (self.new.faults ≡ self.old.faults) }
+        ensures err { OnErr result (self.new.faults ≡ counted self.old.faults) }
+        ensures count { self.old.faults ≤ self.new.faults }
+    {
         match self.writer.write(bytes) {
             Ok(count) if count > 0 => Ok(count),
             _ => {
