@@ -1,0 +1,13 @@
+//! The program's run: from the bytes of an input to the bytes that it prints.
+//!
+//! Begin at `first_form`, the language of the input, and at `specs/FirstForm.antt`, its grammar.
+#![tactic(auto)]
+
+mod first_form;
+
+pub use first_form::{
+    Command, MAX_INPUT, read_first_form, spellings_are_unique, texts_fit_the_input,
+};
+
+#[cfg(test)]
+mod tests;
