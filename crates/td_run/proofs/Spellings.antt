@@ -26,6 +26,11 @@ same_first c d rest rest' h h' e =
     same_cut 10 (words_of c) (words_of d) rest rest' (words_lack c h) (words_lack d h') (sym (line_then c rest) ∙ e ∙ line_then d rest') in
     (same_command c d h h' cut.front, cut.back)
 
+-- some lines are read, as these commands; the rest is left
+pub record IsReadTo (done : List Command) (lines rest : List ℕ) : Type 0 where
+  pub each : All IsCommand done
+  pub spelled : lines ≡ flat_map line_of done ++ rest
+
 -- what is left of all commands, once some lines are read
 pub record IsLeft (done all : List Command) (rest : List ℕ) (more : List Command) : Type 0 where
   pub whole : all ≡ done ++ more
@@ -35,7 +40,7 @@ pub record IsLeft (done all : List Command) (rest : List ℕ) (more : List Comma
 left_more : (c d : Command) (done all : List Command) (rest : List ℕ) (more : List Command) → c ≡ d → IsLeft done all rest more → IsLeft (c ∷ done) (d ∷ all) rest more
 left_more c d done all rest more e h = record { whole = let w : all ≡ done ++ more = h.whole in cc; each = h.each; spelled = h.spelled }
 
-pub left : (done all : List Command) (rest : List ℕ) → All IsCommand done → All IsCommand all → flat_map line_of done ++ rest ≡ flat_map line_of all → (more : List Command) × IsLeft done all rest more
+left : (done all : List Command) (rest : List ℕ) → All IsCommand done → All IsCommand all → flat_map line_of done ++ rest ≡ flat_map line_of all → (more : List Command) × IsLeft done all rest more
 left [] all rest h h' e = (all, record { whole = refl; each = h'; spelled = e })
 left (c ∷ done) [] rest h h' e = absurd (line_is_some c (flat_map line_of done ++ rest) (sym (append_assoc (line_of c) (flat_map line_of done) rest) ∙ e))
 left (c ∷ done) (d ∷ all) rest h h' e =
@@ -43,6 +48,9 @@ left (c ∷ done) (d ∷ all) rest h h' e =
     same_first c d (flat_map line_of done ++ rest) (flat_map line_of all) (All-head IsCommand c done h) (All-head IsCommand d all h') (sym (append_assoc (line_of c) (flat_map line_of done) rest) ∙ e) in
     let others : (more : List Command) × IsLeft done all rest more = left done all rest (All-tail IsCommand c done h) (All-tail IsCommand d all h') first.1 in
     (others.0, left_more c d done all rest others.0 first.0 others.1)
+
+pub what_is_left : (done all : List Command) (lines rest : List ℕ) → IsReadTo done lines rest → All IsCommand all → lines ≡ flat_map line_of all → (more : List Command) × IsLeft done all rest more
+what_is_left done all lines rest h each spelled = left done all rest h.each each (sym h.spelled ∙ spelled)
 
 none_left : (more : List Command) → [] ≡ flat_map line_of more → more ≡ []
 none_left [] e = refl
@@ -68,10 +76,6 @@ refused_end [] rest lacks some e = some (eq-eqb (length rest) 0 (ap length e))
 refused_end (c ∷ more) rest lacks some e = no_cut 10 (words_of c) (flat_map line_of more) rest lacks (e ∙ line_then c (flat_map line_of more))
 
 -- one more line is read
-pub record IsReadTo (done : List Command) (lines rest : List ℕ) : Type 0 where
-  pub each : All IsCommand done
-  pub spelled : lines ≡ flat_map line_of done ++ rest
-
 pub reads_more : (done : List Command) (command : Command) (lines line after rest : List ℕ) → IsReadTo done lines rest → rest ≡ line ++ 10 ∷ after → IsCommand command → line ++ codes "\n" ≡ line_of command → IsReadTo (done ++ command ∷ []) lines after
 reads_more done command lines line after rest h cut is spelled =
     let first : line ++ 10 ∷ after ≡ line_of command ++ after = sym (append_assoc line (codes "\n") after) ∙ ap (λ (xs : List ℕ). xs ++ after) spelled in
