@@ -22,7 +22,8 @@ pub enum Command {
     Insert { index: u32, text: Bytes },
 }
 
-/// Reads an input of the first form. An input of any other form is `None`.
+/// Reads an input of the first form: nothing, or the line `sites 1` and then lines `show 1` and `ins 1 INDEX "TEXT"`, each
+/// ended by LF. An input of any other form is `None`.
 pub fn read_first_form(alloc: Global, input: &[u8]) -> Result<Option<Vec<Command>>, Memory>
     ensures some { IfOk result (λ read. IfSome read (λ commands. Spells input.now commands.items)) }
     ensures none { IfOk result (λ read. IfNone read ((commands : List Command) → ¬ Spells input.now commands)) }
@@ -89,7 +90,7 @@ fn read_insert(line: &[u8]) -> Option<(u32, &[u8])>
     is_text(text).then_some((index, text))
 }
 
-// The number that the digits are written for.
+// The number that is written in these digits.
 fn number(digits: &[u8]) -> Option<u32>
     ensures some { IfSome result (λ n. (n < 10 ^ 9) × (digits.now ≡ decimal n)) }
     ensures none { IfNone result ((n : ℕ) → n < 10 ^ 9 → digits.now ≢ decimal n) }
