@@ -4,3 +4,4 @@ pub mod Successive
 pub mod Placement
 pub mod Rules
 pub mod Typing
+pub mod Shown

@@ -1,6 +1,6 @@
 -- What is typed at an index stands at that index.
-use Rattle.std.proofs.Common.{◌≡◌, ◌<◌, ◌≤◌, ◌-◌, ℕ, zero, suc, List, [], ◌∷◌, ◌++◌, Bool, true, false, cond, map, length, nat_eq, Option, Some, None, refl, sym, ap, ◌∙◌, subst, arith, append_assoc, length-append}
-use Rattle.std.specs.Prelude.{insert, slice_get}
+use Rattle.std.proofs.Common.{◌≡◌, ◌<◌, ◌≤◌, ◌-◌, ℕ, zero, suc, List, [], ◌∷◌, ◌++◌, Bool, true, false, cond, map, length, nat_eq, Option, Some, None, refl, sym, ap, ◌∙◌, subst, inl, arith, append_assoc, length-append}
+use Rattle.std.specs.Prelude.{insert, slice_get, MatchOption}
 use Rattle.std.specs.Option.{option_map}
 use Rattle.std.proofs.Math.Seq.{get_or-append_seam}
 use Rattle.std.proofs.lemmas.Bool.Decides.{nat_tests}
@@ -8,9 +8,12 @@ use Rattle.std.proofs.lemmas.Option.{slice_get-get_or}
 use Rattle.std.proofs.lemmas.List.{map-append, take_at, drop_at}
 use Rattle.std.proofs.lemmas.List.Elements.{filter-append}
 use Rattle.td_base.specs.Value.{AtomIdValue}
-use Rattle.td_doc.specs.Document.{DocRow, row_id, is_live, is_empty_list, live_rows, live_atoms, live_id_at, IsDocument}
+use Rattle.td_doc.specs.Document.{DocRow, row_id, is_live, is_empty_list, live_rows, live_atoms, live_id_at, In, IsDocument}
 use Rattle.td_doc.specs.Allocation.{alloc, anchor}
 use Rattle.td_doc.specs.Insertion.{insert_atom, IsNew, ComesBetween}
+use Rattle.td_doc.specs.Answers.{IsRow}
+use Rattle.td_doc.proofs.Successive.{In-back}
+use Rattle.td_doc.proofs.Rules.{in_found}
 use Rattle.td_doc.proofs.Placement.{placed_after, placed_first}
 
 live_atoms-append : (xs ys : List DocRow) → live_atoms (xs ++ ys) ≡ live_atoms xs ++ live_atoms ys
@@ -32,13 +35,13 @@ insert_at : (xs ys : List (List ℕ)) (i : ℕ) (a : List ℕ) → length xs ≡
 insert_at xs ys i a h = λ k. sym (take_at xs ys i h) k ++ a ∷ sym (drop_at xs ys i h) k
 
 -- the live row at an index, with the rows before it and after it
-record LiveAt (rows : List DocRow) (i : ℕ) : Type 0 where
-  front : List DocRow
-  row : DocRow
-  back : List DocRow
-  is : rows ≡ front ++ row ∷ back
-  live : is_live row ≡ true
-  before : length (live_rows front) ≡ i
+pub record LiveAt (rows : List DocRow) (i : ℕ) : Type 0 where
+  pub front : List DocRow
+  pub row : DocRow
+  pub back : List DocRow
+  pub is : rows ≡ front ++ row ∷ back
+  pub live : is_live row ≡ true
+  pub before : length (live_rows front) ≡ i
 
 live_split_at : (r : DocRow) (rows : List DocRow) (i : ℕ) (b : Bool) → is_live r ≡ b → i < length (cond b (r ∷ live_rows rows) (live_rows rows)) → ((j : ℕ) → j < length (live_rows rows) → LiveAt rows j) → LiveAt (r ∷ rows) i
 live_split_at r rows zero true e h ih = record { front = []; row = r; back = rows; is = refl; live = e; before = refl }
@@ -63,7 +66,7 @@ live_split_at r rows i false e h ih =
       before = ap (λ b. length (cond b (r ∷ live_rows s.front) (live_rows s.front))) e ∙ s.before;
     }
 
-live_split : (rows : List DocRow) (i : ℕ) → i < length (live_rows rows) → LiveAt rows i
+pub live_split : (rows : List DocRow) (i : ℕ) → i < length (live_rows rows) → LiveAt rows i
 live_split [] i h = absurd (omega arith)
 live_split (r ∷ rows) i h = live_split_at r rows i (is_live r) refl h (λ j k. live_split rows j k)
 
@@ -72,11 +75,15 @@ get_at xs x ys i h =
     subst (λ k. slice_get (xs ++ x ∷ ys) k ≡ Some x) h
     (slice_get-get_or (xs ++ x ∷ ys) (length xs) x (omega (arith, length-append xs (x ∷ ys))) ∙ ap (λ (y : DocRow). Some y) (get_or-append_seam xs x ys x))
 
-live_id : (rows : List DocRow) (i : ℕ) (s : LiveAt rows i) → live_id_at rows i ≡ Some (row_id s.row)
-live_id rows i s =
+-- it is the one that the definition gives
+pub live_row : (rows : List DocRow) (i : ℕ) (s : LiveAt rows i) → slice_get (live_rows rows) i ≡ Some s.row
+live_row rows i s =
     let split : live_rows rows ≡ live_rows s.front ++ s.row ∷ live_rows s.back =
     ap live_rows s.is ∙ filter-append is_live s.front (s.row ∷ s.back) ∙ ap (λ b. live_rows s.front ++ cond b (s.row ∷ live_rows s.back) (live_rows s.back)) s.live in
-    ap (λ (q : List DocRow). option_map row_id (slice_get q i)) split ∙ ap (option_map row_id) (get_at (live_rows s.front) s.row (live_rows s.back) i s.before)
+    ap (λ (q : List DocRow). slice_get q i) split ∙ get_at (live_rows s.front) s.row (live_rows s.back) i s.before
+
+live_id : (rows : List DocRow) (i : ℕ) (s : LiveAt rows i) → live_id_at rows i ≡ Some (row_id s.row)
+live_id rows i s = ap (option_map row_id) (live_row rows i s)
 
 length-map : (rows : List DocRow) → length (map (λ (r : DocRow). r.atom) rows) ≡ length rows
 length-map [] = refl
@@ -114,3 +121,14 @@ typed rows zero id atom d h = typed_between id atom [] rows _ (placed_first rows
 typed rows (suc i) id atom d h =
     let s = live_split rows i (omega arith) in
     ap (λ (after : Option AtomIdValue). live_atoms (insert_atom (alloc rows after) id atom rows)) (anchor_further rows i ∙ live_id rows i s) ∙ typed_after rows i id atom d s
+
+-- what is before an index is a row, or the start
+pub anchor_row : (rows : List DocRow) (index : ℕ) → index ≤ length (live_rows rows) → MatchOption (anchor rows index) (Unit {0}) (IsRow rows)
+anchor_row rows zero h = tt
+anchor_row rows (suc i) h =
+    let s = live_split rows i (omega arith) in
+    subst (λ (after : Option AtomIdValue). MatchOption after (Unit {0}) (IsRow rows)) (sym (anchor_further rows i ∙ live_id rows i s))
+    (in_found s.row rows (subst (In s.row) (sym s.is) (In-back s.row s.front (s.row ∷ s.back) (inl refl))))
+
+pub count_of_atoms : (rows : List DocRow) → length (live_atoms rows) ≡ length (live_rows rows)
+count_of_atoms rows = length-map (live_rows rows)

@@ -11,6 +11,7 @@ mod laws;
 mod path_row;
 mod rows;
 mod search;
+mod text;
 
 pub use alloc::alloc_slot;
 pub use doc::{Doc, DocFault, Row};
@@ -18,3 +19,7 @@ pub use laws::{
     insertion_keeps_the_rules, what_is_placed_stands_there, what_is_typed_stands_at_its_index,
 };
 pub use rows::Rows;
+pub use text::{atom_at, push_text};
+
+#[cfg(test)]
+mod tests;

@@ -4,3 +4,4 @@ pub mod Splitting
 pub mod Lines
 pub mod Inserts
 pub mod Spellings
+pub mod Typing

@@ -1,1 +1,5 @@
 pub mod FirstForm
+pub mod Editor
+pub mod Site
+pub mod Number
+pub mod Answer

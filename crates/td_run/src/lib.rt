@@ -4,10 +4,13 @@
 #![tactic(auto)]
 
 mod first_form;
+mod one_site;
+mod status;
 
 pub use first_form::{
     Command, MAX_INPUT, read_first_form, spellings_are_unique, texts_fit_the_input,
 };
+pub use status::Status;
 
 #[cfg(test)]
 mod tests;

@@ -1,0 +1,99 @@
+use super::*;
+use std::process::Abort;
+use std::test::Fail;
+use td_base::{Atom, AtomId, Bit, Dot, Site};
+use td_path::Slot;
+
+fn id(site: u8, seq: u32) -> Result<AtomId, Fail> {
+    let site = Site::new(site).ok_or("a site")?;
+    Ok(AtomId::of(Dot::new(site, seq).ok_or("a dot")?))
+}
+
+fn at(atom: AtomId, bit: Bit) -> Slot {
+    Slot::At { atom, bit }
+}
+
+fn letter(text: &str) -> Result<Atom, Fail> {
+    Ok(Atom::new(text.as_bytes()).ok().ok_or("an atom")?)
+}
+
+// Puts a letter in a slot.
+fn put(rt: &impl Abort, doc: &mut Rows, slot: Slot, id: AtomId, text: &str) -> Result<(), Fail> {
+    assert!(rt; doc.find(id).is_none());
+    assert_eq!(rt; doc.insert(slot, id, letter(text)?), Ok(()));
+    Ok(())
+}
+
+#[test]
+fn an_atom_of_no_row_is_gone(rt: HostRuntime) -> Result<(), Fail> {
+    let mut doc = Rows::empty(rt.alloc())?;
+    put(&rt, &mut doc, Slot::Root, id(1, 1)?, "a")?;
+    let new = id(1, 2)?;
+    let gone = id(2, 7)?;
+    assert!(rt; doc.find(new).is_none());
+    assert_eq!(rt;
+        doc.insert(at(gone, Bit::Right), new, letter("b")?),
+        Err(DocFault::Gone { id: gone })
+    );
+    assert_eq!(rt; doc.rows(), 1);
+    Ok(())
+}
+
+// "ac" by site 1, and then X by site 1 and Y by site 2 in the gap: two mini nodes in one slot.
+#[test]
+fn concurrent_atoms_of_one_slot_stand_by_their_sites(rt: HostRuntime) -> Result<(), Fail> {
+    let mut doc = Rows::empty(rt.alloc())?;
+    let gap = at(id(1, 2)?, Bit::Left);
+    for (slot, atom_id, text) in [
+        (Slot::Root, id(1, 1)?, "a"),
+        (at(id(1, 1)?, Bit::Right), id(1, 2)?, "c"),
+        (gap, id(2, 1)?, "Y"),
+        (gap, id(1, 3)?, "X"),
+    ] {
+        put(&rt, &mut doc, slot, atom_id, text)?;
+    }
+    assert_eq!(rt; doc.live(), 4);
+    let mut next = doc.after(None);
+    for (index, atom_id, slot, text) in [
+        (0, id(1, 1)?, Slot::Root, "a"),
+        (1, id(1, 3)?, gap, "X"),
+        (2, id(2, 1)?, gap, "Y"),
+        (3, id(1, 2)?, at(id(1, 1)?, Bit::Right), "c"),
+    ] {
+        assert_eq!(rt; next, Some(atom_id), "at {index}");
+        assert_eq!(rt; doc.live_at(index), Some(atom_id), "at {index}");
+        let row = Row {
+            id: atom_id,
+            slot,
+            atom: letter(text)?,
+            deletes: 0,
+            index,
+        };
+        assert_eq!(rt; doc.find(atom_id), Some(row), "at {index}");
+        next = doc.after(Some(atom_id));
+    }
+    assert_eq!(rt; next, None);
+    Ok(())
+}
+
+#[test]
+fn the_slot_of_what_is_placed_follows_the_table(rt: HostRuntime) -> Result<(), Fail> {
+    let mut doc = Rows::empty(rt.alloc())?;
+    assert_eq!(rt; alloc_slot(&doc, None), Slot::Root);
+    assert!(rt; doc.slot_empty(Slot::Root));
+    let first = id(1, 1)?;
+    let second = id(1, 2)?;
+    put(&rt, &mut doc, Slot::Root, first, "a")?;
+    assert_eq!(rt; alloc_slot(&doc, None), at(first, Bit::Left));
+    assert!(rt; doc.find(first).is_some());
+    assert_eq!(rt; alloc_slot(&doc, Some(first)), at(first, Bit::Right));
+    assert!(rt; doc.find(second).is_none());
+    assert_eq!(rt;
+        doc.insert(at(first, Bit::Right), second, letter("b")?),
+        Ok(())
+    );
+    assert!(rt; !doc.slot_empty(at(first, Bit::Right)));
+    assert!(rt; doc.find(first).is_some());
+    assert_eq!(rt; alloc_slot(&doc, Some(first)), at(second, Bit::Left));
+    Ok(())
+}
