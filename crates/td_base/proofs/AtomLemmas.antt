@@ -1,5 +1,5 @@
 -- How an `Atom` keeps its bytes.
-use Rattle.std.proofs.Common.{◌≡◌, ◌<◌, ◌≤◌, ◌+◌, ◌-◌, ◌++◌, ℕ, List, length, take, drop, replicate, refl, sym, ap, ◌∙◌, arith, length-append}
+use Rattle.std.proofs.Common.{◌≡◌, ◌<◌, ◌≤◌, ◌-◌, ◌++◌, ℕ, List, length, take, drop, replicate, refl, sym, ap, ◌∙◌, arith, length-append}
 use Rattle.std.proofs.lemmas.List.{length-replicate, drop-replicate, take_at}
 use Rattle.std.specs.Str.{IsUtf8}
 use Rattle.td_base.specs.AtomParts.{IsAtomParts, padded_with_zeros}

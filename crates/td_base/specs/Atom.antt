@@ -1,5 +1,5 @@
 -- Atoms as lists of bytes.
-use Rattle.std.specs.Prelude.{◌≡◌, ◌<◌, ◌≤◌, ◌-◌, ◌++◌, ℕ, List, [], length, replicate, take}
+use Rattle.std.specs.Prelude.{◌≡◌, ◌<◌, ◌≤◌, ℕ, List, [], length}
 use Rattle.std.specs.Str.{IsUtf8, IsValidUpTo}
 use Rattle.td_base.specs.declared.atom.TheConstants.{MAX_ATOM_LEN}
 use Rattle.td_base.specs.declared.atom.AtomFault.{AtomFault}

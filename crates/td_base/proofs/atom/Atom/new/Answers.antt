@@ -1,4 +1,4 @@
-use Rattle.std.proofs.Common.{refl, arith, rules}
+use Rattle.std.proofs.Common.{refl, rules}
 use Rattle.td_base.proofs.AtomLemmas.{parts_of}
 use Rattle.td_base.proofs.atom.Atom.new.Goals as goal
 
