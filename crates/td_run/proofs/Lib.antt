@@ -5,3 +5,6 @@ pub mod Lines
 pub mod Inserts
 pub mod Spellings
 pub mod Typing
+pub mod Sites
+pub mod Words
+pub mod Whole

@@ -1,18 +1,15 @@
 -- The site prints what the plain list of atoms prints.
-use Rattle.std.proofs.Common.{◌≡◌, ◌≢◌, ◌⊎◌, ◌<◌, ◌≤◌, ◌+◌, ℕ, suc, List, [], ◌∷◌, ◌++◌, Bool, true, false, cond, nat_lt, length, map, Option, Some, None, refl, sym, ap, ◌∙◌, subst, inl, inr, ⊎_elim, true≢false, arith, ltb-false}
-use Rattle.std.specs.Prelude.{insert, IsNone, MatchOption}
+use Rattle.std.proofs.Common.{◌≡◌, ◌≤◌, ◌+◌, ℕ, List, [], ◌∷◌, ◌++◌, Bool, true, false, cond, nat_lt, length, Some, refl, sym, ap, ◌∙◌, ⊎_elim, true≢false, arith, ltb-false}
+use Rattle.std.specs.Prelude.{insert, IsNone}
 use Rattle.std.specs.List.{concat}
-use Rattle.std.proofs.lemmas.Bool.Decides.{nat_tests}
 use Rattle.td_base.specs.Value.{AtomIdValue}
-use Rattle.td_doc.specs.Document.{DocRow, row_id, find_row, live_rows, live_atoms, live_id_at, In, IsDocument}
+use Rattle.td_doc.specs.Document.{DocRow, row_id, find_row, live_rows, live_atoms, In}
 use Rattle.td_doc.specs.Allocation.{alloc, anchor}
-use Rattle.td_doc.specs.Insertion.{insert_atom}
-use Rattle.td_doc.specs.Answers.{IsRow, IsRooted}
 use Rattle.td_doc.proofs.Typing.{typed, count_of_atoms, anchor_row}
 use Rattle.td_doc.proofs.Rules.{insert_keeps, insert_adds, alloc_rooted, unfound}
 use Rattle.td_run.specs.declared.first_form.Command.{Command}
 use Rattle.td_run.specs.declared.first_form.Command.TheVariants.{Show, Insert}
-use Rattle.td_run.specs.Editor.{Editor, plain_list, Outcome, after_one, insert_text, insert_line, show_line, output}
+use Rattle.td_run.specs.Editor.{plain_list, Outcome, after_one, insert_text, insert_line, show_line, output}
 use Rattle.td_run.specs.Site.{SiteState, new_site, next_atom, typed_at, treedoc, IsSite}
 
 pub new_is_site : IsSite new_site

@@ -1,5 +1,5 @@
 -- What the program writes, and which status goes with it.
-use Rattle.std.specs.Prelude.{◌≡◌, ◌++◌, ℕ, List, [], ◌∷◌, Option, IfSome, codes, take}
+use Rattle.std.specs.Prelude.{◌≡◌, ℕ, List, [], ◌∷◌, Option, IfSome, codes, take}
 use Rattle.std.specs.Io.KnownBytes.{Appends}
 use Rattle.td_run.specs.declared.first_form.Command.{Command}
 use Rattle.td_run.specs.declared.status.Status.{Status}

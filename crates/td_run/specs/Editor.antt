@@ -32,13 +32,11 @@ insert_text e s index (byte ∷ text) =
     (record { state = s; made = 0; refused = Some (length (e.atoms s)) })
     (after_one (insert_text e (e.put s index (byte ∷ [])) (index + 1) text))
 
-abbrev pub refusal : Option ℕ → List ℕ
-refusal None = []
-refusal (Some len) = codes " position " ++ decimal len
-
--- how many of how many inserts were made, and why not all
+-- how many of how many inserts were made, and the number of atoms where one was refused
 abbrev pub insert_line : ℕ → ℕ → Option ℕ → List ℕ
-insert_line made count refused = codes "ins 1 " ++ decimal made ++ codes "/" ++ decimal count ++ refusal refused ++ codes "\n"
+insert_line made count None = codes "ins 1 " ++ (decimal made ++ (codes "/" ++ (decimal count ++ codes "\n")))
+insert_line made count (Some len) =
+    codes "ins 1 " ++ (decimal made ++ (codes "/" ++ (decimal count ++ (codes " position " ++ (decimal len ++ codes "\n")))))
 
 abbrev pub show_line : List ℕ → List ℕ
 show_line text = codes "show 1 \"" ++ text ++ codes "\"\n"

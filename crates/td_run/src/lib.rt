@@ -5,11 +5,15 @@
 
 mod first_form;
 mod one_site;
+mod play;
+mod program;
+mod reply;
 mod status;
 
 pub use first_form::{
     Command, MAX_INPUT, read_first_form, spellings_are_unique, texts_fit_the_input,
 };
+pub use program::{run, run_plain};
 pub use status::Status;
 
 #[cfg(test)]

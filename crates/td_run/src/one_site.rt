@@ -1,14 +1,14 @@
-ghost use Rattle.std.specs.Prelude.{◌≡◌, ◌<◌, ◌≤◌, ◌+◌, ◌++◌, ◌∷◌, ◌^◌, [], All, length, IfOk, OnOk, slice_get};
-ghost use Rattle.std.specs.List.{concat};
+ghost use Rattle.std.specs.Prelude.{◌≡◌, ◌<◌, ◌≤◌, ◌+◌, ◌++◌, ◌∷◌, ◌^◌, [], All, length, IfOk, OnOk};
 ghost use Rattle.td_base.specs.declared.dot.TheConstants.{MAX_SEQ};
-ghost use Rattle.td_doc.specs.Document.{live_atoms, live_rows};
+ghost use Rattle.td_doc.specs.Document.{live_atoms, live_rows, text_of};
+ghost use Rattle.td_doc.specs.Allocation.{anchor};
 ghost use Rattle.td_run.specs.Editor.{insert_text};
 ghost use Rattle.td_run.specs.Site.{new_site, next_atom, treedoc, typed_at};
 
 use std::alloc::Global;
 use std::marker::Model;
 use td_base::{Atom, AtomId, Bytes, Dot, Memory, Site};
-use td_doc::{Doc, DocFault, Rows, alloc_slot};
+use td_doc::{Doc, DocFault, Rows, alloc_slot, push_text};
 
 /// The one site of a script: its document, and how many operations it made. Contracts see the rows and the number.
 #[derive(Debug, Drop)]
@@ -92,10 +92,7 @@ impl OneSite {
     {
         let id = next_atom(self.made);
         let atom = atom_of(byte);
-        let after = match index {
-            0 => None,
-            _ => self.doc.live_at(index - 1),
-        };
+        let after = anchor(&self.doc, index);
         let slot = alloc_slot(&self.doc, after);
         match self.doc.insert(slot, id, atom) {
             Ok(()) => {
@@ -107,24 +104,22 @@ impl OneSite {
         }
     }
 
-    /// Adds the text at the end.
+    /// Adds the text at the end. After want of memory a part of it may stand there.
     pub fn push_text(&self, out: &mut Bytes) -> Result<(), Memory>
-        ensures { OnOk result (out.new ≡ out.old ++ concat (live_atoms self.now.rows)) }
+        ensures { OnOk result (out.new ≡ out.old ++ text_of self.now.rows) }
     {
-        for index in 0..self.len() {
-            if let Some(atom) = self.atom_at(index) {
-                out.push(atom.bytes())?;
-            }
-        }
-        Ok(())
+        push_text(&self.doc, out)
     }
+}
 
-    fn atom_at(&self, index: u32) -> Option<Atom>
-        ensures { result ≡ slice_get (live_atoms self.now.rows) index }
-    {
-        let id = self.doc.live_at(index)?;
-        self.doc.find(id).map(|row| row.atom)
+// The atom after which an atom at the index is placed, or none at the start.
+fn anchor(doc: &Rows, index: u32) -> Option<AtomId>
+    ensures { result ≡ anchor doc.now index }
+{
+    if index == 0 {
+        return None;
     }
+    doc.live_at(index - 1)
 }
 
 // The identity of the atom of the site's next insert.
