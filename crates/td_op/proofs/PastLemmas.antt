@@ -1,0 +1,30 @@
+-- The past of an operation.
+use Rattle.std.proofs.Common.{◌≡◌, ◌≢◌, ◌<◌, ◌≤◌, ◌+◌, ◌∙◌, ℕ, List, length, ap, sym, arith}
+use Rattle.std.proofs.lemmas.Bool.{leb-true, le-leb}
+use Rattle.std.specs.Prelude.{IsTrue}
+use Rattle.td_clock.specs.Vector.{vector_get, vector_covers}
+use Rattle.td_clock.proofs.VectorLemmas.{sum_grows, covered_dots}
+use Rattle.td_op.specs.Op.{OpValue, IsOp}
+use Rattle.td_op.specs.Past.{in_past, op_sum}
+
+pub not_in_own_past : (x : OpValue) → IsOp x → ¬ IsTrue (in_past x x)
+not_in_own_past x is past = omega (arith, leb-true x.dot.seq (vector_get x.deps x.dot.site) past, is.next)
+
+pub past_along : (x y z : OpValue) → IsTrue (in_past x y) → IsTrue (vector_covers z.deps y.deps) → IsTrue (in_past x z)
+past_along x y z past covers = covered_dots z.deps y.deps covers x.dot past
+
+pub ruleset strict = (not_in_own_past, past_along)
+
+pub earlier_in_past : (x y : OpValue) → IsOp y → x.dot.site ≡ y.dot.site → x.dot.seq < y.dot.seq → IsTrue (in_past x y)
+earlier_in_past x y is site earlier =
+    let known : vector_get y.deps x.dot.site ≡ vector_get y.deps y.dot.site = ap (vector_get y.deps) site in
+    le-leb x.dot.seq (vector_get y.deps x.dot.site) (omega (arith, known, is.next))
+
+pub ruleset one_site = (earlier_in_past)
+
+pub past_sum : (x y : OpValue) → IsOp x → length x.deps ≡ length y.deps → IsTrue (vector_covers y.deps x.deps) → IsTrue (in_past x y) → op_sum x < op_sum y
+past_sum x y is one_size covers past =
+    let more : x.dot.seq ≤ vector_get y.deps x.dot.site = leb-true x.dot.seq (vector_get y.deps x.dot.site) past in
+    sum_grows y.deps x.deps (sym one_size) covers (λ same.
+    let here : vector_get y.deps x.dot.site ≡ vector_get x.deps x.dot.site = ap (λ (v : List ℕ). vector_get v x.dot.site) same in
+    omega (arith, more, here, is.next))

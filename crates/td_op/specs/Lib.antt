@@ -1,0 +1,3 @@
+pub mod Op
+pub mod Past
+pub mod Change

@@ -1,0 +1,33 @@
+-- Operations as records: what one names, and which are operations.
+use Rattle.std.specs.Prelude.{◌≡◌, ◌≤◌, ◌+◌, ℕ, List, length, Option, Some, None, IfSome}
+use Rattle.td_base.specs.Value.{DotValue}
+use Rattle.td_clock.specs.Vector.{vector_get}
+use Rattle.td_path.specs.declared.slot.Slot.{Slot}
+use Rattle.td_path.specs.declared.slot.Slot.TheVariants.{Root, At}
+use Rattle.td_op.specs.declared.body.Body.{Body}
+use Rattle.td_op.specs.declared.body.Body.TheVariants.{Insert, Delete, Propose, Commit, Abort}
+
+-- the dot, how many operations of each site were known, and what it does
+pub record OpValue : Type 0 where
+  pub dot : DotValue
+  pub deps : List ℕ
+  pub body : Body
+
+-- the site of a slot's atom
+abbrev pub slot_site : Slot → Option ℕ
+slot_site Root = None
+slot_site (At atom bit) = Some atom.dot.site
+
+-- the site that a body names: of the slot's atom, of the target or of the proposal
+abbrev pub body_site : Body → Option ℕ
+body_site (Insert slot run) = slot_site slot
+body_site (Delete target) = Some target.dot.site
+body_site (Propose slot) = slot_site slot
+body_site (Commit proposal) = Some proposal.site
+body_site (Abort proposal) = Some proposal.site
+
+-- no site is past the vector's size, and the dot is the next one of its site
+pub record IsOp (x : OpValue) : Type 0 where
+  pub own : x.dot.site ≤ length x.deps
+  pub named : IfSome (body_site x.body) (λ site. site ≤ length x.deps)
+  pub next : vector_get x.deps x.dot.site + 1 ≡ x.dot.seq
