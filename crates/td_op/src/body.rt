@@ -1,4 +1,5 @@
 ghost use Rattle.std.specs.Prelude.{◌≡◌};
+ghost use Rattle.td_op.specs.Op.{body_site, slot_site};
 
 use td_base::{AtomId, Dot, Run, Site};
 use td_path::Slot;
@@ -20,9 +21,7 @@ pub enum Body {
 }
 
 impl Body {
-    ghost use Rattle.td_op.specs.Op.{body_site};
-
-    // the site that the body names: of the slot's atom, of the target or of the proposal
+    // The site that the body names: of the slot's atom, of the target or of the proposal.
     pub(crate) fn site(&self) -> Option<Site>
         ensures { result ≡ body_site self.now }
     {
@@ -33,8 +32,6 @@ impl Body {
         }
     }
 }
-
-ghost use Rattle.td_op.specs.Op.{slot_site};
 
 fn slot_site(slot: Slot) -> Option<Site>
     ensures { result ≡ slot_site slot }

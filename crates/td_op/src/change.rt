@@ -1,5 +1,6 @@
 ghost use Rattle.std.specs.Prelude.{◌≡◌, ◌≤◌, OnOk, OnErr, length};
 ghost use Rattle.std.specs.List.{insert_slice};
+ghost use Rattle.td_op.specs.Change.{changed, CanChange};
 
 use td_base::{Atom, Memory, Run};
 
@@ -15,9 +16,7 @@ pub enum Change {
 }
 
 impl Change {
-    ghost use Rattle.td_op.specs.Change.{changed, CanChange};
-
-    /// Does the change. This is the plain meaning of a change: one that is kept in another form does the same.
+    /// Does the change to the list. All of it is done or nothing.
     pub fn apply(&self, atoms: &mut Vec<Atom>) -> Result<(), Memory>
         requires { CanChange self.now atoms.old.items }
         ensures ok { OnOk result (atoms.new.items ≡ changed self.now atoms.old.items) }
@@ -43,7 +42,7 @@ fn put_run(atoms: &mut Vec<Atom>, index: usize, run: &Run) -> Result<(), Memory>
     atoms.reserve(run.len() as usize)?;
     for i in 0..run.len() {
         if let Some(atom) = run.atom(i) {
-            // there is room
+            // there is room for it
             atoms.insert(index + i as usize, atom)?;
         }
     }

@@ -1,9 +1,9 @@
-//! What sites say to one another and what they answer: operations, votes and messages, requests, inputs, replies and the
-//! entries of a history, and changes of a text.
+//! What sites tell one another and what they answer: operations, votes and messages, requests, inputs, replies and the
+//! entries of a history, and changes of a text. All are values of fixed size that are copied.
 //!
-//! All are values of fixed size. An operation is valid by construction: its dot is the next one of its site after its
-//! dependencies, and it names no site past their size. Begin at `op` and at `specs/Op.antt`; which operations happened before
-//! one another is in `specs/Past.antt`, with its laws in `laws`.
+//! An operation is valid by construction: its dot is the one after those of its site that it depends on, and no site that it
+//! names is past the size of its vector. Begin at `op` and at `specs/Op.antt`. Which operation happened before which is in
+//! `specs/Past.antt`, with its laws in `laws`. What a change does to a text is in `specs/Change.antt`.
 #![tactic(auto)]
 
 mod body;
@@ -21,7 +21,9 @@ pub use body::Body;
 pub use change::Change;
 pub use entry::Entry;
 pub use input::Input;
-pub use laws::{past_is_strict, sites_are_in_order, sums_grow_with_the_past};
+pub use laws::{
+    concurrency_is_symmetric, past_is_strict, sites_are_in_order, sums_grow_with_the_past,
+};
 pub use message::Message;
 pub use op::Op;
 pub use reply::{Reply, Why};

@@ -1,14 +1,15 @@
-ghost use Rattle.std.specs.Prelude.{◌≡◌, ◌↔◌, ◌≤◌, IsTrue, IfSome};
+ghost use Rattle.std.specs.Prelude.{◌≡◌};
 ghost use Rattle.std.specs.Option.{SomeIff};
 ghost use Rattle.td_op.specs.Op.{OpValue, IsOp};
 
 use crate::body::Body;
 use std::marker::Model;
-use td_base::{Dot, Site};
+use td_base::Dot;
 use td_clock::Vector;
 
-/// An operation: its dot, how many operations of each site were known where it was made, and what it does. The site's own
-/// number there is the one before the dot's, and no site is past the vector's size. Takes no memory.
+/// An operation: its dot, how many operations of each site were known where it was made, and what it does. Of its own site
+/// all before it were known, and neither its site nor one that the body names is past the vector's size. No call takes
+/// memory.
 #[derive(Clone, Copy, Debug, PartialEq, Eq)]
 pub struct Op {
     dot: Dot,
@@ -29,14 +30,13 @@ impl Model for Op {
 }
 
 impl Op {
-    /// The operation with these parts, where they are one.
+    /// The operation with these parts, where they make one.
     pub fn new(dot: Dot, deps: Vector, body: Body) -> Option<Op>
         ensures { let op : OpValue = record { dot = dot; deps = deps; body = body } in SomeIff result (IsOp op) op }
     {
-        if !is_within(Some(dot.site), deps.size()) || !is_within(body.site(), deps.size()) {
-            return None;
-        }
-        if deps.get(dot.site) + 1 != dot.seq {
+        let n = deps.size();
+        let names_within = body.site().is_none_or(|site| site.number() <= n);
+        if dot.site.number() > n || !names_within || deps.get(dot.site) + 1 != dot.seq {
             return None;
         }
         Some(Op { dot, deps, body })
@@ -62,11 +62,4 @@ impl Op {
     {
         self.body
     }
-}
-
-// Whether the site, if there is one, is one of the first n.
-fn is_within(site: Option<Site>, n: u8) -> bool
-    ensures { IsTrue result ↔ IfSome site (λ s. s ≤ n) }
-{
-    site.is_none_or(|s| s.number() <= n)
 }
