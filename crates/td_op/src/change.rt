@@ -1,6 +1,6 @@
-ghost use Rattle.std.specs.Prelude.{◌≡◌, ◌≤◌, OnOk, OnErr, length};
+ghost use Rattle.std.specs.Prelude.{◌≡◌, ◌<◌, ◌≤◌, ◌+◌, OnOk, OnErr, length, vec_len, vec_capacity};
 ghost use Rattle.std.specs.List.{insert_slice};
-ghost use Rattle.td_op.specs.Change.{changed, CanChange};
+ghost use Rattle.td_op.specs.Change.{changed, put_count, CanChange};
 
 use td_base::{Atom, Memory, Run};
 
@@ -21,6 +21,10 @@ impl Change {
         requires { CanChange self.now atoms.old.items }
         ensures ok { OnOk result (atoms.new.items ≡ changed self.now atoms.old.items) }
         ensures memory { OnErr result (atoms.new.items ≡ atoms.old.items) }
+
+        // Only a list with no room fails, and room that was taken stays.
+        ensures full { OnErr result (vec_capacity atoms.old < vec_len atoms.old + put_count self.now) }
+        ensures capacity { vec_capacity atoms.old ≤ vec_capacity atoms.new }
     {
         match *self {
             Change::Put { index, atom } => atoms.insert(index as usize, atom)?,
@@ -38,6 +42,8 @@ fn put_run(atoms: &mut Vec<Atom>, index: usize, run: &Run) -> Result<(), Memory>
     requires { index ≤ length atoms.old.items }
     ensures ok { OnOk result (atoms.new.items ≡ insert_slice atoms.old.items index run.now) }
     ensures memory { OnErr result (atoms.new.items ≡ atoms.old.items) }
+    ensures full { OnErr result (vec_capacity atoms.old < vec_len atoms.old + length run.now) }
+    ensures capacity { vec_capacity atoms.old ≤ vec_capacity atoms.new }
 {
     atoms.reserve(run.len() as usize)?;
     for i in 0..run.len() {
