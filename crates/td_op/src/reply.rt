@@ -7,13 +7,13 @@ pub enum Reply {
     Made { dot: Dot },
     /// The proposal was given up.
     Cancelled,
-    /// Refused: a slot that this proposal holds would change. It is the least such proposal.
+    /// Refused: a slot held for a proposal would change, or overlaps the one proposed. This is the least such proposal.
     Held { by: Dot },
     /// Refused: the index is past the live atoms, of which there are `len`.
     Position { len: u32 },
     /// Refused: there is no such atom, or for an edit no such live atom.
     Gone { id: AtomId },
-    /// Refused: the site has made so many operations and has so many undecided proposals that no number is left.
+    /// Refused: with so many operations made and so many own proposals undecided, no number of an operation is left.
     Limit { made: u32, undecided: u32 },
     /// Refused: the site made no such proposal, or it is decided.
     NotOpen { proposal: Dot },
@@ -21,9 +21,9 @@ pub enum Reply {
     New,
     /// The operation waits for others that it depends on.
     Later,
-    /// The message was there already, or the vote comes after the decision.
+    /// The message came before, or the vote comes after the decision.
     Repeat,
-    /// The message is none that a site of this buffer sends here.
+    /// The message is none that another site of this buffer sends here.
     Unfit { why: Why },
     /// The waiting operation with this dot was taken.
     Taken { dot: Dot },
