@@ -97,7 +97,8 @@ fn changes_are_done_at_their_index(rt: HostRuntime) -> Result<(), Fail> {
         .ok_or("a run")?;
     let mut atoms = letters(rt.alloc(), b"abc")?;
     assert_eq!(rt; atoms.len(), 3);
-    Change::PutRun { index: 1, run }.apply(&mut atoms)?;
+    atoms.reserve(4)?;
+    Change::PutRun { index: 1, run }.apply(&mut atoms);
     assert_eq!(rt;
         atoms.as_slice(),
         letters(rt.alloc(), b"axyzbc")?.as_slice()
@@ -107,13 +108,13 @@ fn changes_are_done_at_their_index(rt: HostRuntime) -> Result<(), Fail> {
         index: 6,
         atom: letter(b'd')?,
     }
-    .apply(&mut atoms)?;
+    .apply(&mut atoms);
     assert_eq!(rt;
         atoms.as_slice(),
         letters(rt.alloc(), b"axyzbcd")?.as_slice()
     );
     assert_eq!(rt; atoms.len(), 7);
-    Change::Cut { index: 1 }.apply(&mut atoms)?;
+    Change::Cut { index: 1 }.apply(&mut atoms);
     assert_eq!(rt;
         atoms.as_slice(),
         letters(rt.alloc(), b"ayzbcd")?.as_slice()
