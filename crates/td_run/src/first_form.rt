@@ -18,7 +18,7 @@ const MAX_DIGITS: usize = 9;
 pub enum Command {
     /// Print the text of the site.
     Show,
-    /// Insert the text before the cluster with this index.
+    /// Insert the bytes of the text, each as an atom, from this index on.
     Insert { index: u32, text: Bytes },
 }
 
