@@ -94,7 +94,7 @@ equal_ids x y h =
     let offset = equal_numbers x.offset y.offset p.1 in
     λ i. record { dot = dot i; offset = offset i }
 
-equal_bits : (b c : Bit) → bit_cmp b c ≡ Equal → b ≡ c
+pub equal_bits : (b c : Bit) → bit_cmp b c ≡ Equal → b ≡ c
 equal_bits Left Left h = refl
 equal_bits Left Right h = cc
 equal_bits Right Left h = cc
@@ -106,20 +106,20 @@ bit_numbers Left Right = refl
 bit_numbers Right Left = refl
 bit_numbers Right Right = refl
 
-bit_total : IsTotalOrder bit_cmp
+pub bit_total : IsTotalOrder bit_cmp
 bit_total = subst (λ (f : Bit → Bit → Ordering). IsTotalOrder f) (λ i b c. sym (bit_numbers b c) i) (on_total side_number nat_cmp_total)
 
 pair_total : IsTotalOrder pair_cmp
 pair_total = then_total (on_total (λ (p : Pair). p.0) bit_total) (on_total (λ (p : Pair). p.1) id_total)
 
-equal_pairs : (p q : Pair) → pair_cmp p q ≡ Equal → p ≡ q
+pub equal_pairs : (p q : Pair) → pair_cmp p q ≡ Equal → p ≡ q
 equal_pairs p q h =
     let e = then_equal _ _ h in
     let bit = equal_bits p.0 q.0 e.0 in
     let id = equal_ids p.1 q.1 e.1 in
     λ i. (bit i, id i)
 
-same_pairs : (p : Pair) → pair_cmp p p ≡ Equal
+pub same_pairs : (p : Pair) → pair_cmp p p ≡ Equal
 same_pairs = tied_itself pair_total
 
 pub equal_paths : (p q : Pairs) → path_cmp p q ≡ Equal → p ≡ q
@@ -134,7 +134,7 @@ equal_paths (a ∷ p) (b ∷ q) h =
     let rest = equal_paths p q e.1 in
     λ i. pair i ∷ rest i
 
-is_eq_true : (o : Ordering) → is_eq o ≡ true → o ≡ Equal
+pub is_eq_true : (o : Ordering) → is_eq o ≡ true → o ≡ Equal
 is_eq_true Equal h = refl
 is_eq_true Less h = absurd (true≢false (sym h))
 is_eq_true Greater h = absurd (true≢false (sym h))
@@ -151,7 +151,7 @@ pub record GoesOn (front : Pairs) (bit : Bit) (path : Pairs) : Type 0 where
   pub rest : Pairs
   pub is : path ≡ front ++ (bit, id) ∷ rest
 
-both_true : (b c : Bool) → (b && c) ≡ true → (b ≡ true) × (c ≡ true)
+pub both_true : (b c : Bool) → (b && c) ≡ true → (b ≡ true) × (c ≡ true)
 both_true true c h = (refl, h)
 both_true false c h = absurd (true≢false (sym h))
 
@@ -184,7 +184,7 @@ less_both_ways Less m n h k = cc
 less_both_ways Equal m n h k = (refl, h, k)
 less_both_ways Greater m n h k = cc
 
-first_pairs : (a s : Pair) (m n : Ordering) → ordering_then (pair_cmp a s) m ≡ Less → ordering_then (pair_cmp s a) n ≡ Less → (pair_cmp a s ≡ Equal) × (m ≡ Less) × (n ≡ Less)
+pub first_pairs : (a s : Pair) (m n : Ordering) → ordering_then (pair_cmp a s) m ≡ Less → ordering_then (pair_cmp s a) n ≡ Less → (pair_cmp a s ≡ Equal) × (m ≡ Less) × (n ≡ Less)
 first_pairs a s m n h k = less_both_ways (pair_cmp a s) m n h (ap (λ (o : Ordering). ordering_then o n) (sym (pair_total.antisymm s a)) ∙ k)
 
 goes_on_further : (a s : Pair) (front : Pairs) (bit : Bit) (q : Pairs) → pair_cmp a s ≡ Equal → goes_on front bit q ≡ true → goes_on (a ∷ front) bit (s ∷ q) ≡ true

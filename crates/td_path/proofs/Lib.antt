@@ -1,1 +1,3 @@
 pub mod InfixOrder
+pub mod ArrayShape
+pub mod SlotOverlap

@@ -56,3 +56,46 @@ fn a_slot_contains_what_goes_on_by_its_bit(rt: HostRuntime) -> Result<(), Fail> 
     assert!(rt; overlap(&left_slot, &SlotPath::Whole));
     Ok(())
 }
+
+#[test]
+fn arrays_of_up_to_nine_atoms_have_their_shapes(rt: HostRuntime) -> Result<(), Fail> {
+    // for each number of atoms the bits of each, 0 to the left and 1 to the right
+    let shapes = [
+        "",
+        "-",
+        "0 -",
+        "0 - 1",
+        "00 0 - 1",
+        "00 0 - 10 1",
+        "00 0 01 - 10 1",
+        "00 0 01 - 10 1 11",
+        "000 00 0 01 - 10 1 11",
+        "000 00 0 01 - 100 10 1 11",
+    ];
+    for (k, shape) in shapes.iter().enumerate() {
+        let k = k as u32;
+        let mut atoms = 0;
+        for spelled in shape.split_ascii_whitespace() {
+            let mut bits = Vec::new(rt.alloc());
+            for letter in spelled.bytes() {
+                match letter {
+                    b'0' => bits.push(Bit::Left)?,
+                    b'1' => bits.push(Bit::Right)?,
+                    _ => {}
+                }
+            }
+            assert_eq!(rt; shape_index(k, &bits), Some(atoms), "{spelled} of {k}");
+            assert!(rt; atoms < k);
+            assert!(rt;
+                shape_path(rt.alloc(), k, atoms)? == bits,
+                "atom {atoms} of {k}"
+            );
+            atoms += 1;
+        }
+        assert_eq!(rt; atoms, k);
+    }
+    assert_eq!(rt; shape_index(0, &[]), None);
+    assert_eq!(rt; shape_index(4, &[Bit::Right, Bit::Right]), None);
+    assert_eq!(rt; shape_index(4, &[Bit::Right, Bit::Left]), None);
+    Ok(())
+}
