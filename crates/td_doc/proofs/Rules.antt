@@ -1,96 +1,28 @@
--- An atom put in a slot leaves a document.
-use Rattle.std.proofs.Common.{◌≡◌, ◌≢◌, ◌⊎◌, ℕ, List, [], ◌∷◌, ◌++◌, Bool, true, false, cond, Option, Some, None, refl, sym, ap, ◌∙◌, subst, inl, inr, ⊎_elim, true≢false}
+-- What an insertion leaves is a document.
+use Rattle.std.proofs.Common.{◌≡◌, ◌≢◌, ◌⊎◌, ◌≤◌, ℕ, suc, List, [], ◌∷◌, ◌++◌, Bool, true, false, cond, Option, Some, None, refl, sym, ap, ◌∙◌, subst, inl, inr, ⊎_elim, true≢false, arith, length}
 use Rattle.std.specs.Prelude.{is_some, IsNone, IsSome, MatchOption}
 use Rattle.std.specs.Option.{option_map}
-use Rattle.std.specs.declared.cmp.Ordering.{Ordering}
-use Rattle.std.specs.declared.cmp.Ordering.TheVariants.{Less, Equal, Greater}
-use Rattle.std.specs.Ordering.{is_lt}
 use Rattle.td_base.specs.declared.bit.Bit.{Bit}
 use Rattle.td_base.specs.declared.bit.Bit.TheVariants.{Right}
-use Rattle.td_base.specs.Value.{AtomIdValue}
-use Rattle.td_path.specs.Infix.{Pair, Pairs, path_cmp}
+use Rattle.std.proofs.lemmas.List.{append-nil}
+use Rattle.std.specs.declared.cmp.Ordering.TheVariants.{Less}
+use Rattle.td_base.specs.Value.{DotValue, AtomIdValue}
+use Rattle.td_base.specs.Order.{dot_cmp}
+use Rattle.td_path.specs.Infix.{Pair, Pairs}
 use Rattle.td_path.specs.declared.slot.Slot.{Slot}
 use Rattle.td_path.specs.declared.slot.Slot.TheVariants.{Root, At}
 use Rattle.td_path.specs.declared.slot_path.SlotPath.{SlotPath}
 use Rattle.td_path.specs.declared.slot_path.SlotPath.TheVariants.{Whole, Below}
-use Rattle.td_path.proofs.InfixOrder.{path_total}
-use Rattle.td_doc.specs.Document.{DocRow, row_id, has_id, find_row, In, Successive, IsPath, IsDocument}
+use Rattle.td_doc.specs.Document.{DocRow, last_id, row_id, has_id, find_row, In, Successive, IsPath, IsDocument}
 use Rattle.td_doc.specs.Slots.{slot_path, is_empty_slot}
 use Rattle.td_doc.specs.Allocation.{first_id, next_id, slot_before, alloc}
-use Rattle.td_doc.specs.Insertion.{put_row, row_in, put_below, insert_atom}
-use Rattle.td_doc.specs.Answers.{IsRow, IsRooted}
-use Rattle.td_doc.proofs.Successive.{all_in, all_of}
-use Rattle.td_doc.proofs.Placement.{Before, Differ, new_in, self_id, has_id-true, has_id-false, three_ways}
-
--- who is a row afterwards
-
-in_put_at : (n r x : DocRow) (rows : List DocRow) (b : Bool) → (In x (put_row n rows) → (x ≡ n) ⊎ In x rows) → In x (cond b (n ∷ r ∷ rows) (r ∷ put_row n rows)) → (x ≡ n) ⊎ In x (r ∷ rows)
-in_put_at n r x rows true ih h = h
-in_put_at n r x rows false ih h = ⊎_elim (λ (e : x ≡ r). inr (inl e)) (λ (i : In x (put_row n rows)). ⊎_elim (λ (e : x ≡ n). inl e) (λ (j : In x rows). inr (inr j)) (ih i)) h
-
-pub in_put : (n x : DocRow) (rows : List DocRow) → In x (put_row n rows) → (x ≡ n) ⊎ In x rows
-in_put n x [] h = h
-in_put n x (r ∷ rows) h = in_put_at n r x rows (is_lt (path_cmp n.path r.path)) (in_put n x rows) h
-
-kept_put_at : (n r x : DocRow) (rows : List DocRow) (b : Bool) → (In x rows → In x (put_row n rows)) → In x (r ∷ rows) → In x (cond b (n ∷ r ∷ rows) (r ∷ put_row n rows))
-kept_put_at n r x rows true ih h = inr h
-kept_put_at n r x rows false ih h = ⊎_elim (λ (e : x ≡ r). inl e) (λ (i : In x rows). inr (ih i)) h
-
-pub kept_put : (n x : DocRow) (rows : List DocRow) → In x rows → In x (put_row n rows)
-kept_put n x [] h = absurd h
-kept_put n x (r ∷ rows) h = kept_put_at n r x rows (is_lt (path_cmp n.path r.path)) (kept_put n x rows) h
-
-new_put_at : (n r : DocRow) (rows : List DocRow) (b : Bool) → In n (put_row n rows) → In n (cond b (n ∷ r ∷ rows) (r ∷ put_row n rows))
-new_put_at n r rows true ih = inl refl
-new_put_at n r rows false ih = inr ih
-
-pub new_put : (n : DocRow) (rows : List DocRow) → In n (put_row n rows)
-new_put n [] = inl refl
-new_put n (r ∷ rows) = new_put_at n r rows (is_lt (path_cmp n.path r.path)) (new_put n rows)
-
--- paths increase
-
-less_of : (o : Ordering) → is_lt o ≡ true → o ≡ Less
-less_of Less h = refl
-less_of Equal h = absurd (true≢false (sym h))
-less_of Greater h = absurd (true≢false (sym h))
-
-not_less : (p q : Pairs) → is_lt (path_cmp p q) ≡ false → p ≢ q → path_cmp q p ≡ Less
-not_less p q h n =
-    ⊎_elim (λ (l : path_cmp p q ≡ Less). absurd (true≢false (sym (ap is_lt l) ∙ h)))
-    (λ (k : (p ≡ q) ⊎ (path_cmp q p ≡ Less)). ⊎_elim (λ (e : p ≡ q). absurd (n e)) (λ (l : path_cmp q p ≡ Less). l) k)
-    (three_ways p q)
-
--- the row's path is that of no row
-abbrev IsFree : DocRow → List DocRow → Type 0
-IsFree n rows = (x : DocRow) → In x rows → n.path ≢ x.path
-
-ascending_at : (n r : DocRow) (rows : List DocRow) (b : Bool) → is_lt (path_cmp n.path r.path) ≡ b → IsFree n (r ∷ rows) → Successive Before (r ∷ rows) → Successive Before (put_row n rows) → Successive Before (cond b (n ∷ r ∷ rows) (r ∷ put_row n rows))
-ascending_at n r rows true e free up ih =
-    let first : Before n r = less_of _ e in
-    ((first, all_of (Before n) rows (λ x i. path_total.trans n.path r.path x.path first (all_in (Before r) rows up.0 x i))), up)
-ascending_at n r rows false e free up ih =
-    let first : Before r n = not_less n.path r.path e (free r (inl refl)) in
-    (all_of (Before r) (put_row n rows) (λ x i. ⊎_elim (λ (q : x ≡ n). subst (λ (y : DocRow). Before r y) (sym q) first) (λ (j : In x rows). all_in (Before r) rows up.0 x j) (in_put n x rows i)), ih)
-
-ascending_put : (n : DocRow) (rows : List DocRow) → IsFree n rows → Successive Before rows → Successive Before (put_row n rows)
-ascending_put n [] free up = (tt, tt)
-ascending_put n (r ∷ rows) free up = ascending_at n r rows (is_lt (path_cmp n.path r.path)) refl free up (ascending_put n rows (λ x i. free x (inr i)) up.1)
-
--- identities differ
-
--- the row's identity is that of no row
-abbrev IsFresh : DocRow → List DocRow → Type 0
-IsFresh n rows = (x : DocRow) → In x rows → Differ n x
-
-apart_at : (n r : DocRow) (rows : List DocRow) (b : Bool) → IsFresh n (r ∷ rows) → Successive Differ (r ∷ rows) → Successive Differ (put_row n rows) → Successive Differ (cond b (n ∷ r ∷ rows) (r ∷ put_row n rows))
-apart_at n r rows true fresh up ih = ((fresh r (inl refl), all_of (Differ n) rows (λ x i. fresh x (inr i))), up)
-apart_at n r rows false fresh up ih =
-    (all_of (Differ r) (put_row n rows) (λ x i. ⊎_elim (λ (q : x ≡ n). subst (λ (y : DocRow). Differ r y) (sym q) (λ e. fresh r (inl refl) (sym e))) (λ (j : In x rows). all_in (Differ r) rows up.0 x j) (in_put n x rows i)), ih)
-
-apart_put : (n : DocRow) (rows : List DocRow) → IsFresh n rows → Successive Differ rows → Successive Differ (put_row n rows)
-apart_put n [] fresh up = (tt, tt)
-apart_put n (r ∷ rows) fresh up = apart_at n r rows (is_lt (path_cmp n.path r.path)) fresh up (apart_put n rows (λ x i. fresh x (inr i)) up.1)
+use Rattle.td_doc.specs.Array.{NamedAtom, named, array, run_atoms_from, run_atoms}
+use Rattle.td_doc.specs.Insertion.{put_rows, put_array_below, insert_atom, insert_run}
+use Rattle.td_doc.specs.Answers.{IsRow, IsRooted, IsFresh}
+use Rattle.td_doc.proofs.Successive.{In-map, map_successive, all_in, all_of}
+use Rattle.td_doc.proofs.PutRows.{Before, Differ, IsOther, in_puts, puts_in, ascending_puts, apart_puts}
+use Rattle.td_doc.proofs.ArrayRows.{IsSlotPath, IsAbove, array_ascends, array_names, array_bare, array_paths, array_fronts}
+use Rattle.td_doc.proofs.Placement.{self_id, has_id-true, has_id-false, put_array, atom_is_array}
 
 -- who is found
 
@@ -121,73 +53,108 @@ pub found : (x : AtomIdValue) (s : DocRow) (rows : List DocRow) → find_row x r
 found x s [] h = absurd (none_is_not_some s h)
 found x s (r ∷ rows) h = found_at x r s rows (has_id x r) refl h (found x s rows)
 
--- where a path with one more pair is cut
+-- rows put in a document
 
-data Cut (path front : Pairs) : Type 0 where
-  at_end : front ≡ path → Cut path front
-  earlier : (next : Pair) (rest : Pairs) → path ≡ front ++ next ∷ rest → Cut path front
+abbrev pub FrontsIn : (DocRow → Type 0) → DocRow → Type 0
+FrontsIn IsThere n = (front : Pairs) (next : Pair) (rest : Pairs) → n.path ≡ front ++ next ∷ rest → front ≢ [] → (s : DocRow) × IsThere s × (s.path ≡ front)
 
-no_pairs : (front : Pairs) (next : Pair) (rest : Pairs) → [] ≡ front ++ next ∷ rest → ⊥
-no_pairs [] next rest e = cc
-no_pairs (p ∷ front) next rest e = cc
+abbrev nobody : AtomIdValue
+nobody = record { dot = record { site = 0; seq = 0 }; offset = 0 }
 
-tails_same : (p q : Pair) (path front : Pairs) → p ∷ path ≡ q ∷ front → (p ≡ q) × (path ≡ front)
-tails_same p q path front e = (cc, cc)
+-- different identities are those of different paths
+differ_free : (n x : DocRow) → Differ n x → n.path ≢ x.path
+differ_free n x d e = d (ap (λ (p : Pairs). last_id nobody p) e)
 
-cut_further : (p q : Pair) (path front : Pairs) → p ≡ q → Cut path front → Cut (p ∷ path) (q ∷ front)
-cut_further p q path front e (at_end h) = at_end (λ i. sym e i ∷ h i)
-cut_further p q path front e (earlier next rest h) = earlier next rest (λ i. e i ∷ h i)
-
-cut : (path : Pairs) (last : Pair) (front : Pairs) (next : Pair) (rest : Pairs) → path ++ last ∷ [] ≡ front ++ next ∷ rest → Cut path front
-cut [] last [] next rest e = at_end refl
-cut [] last (q ∷ front) next rest e = absurd (no_pairs front next rest (tails_same last q [] (front ++ next ∷ rest) e).1)
-cut (p ∷ path) last [] next rest e = earlier p path refl
-cut (p ∷ path) last (q ∷ front) next rest e = let t = tails_same p q (path ++ last ∷ []) (front ++ next ∷ rest) e in cut_further p q path front t.0 (cut path last front next rest t.1)
-
--- the rules of a document for a new row
-
-abbrev FrontsAreRows : List DocRow → DocRow → Type 0
-FrontsAreRows rows n = (front : Pairs) (next : Pair) (rest : Pairs) → n.path ≡ front ++ next ∷ rest → front ≢ [] → (s : DocRow) × In s rows × (s.path ≡ front)
-
-put_document : (n : DocRow) (rows : List DocRow) → IsDocument rows → IsFresh n rows → IsPath n.path → FrontsAreRows rows n → IsDocument (put_row n rows)
-put_document n rows d new path fronts = record {
-  ascending = ascending_put n rows (λ x i e. new x i (ap (λ (p : Pairs). row_id (record n { path = p })) e)) d.ascending;
-  apart = apart_put n rows new d.apart;
-  paths = λ r i. ⊎_elim (λ (e : r ≡ n). subst (λ (x : DocRow). IsPath x.path) (sym e) path) (λ (j : In r rows). d.paths r j) (in_put n r rows i);
+pub puts_document : (new rows : List DocRow) → IsDocument rows → Successive Before new → Successive Differ new → ((n : DocRow) → In n new → IsOther n rows) → ((n : DocRow) → In n new → IsPath n.path)
+    → ((n : DocRow) → In n new → FrontsIn (λ (s : DocRow). In s new ⊎ In s rows) n) → ((n : DocRow) → In n new → n.deletes ≡ []) → IsDocument (put_rows new rows)
+puts_document new rows d up apart other paths fronts bare = record {
+  ascending = ascending_puts new rows up d.ascending (λ n i x j. differ_free n x (other n i x j));
+  apart = apart_puts new rows apart d.apart other;
+  paths = λ r i. ⊎_elim (λ (j : In r new). paths r j) (λ (j : In r rows). d.paths r j) (in_puts new rows r i);
   rooted = λ r front next rest i e some.
-      let at = ⊎_elim (λ (q : r ≡ n). fronts front next rest (sym (ap (λ (x : DocRow). x.path) q) ∙ e) some) (λ (j : In r rows). d.rooted r front next rest j e some) (in_put n r rows i) in
-      (at.0, kept_put n at.0 rows at.1, at.2);
+      ⊎_elim
+      (λ (j : In r new). let at = fronts r j front next rest e some in (at.0, puts_in new rows at.0 at.1, at.2))
+      (λ (j : In r rows). let at = d.rooted r front next rest j e some in (at.0, puts_in new rows at.0 (inr at.1), at.2))
+      (in_puts new rows r i);
+  deletes = λ r i. ⊎_elim (λ (j : In r new). no_deletes r.deletes (bare r j)) (λ (j : In r rows). d.deletes r j) (in_puts new rows r i);
 }
-
-fronts_below : (rows : List DocRow) (r : DocRow) (bit : Bit) (id : AtomIdValue) (atom : List ℕ) → IsDocument rows → In r rows → FrontsAreRows rows (row_in (Below r.path bit) id atom)
-fronts_below rows r bit id atom d i front next rest e some = at (cut r.path (bit, id) front next rest e)
   where
-    at : Cut r.path front → (s : DocRow) × In s rows × (s.path ≡ front)
-    at (at_end h) = (r, i, sym h)
-    at (earlier n t h) = d.rooted r front n t i h some
+    no_deletes : (dots : List DotValue) → dots ≡ [] → Successive (λ (a b : DotValue). dot_cmp a b ≡ Less) dots
+    no_deletes dots e = subst (Successive (λ (a b : DotValue). dot_cmp a b ≡ Less)) (sym e) tt
 
-path_further : (path : Pairs) (p : Pair) → IsPath path → IsPath (path ++ p ∷ [])
-path_further [] p h = absurd h
-path_further (q ∷ path) p h = h
+-- the slot is the whole, or hangs below a row
+pub record HangsIn (slot : SlotPath) (rows : List DocRow) : Type 0 where
+  pub is_path : IsSlotPath slot
+  pub above : (front : Pairs) → IsAbove slot front → front ≢ [] → (s : DocRow) × In s rows × (s.path ≡ front)
 
-fronts_whole : (rows : List DocRow) (id : AtomIdValue) (atom : List ℕ) → FrontsAreRows rows (row_in Whole id atom)
-fronts_whole rows id atom [] next rest e some = absurd (some refl)
-fronts_whole rows id atom (q ∷ front) next rest e some = absurd (no_pairs front next rest (tails_same (Right, id) q [] (front ++ next ∷ rest) e).1)
+pub hangs_whole : (rows : List DocRow) → HangsIn Whole rows
+hangs_whole rows = record { is_path = tt; above = λ front i some. absurd i }
 
-fresh_row : (rows : List DocRow) (slot : SlotPath) (id : AtomIdValue) (atom : List ℕ) → IsNone (find_row id rows) → IsFresh (row_in slot id atom) rows
-fresh_row rows slot id atom h x i e = fresh id rows h x i (sym (new_in slot id atom).named ∙ e)
+pub hangs_below : (rows : List DocRow) → IsDocument rows → (r : DocRow) (bit : Bit) → In r rows → HangsIn (Below r.path bit) rows
+hangs_below rows d r bit i = record { is_path = d.paths r i; above = λ front a some. at front a.0 a.1 some }
+  where
+    at : (front rest : Pairs) → r.path ≡ front ++ rest → front ≢ [] → (s : DocRow) × In s rows × (s.path ≡ front)
+    at front [] e some = (r, i, e ∙ append-nil front)
+    at front (next ∷ rest) e some = d.rooted r front next rest i e some
 
-keeps_at : (rows : List DocRow) (x : AtomIdValue) (bit : Bit) (id : AtomIdValue) (atom : List ℕ) → IsDocument rows → IsNone (find_row id rows) → (o : Option DocRow) → find_row x rows ≡ o → IsSome o
-    → IsDocument (put_below (option_map (λ (r : DocRow). Below r.path bit) o) id atom rows)
-keeps_at rows x bit id atom d new None e some = absurd (true≢false (sym some))
-keeps_at rows x bit id atom d new (Some r) e some =
-    let at = found x r rows e in
-    put_document (row_in (Below r.path bit) id atom) rows d (fresh_row rows (Below r.path bit) id atom new) (path_further r.path (bit, id) (d.paths r at.0)) (fronts_below rows r bit id atom d at.0)
+-- an array of new identities
+pub array_document : (slot : SlotPath) (atoms : List NamedAtom) (rows : List DocRow) → IsDocument rows → HangsIn slot rows
+    → Successive (λ (a b : NamedAtom). a.id ≢ b.id) atoms → ((a : NamedAtom) → In a atoms → (x : DocRow) → In x rows → a.id ≢ row_id x)
+    → IsDocument (put_rows (array slot atoms) rows)
+array_document slot atoms rows d h apart new =
+    puts_document (array slot atoms) rows d (array_ascends (length atoms) slot atoms)
+    (map_successive (λ (a b : NamedAtom). a.id ≢ b.id) named (array slot atoms) (subst (Successive (λ (a b : NamedAtom). a.id ≢ b.id)) (sym (array_names slot atoms)) apart))
+    (λ n i x j e. let a = atom_of n i in new (named n) a x j e)
+    (array_paths slot atoms h.is_path)
+    (λ n i front next rest e some.
+    ⊎_elim (λ (f : (q : DocRow) × In q (array slot atoms) × (q.path ≡ front)). (f.0, inl f.1, f.2))
+    (λ (f : IsAbove slot front). let s = h.above front f some in (s.0, inr s.1, s.2))
+    (array_fronts (length atoms) slot atoms n i front next rest e some))
+    (λ n i. array_bare (length atoms) slot atoms n i)
+  where
+    atom_of : (n : DocRow) → In n (array slot atoms) → In (named n) atoms
+    atom_of n i = subst (In (named n)) (array_names slot atoms) (In-map named n (array slot atoms) i)
+
+abbrev IsNewIn : List NamedAtom → List DocRow → Type 0
+IsNewIn atoms rows = (a : NamedAtom) → In a atoms → (x : DocRow) → In x rows → a.id ≢ row_id x
+
+put_at : (rows : List DocRow) (x : AtomIdValue) (bit : Bit) (atoms : List NamedAtom) → IsDocument rows → Successive (λ (a b : NamedAtom). a.id ≢ b.id) atoms → IsNewIn atoms rows → (o : Option DocRow) → find_row x rows ≡ o → IsSome o
+    → IsDocument (put_array_below (option_map (λ (r : DocRow). Below r.path bit) o) atoms rows)
+put_at rows x bit atoms d apart new None e some = absurd (true≢false (sym some))
+put_at rows x bit atoms d apart new (Some r) e some = array_document (Below r.path bit) atoms rows d (hangs_below rows d r bit (found x r rows e).0) apart new
+
+put_keeps : (rows : List DocRow) (slot : Slot) (atoms : List NamedAtom) → IsDocument rows → Successive (λ (a b : NamedAtom). a.id ≢ b.id) atoms → IsNewIn atoms rows → IsRooted rows slot → IsDocument (put_array slot atoms rows)
+put_keeps rows Root atoms d apart new rooted = array_document Whole atoms rows d (hangs_whole rows) apart new
+put_keeps rows (At x bit) atoms d apart new rooted = put_at rows x bit atoms d apart new (find_row x rows) refl rooted
 
 -- an atom put in a slot whose atom is a row leaves a document
 pub insert_keeps : (rows : List DocRow) (slot : Slot) (id : AtomIdValue) (atom : List ℕ) → IsDocument rows → IsNone (find_row id rows) → IsRooted rows slot → IsDocument (insert_atom slot id atom rows)
-insert_keeps rows Root id atom d new rooted = put_document (row_in Whole id atom) rows d (fresh_row rows Whole id atom new) refl (fronts_whole rows id atom)
-insert_keeps rows (At x bit) id atom d new rooted = keeps_at rows x bit id atom d new (find_row x rows) refl rooted
+insert_keeps rows slot id atom d new rooted =
+    subst IsDocument (sym (atom_is_array slot id atom rows))
+    (put_keeps rows slot (record { id = id; atom = atom } ∷ []) d (tt, tt)
+    (λ a i x j e. ⊎_elim (λ (q : a ≡ record { id = id; atom = atom }). fresh id rows new x j (sym (ap (λ (b : NamedAtom). b.id) q) ∙ e)) (λ (z : ⊥). absurd z) i) rooted)
+
+-- the identities of a run
+
+later_offset : (dot : DotValue) (offset : ℕ) (run : List (List ℕ)) (a : NamedAtom) → In a (run_atoms_from dot offset run) → (a.id.dot ≡ dot) × (offset ≤ a.id.offset)
+later_offset dot offset [] a i = absurd i
+later_offset dot offset (atom ∷ run) a i =
+    ⊎_elim (λ (e : a ≡ record { id = record { dot = dot; offset = offset }; atom = atom }). let same : a.id.offset ≡ offset = ap (λ (b : NamedAtom). b.id.offset) e in (ap (λ (b : NamedAtom). b.id.dot) e, omega arith))
+    (λ (k : In a (run_atoms_from dot (suc offset) run)). let h = later_offset dot (suc offset) run a k in let more : suc offset ≤ a.id.offset = h.1 in (h.0, omega arith)) i
+
+run_apart : (dot : DotValue) (offset : ℕ) (run : List (List ℕ)) → Successive (λ (a b : NamedAtom). a.id ≢ b.id) (run_atoms_from dot offset run)
+run_apart dot offset [] = tt
+run_apart dot offset (atom ∷ run) = (
+  all_of (λ (b : NamedAtom). record { dot = dot; offset = offset } ≢ b.id) (run_atoms_from dot (suc offset) run)
+      (λ b i e. let h = (later_offset dot (suc offset) run b i).1 in let same : offset ≡ b.id.offset = ap (λ (x : AtomIdValue). x.offset) e in absurd (omega arith)),
+  run_apart dot (suc offset) run,
+)
+
+-- a run put in a slot whose atom is a row leaves a document
+pub run_keeps : (rows : List DocRow) (slot : Slot) (dot : DotValue) (run : List (List ℕ)) → IsDocument rows → IsFresh rows dot → IsRooted rows slot → IsDocument (insert_run slot dot run rows)
+run_keeps rows slot dot run d new rooted =
+    put_keeps rows slot (run_atoms dot run) d (run_apart dot 0 run)
+    (λ a i x j e. all_in (λ (r : DocRow). (row_id r).dot ≢ dot) rows new x j (sym (ap (λ (y : AtomIdValue). y.dot) e) ∙ (later_offset dot 0 run a i).0)) rooted
 
 -- a row is found
 
@@ -230,15 +197,32 @@ pub alloc_rooted : (rows : List DocRow) (after : Option AtomIdValue) → MatchOp
 alloc_rooted rows None h = first_of_rooted rows rows (λ s i. i)
 alloc_rooted rows (Some p) h = alloc_rooted_at rows p (is_empty_slot rows (At p Right)) h
 
--- whose row it is afterwards
+-- whose rows they are afterwards
 
-insert_adds_at : (n s : DocRow) (rows : List DocRow) (id : AtomIdValue) → row_id n ≡ id → In s (put_row n rows) → In s rows ⊎ (row_id s ≡ id)
-insert_adds_at n s rows id e i = ⊎_elim (λ (q : s ≡ n). inr (ap row_id q ∙ e)) (λ (j : In s rows). inl j) (in_put n s rows i)
+adds_at : (slot : SlotPath) (atoms : List NamedAtom) (rows : List DocRow) (s : DocRow) → In s (put_rows (array slot atoms) rows) → In s rows ⊎ In (named s) atoms
+adds_at slot atoms rows s i = ⊎_elim (λ (j : In s (array slot atoms)). inr (subst (In (named s)) (array_names slot atoms) (In-map named s (array slot atoms) j))) (λ (j : In s rows). inl j) (in_puts (array slot atoms) rows s i)
 
-put_below_adds : (o : Option SlotPath) (id : AtomIdValue) (atom : List ℕ) (rows : List DocRow) (s : DocRow) → In s (put_below o id atom rows) → In s rows ⊎ (row_id s ≡ id)
-put_below_adds None id atom rows s i = inl i
-put_below_adds (Some slot) id atom rows s i = insert_adds_at (row_in slot id atom) s rows id (new_in slot id atom).named i
+below_adds : (o : Option SlotPath) (atoms : List NamedAtom) (rows : List DocRow) (s : DocRow) → In s (put_array_below o atoms rows) → In s rows ⊎ In (named s) atoms
+below_adds None atoms rows s i = inl i
+below_adds (Some slot) atoms rows s i = adds_at slot atoms rows s i
 
--- an insertion adds no row but the new one
+-- an insertion adds no row but the new ones
+pub run_adds : (slot : Slot) (dot : DotValue) (run : List (List ℕ)) (rows : List DocRow) (s : DocRow) → In s (insert_run slot dot run rows) → In s rows ⊎ In (named s) (run_atoms dot run)
+run_adds slot dot run rows s i = below_adds (slot_path rows slot) (run_atoms dot run) rows s i
+
 pub insert_adds : (slot : Slot) (id : AtomIdValue) (atom : List ℕ) (rows : List DocRow) (s : DocRow) → In s (insert_atom slot id atom rows) → In s rows ⊎ (row_id s ≡ id)
-insert_adds slot id atom rows s i = put_below_adds (slot_path rows slot) id atom rows s i
+insert_adds slot id atom rows s i =
+    ⊎_elim (λ (j : In s rows). inl j) (λ (j : In (named s) (record { id = id; atom = atom } ∷ [])). ⊎_elim (λ (e : named s ≡ record { id = id; atom = atom }). inr (ap (λ (a : NamedAtom). a.id) e)) (λ (z : ⊥). absurd z) j)
+    (below_adds (slot_path rows slot) (record { id = id; atom = atom } ∷ []) rows s (subst (In s) (atom_is_array slot id atom rows) i))
+
+-- no row goes
+
+below_stays : (o : Option SlotPath) (atoms : List NamedAtom) (rows : List DocRow) (s : DocRow) → In s rows → In s (put_array_below o atoms rows)
+below_stays None atoms rows s i = i
+below_stays (Some slot) atoms rows s i = puts_in (array slot atoms) rows s (inr i)
+
+pub run_stays : (slot : Slot) (dot : DotValue) (run : List (List ℕ)) (rows : List DocRow) (s : DocRow) → In s rows → In s (insert_run slot dot run rows)
+run_stays slot dot run rows s i = below_stays (slot_path rows slot) (run_atoms dot run) rows s i
+
+pub insert_stays : (slot : Slot) (id : AtomIdValue) (atom : List ℕ) (rows : List DocRow) (s : DocRow) → In s rows → In s (insert_atom slot id atom rows)
+insert_stays slot id atom rows s i = subst (In s) (sym (atom_is_array slot id atom rows)) (below_stays (slot_path rows slot) (record { id = id; atom = atom } ∷ []) rows s i)

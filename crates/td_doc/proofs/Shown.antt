@@ -8,7 +8,8 @@ use Rattle.std.proofs.lemmas.List.{take_more, append-nil}
 use Rattle.std.proofs.lemmas.List.Folds.{concat-append}
 use Rattle.td_doc.specs.Document.{DocRow, row_id, find_row, live_rows, live_atoms, live_id_at, IsDocument}
 use Rattle.td_doc.proofs.Successive.{across}
-use Rattle.td_doc.proofs.Placement.{Differ, find_at}
+use Rattle.td_doc.proofs.PutRows.{Differ}
+use Rattle.td_doc.proofs.Placement.{find_at}
 use Rattle.td_doc.proofs.Typing.{LiveAt, live_split, live_row}
 
 found_at : (rows : List DocRow) (i : ℕ) → IsDocument rows → (s : LiveAt rows i) → find_row (row_id s.row) rows ≡ Some s.row

@@ -1,5 +1,5 @@
 -- What is typed at an index stands at that index.
-use Rattle.std.proofs.Common.{◌≡◌, ◌<◌, ◌≤◌, ◌-◌, ℕ, zero, suc, List, [], ◌∷◌, ◌++◌, Bool, true, false, cond, map, length, nat_eq, Option, Some, None, refl, sym, ap, ◌∙◌, subst, inl, arith, append_assoc, length-append}
+use Rattle.std.proofs.Common.{◌≡◌, ◌<◌, ◌≤◌, ◌-◌, ℕ, zero, suc, List, [], ◌∷◌, ◌++◌, Bool, true, false, cond, map, take, drop, length, nat_eq, Option, Some, None, refl, sym, ap, ◌∙◌, subst, inl, arith, append_assoc, length-append}
 use Rattle.std.specs.Prelude.{insert, slice_get, MatchOption}
 use Rattle.std.specs.Option.{option_map}
 use Rattle.std.proofs.Math.Seq.{get_or-append_seam}
@@ -7,14 +7,16 @@ use Rattle.std.proofs.lemmas.Bool.Decides.{nat_tests}
 use Rattle.std.proofs.lemmas.Option.{slice_get-get_or}
 use Rattle.std.proofs.lemmas.List.{map-append, take_at, drop_at}
 use Rattle.std.proofs.lemmas.List.Elements.{filter-append}
-use Rattle.td_base.specs.Value.{AtomIdValue}
+use Rattle.td_base.specs.Value.{DotValue, AtomIdValue}
 use Rattle.td_doc.specs.Document.{DocRow, row_id, is_live, is_empty_list, live_rows, live_atoms, live_id_at, In, IsDocument}
 use Rattle.td_doc.specs.Allocation.{alloc, anchor}
-use Rattle.td_doc.specs.Insertion.{insert_atom, IsNew, ComesBetween}
+use Rattle.td_doc.specs.Insertion.{insert_atom, insert_run, IsNew, ComesBetween}
+use Rattle.td_doc.specs.Array.{NamedAtom, named, run_atoms_from, run_atoms}
+use Rattle.td_doc.specs.Stretches.{RunBetween}
 use Rattle.td_doc.specs.Answers.{IsRow}
 use Rattle.td_doc.proofs.Successive.{In-back}
 use Rattle.td_doc.proofs.Rules.{in_found}
-use Rattle.td_doc.proofs.Placement.{placed_after, placed_first}
+use Rattle.td_doc.proofs.Placement.{placed_after, placed_first, run_after, run_first}
 
 live_atoms-append : (xs ys : List DocRow) → live_atoms (xs ++ ys) ≡ live_atoms xs ++ live_atoms ys
 live_atoms-append xs ys = ap (map (λ (r : DocRow). r.atom)) (filter-append is_live xs ys) ∙ map-append (λ (r : DocRow). r.atom) (live_rows xs) (live_rows ys)
@@ -132,3 +134,47 @@ anchor_row rows (suc i) h =
 
 pub count_of_atoms : (rows : List DocRow) → length (live_atoms rows) ≡ length (live_rows rows)
 count_of_atoms rows = length-map (live_rows rows)
+
+-- a run
+
+atoms_named : (rows : List DocRow) → map (λ (a : NamedAtom). a.atom) (map named rows) ≡ map (λ (r : DocRow). r.atom) rows
+atoms_named [] = refl
+atoms_named (r ∷ rows) = ap (λ (q : List (List ℕ)). r.atom ∷ q) (atoms_named rows)
+
+run_shown : (dot : DotValue) (offset : ℕ) (run : List (List ℕ)) → map (λ (a : NamedAtom). a.atom) (run_atoms_from dot offset run) ≡ run
+run_shown dot offset [] = refl
+run_shown dot offset (atom ∷ run) = ap (λ (q : List (List ℕ)). atom ∷ q) (run_shown dot (suc offset) run)
+
+-- the atoms of a run between those of the front and those of the back
+run_typed_between : (dot : DotValue) (run : List (List ℕ)) (front back after : List DocRow) → RunBetween (run_atoms dot run) front back after → live_atoms after ≡ live_atoms front ++ run ++ live_atoms back
+run_typed_between dot run front back after h =
+    let shown : live_atoms h.new ≡ run = ap (map (λ (r : DocRow). r.atom)) h.live ∙ sym (atoms_named h.new) ∙ ap (map (λ (a : NamedAtom). a.atom)) h.atoms ∙ run_shown dot 0 run in
+    ap live_atoms h.is ∙ live_atoms-append (front ++ h.new) back ∙ ap (λ (q : List (List ℕ)). q ++ live_atoms back) (live_atoms-append front h.new ∙ ap (λ (q : List (List ℕ)). live_atoms front ++ q) shown)
+
+run_at : (xs ys run : List (List ℕ)) (i : ℕ) → length xs ≡ i → xs ++ run ++ ys ≡ take i (xs ++ ys) ++ run ++ drop i (xs ++ ys)
+run_at xs ys run i h = λ k. sym (take_at xs ys i h) k ++ run ++ sym (drop_at xs ys i h) k
+
+run_typed_split : (front : List DocRow) (r : DocRow) (back : List DocRow) (i : ℕ) (dot : DotValue) (run : List (List ℕ)) → IsDocument (front ++ r ∷ back) → is_live r ≡ true → length (live_rows front) ≡ i
+    → live_atoms (insert_run (alloc (front ++ r ∷ back) (Some (row_id r))) dot run (front ++ r ∷ back)) ≡ take (suc i) (live_atoms (front ++ r ∷ back)) ++ run ++ drop (suc i) (live_atoms (front ++ r ∷ back))
+run_typed_split front r back i dot run d live count =
+    let first : List DocRow = front ++ r ∷ [] in
+    let rows : live_rows first ≡ live_rows front ++ r ∷ [] =
+    filter-append is_live front (r ∷ []) ∙ ap (λ b. live_rows front ++ cond b (r ∷ []) []) live in
+    let so_many : length (live_atoms first) ≡ suc i =
+    omega (arith, length-map (live_rows first), ap length rows, length-append (live_rows front) (r ∷ []), count) in
+    run_typed_between dot run first back _ (run_after front r back d dot run)
+    ∙ run_at (live_atoms first) (live_atoms back) run (suc i) so_many
+    ∙ ap (λ (atoms : List (List ℕ)). take (suc i) atoms ++ run ++ drop (suc i) atoms) (sym (live_atoms-append first back) ∙ ap live_atoms (append_assoc front (r ∷ []) back))
+
+run_typed_after : (rows : List DocRow) (i : ℕ) (dot : DotValue) (run : List (List ℕ)) → IsDocument rows → (s : LiveAt rows i) → live_atoms (insert_run (alloc rows (Some (row_id s.row))) dot run rows) ≡ take (suc i) (live_atoms rows) ++ run ++ drop (suc i) (live_atoms rows)
+run_typed_after rows i dot run d s =
+    subst (λ (q : List DocRow). IsDocument q → live_atoms (insert_run (alloc q (Some (row_id s.row))) dot run q) ≡ take (suc i) (live_atoms q) ++ run ++ drop (suc i) (live_atoms q)) (sym s.is)
+    (λ e. run_typed_split s.front s.row s.back i dot run e s.live s.before) d
+
+-- what is pasted at an index stands at that index
+pub run_typed : (rows : List DocRow) (index : ℕ) (dot : DotValue) (run : List (List ℕ)) → IsDocument rows → index ≤ length (live_rows rows)
+    → live_atoms (insert_run (alloc rows (anchor rows index)) dot run rows) ≡ take index (live_atoms rows) ++ run ++ drop index (live_atoms rows)
+run_typed rows zero dot run d h = run_typed_between dot run [] rows _ (run_first rows d dot run)
+run_typed rows (suc i) dot run d h =
+    let s = live_split rows i (omega arith) in
+    ap (λ (after : Option AtomIdValue). live_atoms (insert_run (alloc rows after) dot run rows)) (anchor_further rows i ∙ live_id rows i s) ∙ run_typed_after rows i dot run d s

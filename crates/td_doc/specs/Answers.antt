@@ -1,7 +1,8 @@
 -- What the calls of a document answer.
-use Rattle.std.specs.Prelude.{◌≡◌, ℕ, List, [], ◌∷◌, ◌+◌, cond, length, Option, IsNone, IsSome}
+use Rattle.std.specs.Prelude.{◌≡◌, ◌≢◌, ℕ, List, [], ◌∷◌, ◌+◌, cond, length, Option, IsNone, IsSome}
 use Rattle.std.specs.Option.{option_map}
-use Rattle.td_base.specs.Value.{AtomIdValue}
+use Rattle.std.specs.List.{AllByRecursion}
+use Rattle.td_base.specs.Value.{DotValue, AtomIdValue}
 use Rattle.td_path.specs.declared.slot.Slot.{Slot}
 use Rattle.td_path.specs.declared.slot.Slot.TheVariants.{Root, At}
 use Rattle.td_doc.specs.declared.doc.Row.{Row}
@@ -24,10 +25,19 @@ abbrev pub Names : Slot → AtomIdValue → Type 0
 Names Root x = ⊥
 Names (At y bit) x = x ≡ y
 
--- why an insertion in the slot is refused: its atom is no row
+-- no row is of the insert with this dot
+abbrev pub IsFresh : List DocRow → DotValue → Type 0
+IsFresh rows dot = AllByRecursion (λ (r : DocRow). (row_id r).dot ≢ dot) rows
+
+-- why a change in the slot is refused: its atom is no row
 abbrev pub IsSlotFault : List DocRow → Slot → DocFault → Type 0
 IsSlotFault rows slot (Gone id) = Names slot id × IsNone (find_row id rows)
 IsSlotFault rows slot Memory = Unit {0}
+
+-- why a delete is refused: the atom is no row
+abbrev pub IsAtomFault : List DocRow → AtomIdValue → DocFault → Type 0
+IsAtomFault rows x (Gone id) = (id ≡ x) × IsNone (find_row x rows)
+IsAtomFault rows x Memory = Unit {0}
 
 -- how many live rows stand before the row x
 abbrev pub live_before : AtomIdValue → List DocRow → ℕ

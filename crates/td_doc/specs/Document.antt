@@ -6,7 +6,7 @@ use Rattle.std.specs.Option.{option_map}
 use Rattle.std.specs.Ordering.{is_eq}
 use Rattle.td_base.specs.declared.bit.Bit.TheVariants.{Right}
 use Rattle.td_base.specs.Value.{DotValue, AtomIdValue}
-use Rattle.td_base.specs.Order.{id_cmp}
+use Rattle.td_base.specs.Order.{dot_cmp, id_cmp}
 use Rattle.td_path.specs.Infix.{Pair, Pairs, path_cmp}
 
 -- a row: its path, its atom, and the dots of the deletes that named it, in their order
@@ -77,3 +77,5 @@ pub record IsDocument (rows : List DocRow) : Type 0 where
   -- each nonempty proper front of a row's path is the path of a row
   pub rooted : (r : DocRow) (front : Pairs) (next : Pair) (rest : Pairs) → In r rows → r.path ≡ front ++ next ∷ rest → front ≢ []
       → (s : DocRow) × In s rows × (s.path ≡ front)
+  -- delete dots are a set, told in their order
+  pub deletes : (r : DocRow) → In r rows → Successive (λ (d e : DotValue). dot_cmp d e ≡ Less) r.deletes

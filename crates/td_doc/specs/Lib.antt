@@ -1,8 +1,14 @@
 pub mod Document
 pub mod Slots
 pub mod Allocation
+pub mod Array
 pub mod Insertion
+pub mod Deletion
+pub mod Flatten
 pub mod Answers
+pub mod RowParts
+pub mod Stretches
+pub mod Subtrees
 pub use Rattle.td_base.specs.Value
 pub use Rattle.td_base.specs.Order
 pub use Rattle.td_path.specs.Infix

@@ -1,13 +1,18 @@
 -- Slots, read in one document.
-use Rattle.std.specs.Prelude.{List, [], ◌∷◌, Bool, filter, Option, Some, None}
-use Rattle.std.specs.Option.{option_map}
+use Rattle.std.specs.Prelude.{ℕ, List, [], ◌∷◌, Bool, true, false, ◌&&◌, ◌||◌, filter, Option, Some, None}
+use Rattle.std.specs.List.{list_all}
+use Rattle.std.specs.Option.{option_map, is_some}
+use Rattle.std.specs.Ordering.{is_eq}
+use Rattle.td_base.specs.Value.{AtomIdValue}
+use Rattle.td_base.specs.Order.{id_cmp, bit_cmp}
+use Rattle.td_clock.specs.Vector.{vector_has}
 use Rattle.td_path.specs.Infix.{Pairs}
 use Rattle.td_path.specs.SlotPaths.{slot_contains}
 use Rattle.td_path.specs.declared.slot.Slot.{Slot}
 use Rattle.td_path.specs.declared.slot.Slot.TheVariants.{Root, At}
 use Rattle.td_path.specs.declared.slot_path.SlotPath.{SlotPath}
 use Rattle.td_path.specs.declared.slot_path.SlotPath.TheVariants.{Whole, Below}
-use Rattle.td_doc.specs.Document.{DocRow, find_row, is_empty_list}
+use Rattle.td_doc.specs.Document.{DocRow, row_id, find_row, is_empty_list}
 
 -- the slot by the path of its atom, where the atom is a row
 abbrev pub slot_path : List DocRow → Slot → Option SlotPath
@@ -34,3 +39,38 @@ last_slot slot (p ∷ q ∷ path) = last_slot (At p.1 q.0) (q ∷ path)
 -- the slot in which the row stands
 abbrev pub own_slot : DocRow → Slot
 own_slot r = last_slot Root r.path
+
+-- whether x is a row in the slot
+abbrev pub is_within : List DocRow → AtomIdValue → Slot → Bool
+is_within rows x slot = is_some (find_row x (rows_in_slot rows slot))
+
+abbrev pub same_slot : Slot → Slot → Bool
+same_slot Root Root = true
+same_slot Root (At y c) = false
+same_slot (At x b) Root = false
+same_slot (At x b) (At y c) = is_eq (id_cmp x y) && is_eq (bit_cmp b c)
+
+-- whether the slot's atom is a row in s
+abbrev pub is_atom_within : List DocRow → Slot → Slot → Bool
+is_atom_within rows s Root = false
+is_atom_within rows s (At y bit) = is_within rows y s
+
+abbrev pub is_root : Slot → Bool
+is_root Root = true
+is_root (At x bit) = false
+
+-- whether the slot s contains the slot t: they are one, or s is the root, or the atom of t is a row in s
+abbrev pub contains_slot : List DocRow → Slot → Slot → Bool
+contains_slot rows s t = same_slot s t || is_root s || is_atom_within rows s t
+
+-- whether one of the two contains the other
+abbrev pub overlaps : List DocRow → Slot → Slot → Bool
+overlaps rows s t = contains_slot rows s t || contains_slot rows t s
+
+-- whether the vector has the dot of the row's identity and its delete dots
+abbrev pub is_known_row : List ℕ → DocRow → Bool
+is_known_row v r = vector_has v (row_id r).dot && list_all (vector_has v) r.deletes
+
+-- whether the vector has all that was done to the rows in the slot
+abbrev pub is_known : List DocRow → Slot → List ℕ → Bool
+is_known rows slot v = list_all (is_known_row v) (rows_in_slot rows slot)

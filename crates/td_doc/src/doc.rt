@@ -1,12 +1,15 @@
 ghost use Rattle.std.specs.Prelude.{◌≡◌, ◌↔◌, List, [], length, IfOk, IfErr, OnOk, OnErr, IsNone, MatchOption};
 ghost use Rattle.td_doc.specs.Document.{DocRow, find_row, live_id_at, live_rows};
-ghost use Rattle.td_doc.specs.Slots.{is_empty_slot};
+ghost use Rattle.td_doc.specs.Slots.{is_empty_slot, is_within, overlaps, is_known};
 ghost use Rattle.td_doc.specs.Allocation.{id_after};
-ghost use Rattle.td_doc.specs.Insertion.{insert_atom};
-ghost use Rattle.td_doc.specs.Answers.{IsRow, IsRooted, IsSlotFault, row_told};
+ghost use Rattle.td_doc.specs.Insertion.{insert_atom, insert_run};
+ghost use Rattle.td_doc.specs.Deletion.{delete, delete_at};
+ghost use Rattle.td_doc.specs.Flatten.{flatten};
+ghost use Rattle.td_doc.specs.Answers.{IsRow, IsRooted, IsFresh, IsSlotFault, IsAtomFault, row_told};
 
 use std::alloc::Global;
-use td_base::{Atom, AtomId, Memory};
+use td_base::{Atom, AtomId, Dot, Memory, Run};
+use td_clock::Vector;
 use td_path::Slot;
 
 /// Why a document refuses a change. It is as before then.
@@ -58,6 +61,26 @@ pub trait Doc: Sized {
         ensures fault { IfErr result (IsSlotFault (rows self.old) slot) }
         ensures err { OnErr result (rows self.new ≡ rows self.old) };
 
+    /// Puts the array of an insert's run in a slot. Its atoms have the dot of the insert and their places in the run as
+    /// identities.
+    fn insert_run(&mut self, slot: Slot, dot: Dot, run: Run) -> Result<(), DocFault>
+        requires { IsFresh (rows self.old) dot }
+        ensures ok { OnOk result (IsRooted (rows self.old) slot × (rows self.new ≡ insert_run slot dot run (rows self.old))) }
+        ensures fault { IfErr result (IsSlotFault (rows self.old) slot) }
+        ensures err { OnErr result (rows self.new ≡ rows self.old) };
+
+    /// Adds the dot of a delete to a row, which is a tombstone from then on.
+    fn delete(&mut self, id: AtomId, by: Dot) -> Result<(), DocFault>
+        ensures ok { OnOk result (IsRow (rows self.old) id × (rows self.new ≡ delete id by (rows self.old))) }
+        ensures fault { IfErr result (IsAtomFault (rows self.old) id) }
+        ensures err { OnErr result (rows self.new ≡ rows self.old) };
+
+    /// Makes an array of the live rows of a slot, and drops its tombstones.
+    fn flatten(&mut self, slot: Slot) -> Result<(), DocFault>
+        ensures ok { OnOk result (IsRooted (rows self.old) slot × (rows self.new ≡ flatten slot (rows self.old))) }
+        ensures fault { IfErr result (IsSlotFault (rows self.old) slot) }
+        ensures err { OnErr result (rows self.new ≡ rows self.old) };
+
     /// The number of rows, tombstones included. Takes no memory, like all calls below.
     fn rows(&self) -> u32
         ensures { result ≡ length (rows self.now) };
@@ -79,7 +102,26 @@ pub trait Doc: Sized {
         requires { MatchOption id (Unit {0}) (IsRow (rows self.now)) }
         ensures { result ≡ id_after (rows self.now) id };
 
+    /// The k-th dot, from 0 and in the order of dots, of the deletes that named a row; none where the atom is no row.
+    fn delete_at(&self, id: AtomId, k: u32) -> Option<Dot>
+        ensures { result ≡ delete_at (rows self.now) id k };
+
     /// Whether the slot contains no row.
     fn slot_empty(&self, slot: Slot) -> bool
         ensures { result ≡ is_empty_slot (rows self.now) slot };
+
+    /// Whether the atom is a row in the slot.
+    fn within(&self, id: AtomId, slot: Slot) -> bool
+        ensures { result ≡ is_within (rows self.now) id slot };
+
+    /// Whether one of the two slots contains the other.
+    fn overlaps(&self, a: Slot, b: Slot) -> bool
+        requires first { IsRooted (rows self.now) a }
+        requires second { IsRooted (rows self.now) b }
+        ensures { result ≡ overlaps (rows self.now) a b };
+
+    /// Whether the vector has all that was done to the rows in the slot: the dots of their identities and of the deletes that
+    /// named them.
+    fn known(&self, slot: Slot, v: &Vector) -> bool
+        ensures { result ≡ is_known (rows self.now) slot v.now };
 }

@@ -1,10 +1,15 @@
-ghost use Rattle.std.specs.Prelude.{◌≡◌, ◌≢◌, []};
+ghost use Rattle.std.specs.Prelude.{◌≡◌, ◌≢◌, [], OnErr, OnOk};
 ghost use Rattle.td_doc.specs.Document.{has_id, is_live, row_id};
-ghost use Rattle.td_doc.specs.Slots.{own_slot};
+ghost use Rattle.td_doc.specs.Slots.{is_known_row, own_slot};
+ghost use Rattle.td_doc.specs.Array.{named};
+ghost use Rattle.td_doc.specs.Deletion.{add_dot};
 
+use crate::dots::{add_dot, has_all};
+use crate::named_atom::NamedAtom;
 use std::alloc::Global;
 use std::marker::Model;
-use td_base::{Atom, AtomId, Dot};
+use td_base::{Atom, AtomId, Dot, Memory};
+use td_clock::Vector;
 use td_path::{Path, Slot};
 
 /// A row with its whole path. Contracts see the row.
@@ -56,6 +61,32 @@ impl PathRow {
         ensures { result ≡ is_live self.now }
     {
         self.deletes.is_empty()
+    }
+
+    /// The atom of the row, with its identity.
+    pub fn named(&self) -> NamedAtom
+        ensures { result ≡ named self.now }
+    {
+        NamedAtom {
+            id: self.id(),
+            atom: self.atom,
+        }
+    }
+
+    /// Whether the vector has the dot of the row's identity and its delete dots.
+    pub fn is_known(&self, v: &Vector) -> bool
+        ensures { result ≡ is_known_row v.now self.now }
+    {
+        v.has(self.id().dot) && has_all(v, &self.deletes)
+    }
+
+    /// Adds the dot of a delete, unless it is there.
+    pub fn add_delete(&mut self, by: Dot) -> Result<(), Memory>
+        ensures ok { OnOk result (self.new ≡ record self.old { deletes = add_dot by self.old.deletes }) }
+        ensures path { self.new.path ≡ self.old.path }
+        ensures err { OnErr result (self.new ≡ self.old) }
+    {
+        add_dot(&mut self.deletes, by)
     }
 
     /// The slot in which the row stands.

@@ -1,16 +1,22 @@
-ghost use Rattle.std.specs.Prelude.{◌≡◌, ◌+◌, ◌++◌, ◌∷◌, [], length, IfErr, IfOk, IsSomeAnd, OnErr, OnOk};
-ghost use Rattle.td_path.specs.SlotPaths.{path_in};
+ghost use Rattle.std.specs.Prelude.{◌≡◌, IfErr, OnErr, OnOk};
 ghost use Rattle.td_doc.specs.Slots.{slot_path};
-ghost use Rattle.td_doc.specs.Insertion.{put_row};
+ghost use Rattle.td_doc.specs.Insertion.{put_array_below};
 ghost use Rattle.td_doc.specs.Answers.{IsRooted, IsSlotFault};
+ghost use Rattle.td_doc.specs.RowParts.{AreNew};
 
+use crate::array::{array, run_atoms};
 use crate::doc::{Doc, DocFault, Row};
+use crate::flatten::flatten_rows;
+use crate::insertion::{make_room, put_rows};
+use crate::named_atom::NamedAtom;
 use crate::path_row::PathRow;
-use crate::search::{count_live, find_row, live_at, live_before, next_id, place_of, slot_is_empty};
+use crate::search::{count_live, find_row, live_at, live_before, next_id, place_of_id};
+use crate::slots::{is_known, is_within, slot_is_empty, slot_path, slots_overlap};
 use std::alloc::Global;
 use std::marker::Model;
-use td_base::{Atom, AtomId, Bit, Memory};
-use td_path::{Path, Slot};
+use td_base::{Atom, AtomId, Dot, Memory, Run};
+use td_clock::Vector;
+use td_path::Slot;
 
 /// The plain document: a vector of rows with whole paths, in infix order. Each call looks through all rows, so it is for
 /// small documents and for comparison.
@@ -21,14 +27,15 @@ pub struct Rows {
 }
 
 impl Model for Rows {
-    ghost use Rattle.std.specs.Prelude.{List, ◌<◌, ◌^◌, length};
+    ghost use Rattle.std.specs.Prelude.{List};
     ghost use Rattle.td_doc.specs.Document.{DocRow};
+    ghost use Rattle.td_doc.specs.RowParts.{IsRowParts};
 
     ghost Value = { List DocRow };
 
     ghost view = { λ d. d.rows.items };
 
-    ghost invariant = { λ d. length d.rows.items < 2 ^ 32 };
+    ghost invariant = { λ d. IsRowParts d.rows.items };
 }
 
 impl Doc for Rows {
@@ -42,12 +49,24 @@ impl Doc for Rows {
     }
 
     fn insert(&mut self, slot: Slot, id: AtomId, atom: Atom) -> Result<(), DocFault> {
-        let path = new_path(self.alloc, &self.rows, slot, id)?;
-        let row = PathRow::new(self.alloc, path, atom);
-        if self.rows.len() >= u32::MAX as usize {
-            return Err(DocFault::Memory);
+        self.put_array(slot, &[NamedAtom { id, atom }])
+    }
+
+    fn insert_run(&mut self, slot: Slot, dot: Dot, run: Run) -> Result<(), DocFault> {
+        let atoms = run_atoms(self.alloc, dot, &run)?;
+        self.put_array(slot, &atoms)
+    }
+
+    fn delete(&mut self, id: AtomId, by: Dot) -> Result<(), DocFault> {
+        match place_of_id(&self.rows, id) {
+            Some(place) => Ok(self.rows[place].add_delete(by)?),
+            None => Err(DocFault::Gone { id }),
         }
-        put_row(&mut self.rows, row)?;
+    }
+
+    fn flatten(&mut self, slot: Slot) -> Result<(), DocFault> {
+        let slot = slot_path(self.alloc, &self.rows, slot)?;
+        flatten_rows(self.alloc, &mut self.rows, &slot)?;
         Ok(())
     }
 
@@ -81,41 +100,42 @@ impl Doc for Rows {
         }
     }
 
+    fn delete_at(&self, id: AtomId, k: u32) -> Option<Dot> {
+        match find_row(&self.rows, id) {
+            Some(row) => row.deletes.get(k as usize).copied(),
+            None => None,
+        }
+    }
+
     fn slot_empty(&self, slot: Slot) -> bool {
         slot_is_empty(&self.rows, slot)
     }
-}
 
-// The path of an atom that is put in the slot.
-fn new_path(alloc: Global, rows: &[PathRow], slot: Slot, id: AtomId) -> Result<Path, DocFault>
-    ensures ok { IfOk result (λ path. IsSomeAnd (slot_path rows.now slot) (λ s. path ≡ path_in s id)) }
-    ensures rooted { OnOk result (IsRooted rows.now slot) }
-    ensures fault { IfErr result (IsSlotFault rows.now slot) }
-{
-    match slot {
-        Slot::Root => child(Path::new(alloc), Bit::Right, id),
-        Slot::At { atom, bit } => match find_row(rows, atom) {
-            Some(row) => child(row.path.try_clone()?, bit, id),
-            None => Err(DocFault::Gone { id: atom }),
-        },
+    fn within(&self, id: AtomId, slot: Slot) -> bool {
+        is_within(&self.rows, id, &slot)
+    }
+
+    fn overlaps(&self, a: Slot, b: Slot) -> bool {
+        slots_overlap(&self.rows, a, b)
+    }
+
+    fn known(&self, slot: Slot, v: &Vector) -> bool {
+        is_known(&self.rows, slot, v)
     }
 }
 
-fn child(mut path: Path, bit: Bit, id: AtomId) -> Result<Path, DocFault>
-    ensures ok { IfOk result (λ child. child ≡ path ++ (bit, id) ∷ []) }
-    ensures fault { IfErr result (λ fault. fault ≡ DocFault.Memory) }
-{
-    path.push(bit, id)?;
-    Ok(path)
-}
-
-// Puts the row where the infix order has it.
-fn put_row(rows: &mut Vec<PathRow>, row: PathRow) -> Result<(), Memory>
-    ensures ok { OnOk result (rows.new.items ≡ put_row row rows.old.items) }
-    ensures len { OnOk result (length rows.new.items ≡ length rows.old.items + 1) }
-    ensures memory { OnErr result (rows.new.items ≡ rows.old.items) }
-{
-    let at = place_of(rows, &row);
-    rows.insert(at, row)?;
-    Ok(())
+impl Rows {
+    // Puts the array of the atoms in the slot.
+    fn put_array(&mut self, slot: Slot, atoms: &[NamedAtom]) -> Result<(), DocFault>
+        requires { AreNew self.old atoms.now }
+        ensures ok { OnOk result (IsRooted self.old slot × (self.new ≡ put_array_below (slot_path self.old slot) atoms.now self.old)) }
+        ensures fault { IfErr result (IsSlotFault self.old slot) }
+        ensures err { OnErr result (self.new ≡ self.old) }
+    {
+        let slot = slot_path(self.alloc, &self.rows, slot)?;
+        let new = array(self.alloc, &slot, atoms)?;
+        make_room(&mut self.rows, new.len())?;
+        put_rows(&mut self.rows, new);
+        Ok(())
+    }
 }

@@ -1,24 +1,30 @@
 // What a document asks of its rows, as a walk over all of them.
 ghost use Rattle.std.specs.Prelude.{◌≡◌, ◌<◌, ◌≤◌, length, IfSome};
 ghost use Rattle.std.specs.Option.{option_copied};
-ghost use Rattle.std.specs.List.{list_any, position, position_or_len};
+ghost use Rattle.std.specs.List.{position, position_or_len};
 ghost use Rattle.std.specs.Ordering.{is_lt};
 ghost use Rattle.td_path.specs.Infix.{path_cmp};
-ghost use Rattle.td_path.specs.SlotPaths.{goes_on};
-ghost use Rattle.td_doc.specs.Document.{DocRow, find_row, live_id_at, live_rows};
-ghost use Rattle.td_doc.specs.Slots.{is_empty_slot};
+ghost use Rattle.td_doc.specs.Document.{DocRow, find_row, has_id, live_id_at, live_rows};
 ghost use Rattle.td_doc.specs.Allocation.{next_id};
 ghost use Rattle.td_doc.specs.Answers.{live_before};
 
 use crate::path_row::PathRow;
-use td_base::{AtomId, Bit};
-use td_path::{Path, Slot, goes_on, infix};
+use td_base::AtomId;
+use td_path::infix;
 
 /// The row of an atom.
 pub fn find_row(rows: &[PathRow], id: AtomId) -> Option<&PathRow>
     ensures { option_copied result ≡ find_row id rows.now }
 {
     rows.iter().find(|row| row.has_id(id))
+}
+
+/// The place of the row of an atom.
+pub fn place_of_id(rows: &[PathRow], id: AtomId) -> Option<usize>
+    ensures value { result ≡ position (has_id id) rows.now }
+    ensures bound { IfSome result (λ place. place < length rows.now) }
+{
+    rows.iter().position(|row| row.has_id(id))
 }
 
 /// How many rows stand before a new row.
@@ -92,25 +98,4 @@ pub fn next_id(rows: &[PathRow], id: AtomId) -> Option<AtomId>
         is_next = row.has_id(id);
     }
     None
-}
-
-/// Whether no row is in the slot.
-#[tactic(auto, using(crate::proofs::RowLists::none_pass, crate::proofs::RowLists::none_of_all))]
-pub fn slot_is_empty(rows: &[PathRow], slot: Slot) -> bool
-    ensures { result ≡ is_empty_slot rows.now slot }
-{
-    match slot {
-        Slot::Root => rows.is_empty(),
-        Slot::At { atom, bit } => match find_row(rows, atom) {
-            Some(row) => !has_row_below(rows, &row.path, bit),
-            None => true,
-        },
-    }
-}
-
-// Whether a row hangs on this side of the node at the path.
-fn has_row_below(rows: &[PathRow], path: &Path, bit: Bit) -> bool
-    ensures { result ≡ list_any (λ (r : DocRow). goes_on path.now bit r.path) rows.now }
-{
-    rows.iter().any(|row| goes_on(path, bit, &row.path))
 }

@@ -1,12 +1,25 @@
+ghost use Rattle.std.specs.Prelude.{◌≡◌, IfOk};
+
+mod drawn;
+mod runs;
+
 use super::*;
+use std::alloc::Global;
 use std::process::Abort;
 use std::test::Fail;
-use td_base::{Atom, AtomId, Bit, Dot, Site};
+use td_base::{Atom, AtomId, Bit, Bytes, Dot, Run, Site};
+use td_clock::Vector;
 use td_path::Slot;
 
-fn id(site: u8, seq: u32) -> Result<AtomId, Fail> {
+fn dot(site: u8, seq: u32) -> Result<Dot, Fail>
+    ensures { IfOk result (λ dot. dot ≡ record { site = site; seq = seq }) }
+{
     let site = Site::new(site).ok_or("a site")?;
-    Ok(AtomId::of(Dot::new(site, seq).ok_or("a dot")?))
+    Ok(Dot::new(site, seq).ok_or("a dot")?)
+}
+
+fn id(site: u8, seq: u32) -> Result<AtomId, Fail> {
+    Ok(AtomId::of(dot(site, seq)?))
 }
 
 fn at(atom: AtomId, bit: Bit) -> Slot {
@@ -30,11 +43,11 @@ fn an_atom_of_no_row_is_gone(rt: HostRuntime) -> Result<(), Fail> {
     put(&rt, &mut doc, Slot::Root, id(1, 1)?, "a")?;
     let new = id(1, 2)?;
     let gone = id(2, 7)?;
+    let fault = Err(DocFault::Gone { id: gone });
     assert!(rt; doc.find(new).is_none());
-    assert_eq!(rt;
-        doc.insert(at(gone, Bit::Right), new, letter("b")?),
-        Err(DocFault::Gone { id: gone })
-    );
+    assert_eq!(rt; doc.insert(at(gone, Bit::Right), new, letter("b")?), fault);
+    assert_eq!(rt; doc.delete(gone, dot(1, 3)?), fault);
+    assert_eq!(rt; doc.flatten(at(gone, Bit::Left)), fault);
     assert_eq!(rt; doc.rows(), 1);
     Ok(())
 }
@@ -95,5 +108,43 @@ fn the_slot_of_what_is_placed_follows_the_table(rt: HostRuntime) -> Result<(), F
     assert!(rt; !doc.slot_empty(at(first, Bit::Right)));
     assert!(rt; doc.find(first).is_some());
     assert_eq!(rt; alloc_slot(&doc, Some(first)), at(second, Bit::Left));
+    Ok(())
+}
+
+#[test]
+fn a_deleted_atom_stays_until_a_flatten(rt: HostRuntime) -> Result<(), Fail> {
+    let mut doc = Rows::empty(rt.alloc())?;
+    let first = id(1, 1)?;
+    put(&rt, &mut doc, Slot::Root, first, "a")?;
+    put(&rt, &mut doc, at(first, Bit::Right), id(1, 2)?, "b")?;
+    for by in [dot(2, 1)?, dot(1, 3)?, dot(2, 1)?] {
+        assert_eq!(rt; doc.delete(first, by), Ok(()));
+    }
+    assert_eq!(rt; (doc.rows(), doc.live()), (2, 1));
+    assert_eq!(rt; doc.delete_at(first, 0), Some(dot(1, 3)?));
+    assert_eq!(rt; doc.delete_at(first, 1), Some(dot(2, 1)?));
+    assert_eq!(rt; doc.delete_at(first, 2), None);
+    assert!(rt; doc.within(id(1, 2)?, at(first, Bit::Right)));
+    assert!(rt; !doc.within(first, at(first, Bit::Right)));
+    assert_eq!(rt; doc.flatten(Slot::Root), Ok(()));
+    assert_eq!(rt; (doc.rows(), doc.live()), (1, 1));
+    assert_eq!(rt; doc.find(id(1, 2)?).map(|row| row.slot), Some(Slot::Root));
+    Ok(())
+}
+
+#[test]
+fn a_slot_is_known_with_its_deletes(rt: HostRuntime) -> Result<(), Fail> {
+    let mut doc = Rows::empty(rt.alloc())?;
+    let first = id(1, 1)?;
+    put(&rt, &mut doc, Slot::Root, first, "a")?;
+    put(&rt, &mut doc, at(first, Bit::Right), id(1, 2)?, "b")?;
+    assert_eq!(rt; doc.delete(first, dot(2, 1)?), Ok(()));
+    let right = at(first, Bit::Right);
+    let mut v = Vector::new(2);
+    assert!(rt; !doc.known(Slot::Root, &v) && !doc.known(right, &v));
+    v.set(Site::new(1).ok_or("site 1")?, 2);
+    assert!(rt; !doc.known(Slot::Root, &v) && doc.known(right, &v));
+    v.set(Site::new(2).ok_or("site 2")?, 1);
+    assert!(rt; doc.known(Slot::Root, &v) && doc.known(right, &v));
     Ok(())
 }

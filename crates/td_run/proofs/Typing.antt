@@ -13,7 +13,7 @@ use Rattle.td_run.specs.Editor.{plain_list, Outcome, after_one, insert_text, ins
 use Rattle.td_run.specs.Site.{SiteState, new_site, next_atom, typed_at, treedoc, IsSite}
 
 pub new_is_site : IsSite new_site
-new_is_site = record { document = record { ascending = tt; apart = tt; paths = λ r i. absurd i; rooted = λ r front next rest i e some. absurd i }; own = λ r i. absurd i }
+new_is_site = record { document = record { ascending = tt; apart = tt; paths = λ r i. absurd i; rooted = λ r front next rest i e some. absurd i; deletes = λ r i. absurd i }; own = λ r i. absurd i }
 
 -- the next atom is no row yet
 pub next_is_new : (s : SiteState) → IsSite s → IsNone (find_row (next_atom s.made) s.rows)

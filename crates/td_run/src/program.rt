@@ -23,7 +23,8 @@ const USAGE: &[u8] = b"usage: treedoc play | live | kept | check | gen SIZE NUMB
 const FAULT: &[u8] = b"fault 0 form\n";
 
 /// Runs the program: with the one word `play`, reads a script from the source and puts what its commands print into the
-/// sink. The sink takes the whole output that goes with the status, or where that is `Memory` or `Write` a front of it.
+/// sink. The sink takes the whole output that goes with the status; where that is `Write` a front of it, and where it is
+/// `Memory` or `Read` nothing.
 pub fn run_plain<S: Source, K: Sink>(
     alloc: Global,
     words: &[Bytes],

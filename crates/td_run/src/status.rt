@@ -6,7 +6,7 @@ ghost use Rattle.td_run.specs.Number.{status_number};
 pub enum Status {
     /// The input was read to its end, and the whole output was written.
     Done,
-    /// Memory ran out. A front of the output may have been written.
+    /// Memory ran out, and nothing was written.
     Memory,
     /// The words are no command, and the usage line was written.
     Usage,

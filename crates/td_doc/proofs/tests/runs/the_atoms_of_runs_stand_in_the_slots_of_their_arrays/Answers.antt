@@ -1,0 +1,22 @@
+use Rattle.std.proofs.Common.{◌≡◌, ◌≢◌, ◌<◌, ℕ, List, sym, ap, subst, arith}
+use Rattle.td_base.specs.Value.{DotValue}
+use Rattle.td_doc.specs.Document.{DocRow}
+use Rattle.td_doc.specs.Answers.{IsFresh}
+use Rattle.td_doc.proofs.tests.runs.the_atoms_of_runs_stand_in_the_slots_of_their_arrays.Goals as goal
+
+later : (d e : DotValue) (m n : ℕ) → d ≡ record { site = 1; seq = m } → e ≡ record { site = 1; seq = n } → m < n → e ≢ d
+later d e m n is_d is_e less same = omega (arith, less, ap (λ (x : DotValue). x.seq) same, ap (λ (x : DotValue). x.seq) is_d, ap (λ (x : DotValue). x.seq) is_e)
+
+pub put_run-requires-2 : goal.put_run-requires-2
+put_run-requires-2 g c =
+    let first = c.in_ok-first.first in
+    let second = c.in_ok-second.second in
+    c.put_run.ensures second (later first second 1 2 c.in_ok-first.ensures c.in_ok-second.ensures (omega arith)) (subst (λ (rows : List DocRow). IsFresh rows second) (sym c.in_ok-doc.ensures) tt)
+
+pub put_run-requires-3 : goal.put_run-requires-3
+put_run-requires-3 g c =
+    let first = c.in_ok-first.first in
+    let second = c.in_ok-second.second in
+    let third = c.in_ok-third.third in
+    c.put_run-2.ensures third (later second third 2 3 c.in_ok-second.ensures c.in_ok-third.ensures (omega arith))
+    (c.put_run.ensures third (later first third 1 3 c.in_ok-first.ensures c.in_ok-third.ensures (omega arith)) (subst (λ (rows : List DocRow). IsFresh rows third) (sym c.in_ok-doc.ensures) tt))

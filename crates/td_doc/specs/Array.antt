@@ -1,0 +1,42 @@
+-- Arrays: how a list of atoms becomes a subtree (the "explode" of Preguiça et al. 2009).
+use Rattle.std.specs.Prelude.{ℕ, zero, suc, ◌/◌, List, [], ◌∷◌, ◌++◌, length, take, drop}
+use Rattle.td_base.specs.declared.bit.Bit.TheVariants.{Left, Right}
+use Rattle.td_base.specs.Value.{DotValue, AtomIdValue}
+use Rattle.td_path.specs.SlotPaths.{path_in}
+use Rattle.td_path.specs.declared.slot_path.SlotPath.{SlotPath}
+use Rattle.td_path.specs.declared.slot_path.SlotPath.TheVariants.{Below}
+use Rattle.td_doc.specs.Document.{DocRow, row_id}
+
+-- an atom with its identity
+pub record NamedAtom : Type 0 where
+  pub id : AtomIdValue
+  pub atom : List ℕ
+
+abbrev pub named : DocRow → NamedAtom
+named r = record { id = row_id r; atom = r.atom }
+
+-- the live row of an atom that stands right in the slot
+abbrev pub row_in : SlotPath → NamedAtom → DocRow
+row_in slot a = record { path = path_in slot a.id; atom = a.atom; deletes = [] }
+
+-- the first of the rest stands in the slot, what is before it in its left slot and what is after it in its right slot
+abbrev pub around : (SlotPath → List NamedAtom → List DocRow) → SlotPath → List NamedAtom → List NamedAtom → List DocRow
+around array slot before [] = []
+around array slot before (middle ∷ after) =
+    array (Below (path_in slot middle.id) Left) before ++ row_in slot middle ∷ array (Below (path_in slot middle.id) Right) after
+
+-- the rows of these atoms in the slot, halved at each node. The number is at least how many they are
+abbrev pub array_upto : ℕ → SlotPath → List NamedAtom → List DocRow
+array_upto zero slot atoms = []
+array_upto (suc n) slot atoms = around (array_upto n) slot (take (length atoms / 2) atoms) (drop (length atoms / 2) atoms)
+
+abbrev pub array : SlotPath → List NamedAtom → List DocRow
+array slot atoms = array_upto (length atoms) slot atoms
+
+-- the atoms of an insert: those of its run, whose identities are its dot and their places
+abbrev pub run_atoms_from : DotValue → ℕ → List (List ℕ) → List NamedAtom
+run_atoms_from dot offset [] = []
+run_atoms_from dot offset (atom ∷ run) = record { id = record { dot = dot; offset = offset }; atom = atom } ∷ run_atoms_from dot (suc offset) run
+
+abbrev pub run_atoms : DotValue → List (List ℕ) → List NamedAtom
+run_atoms dot run = run_atoms_from dot 0 run
