@@ -1,0 +1,12 @@
+pub mod Exact
+pub mod Bytes
+pub mod Fields
+pub mod Utf8
+pub mod Texts
+pub mod Runs
+pub mod Operations
+pub mod Messages
+pub mod Decoding
+pub mod Loops
+pub mod Sizes
+pub mod Buffers

@@ -1,0 +1,148 @@
+-- How long spellings are: at most 402 bytes.
+use Rattle.std.proofs.Common.{◌≡◌, ℕ, ◌+◌, ◌*◌, ◌<◌, ◌≤◌, List, [], ◌∷◌, ◌++◌, length, map, take, drop, get_or, add-one, Option, Some, refl, sym, ap, subst, ◌∙◌, append_assoc, arith}
+use Rattle.std.specs.Prelude.{slice_get}
+use Rattle.std.proofs.lemmas.Option.{slice_get-get_or}
+use Rattle.std.specs.List.{concat, flat_map}
+use Rattle.std.proofs.lemmas.List.{length-append, length-map, append-nil, map_push, take-append-drop, length-take-le}
+use Rattle.std.proofs.lemmas.List.Folds.{concat-append}
+use Rattle.std.proofs.Math.Seq.{take-suc}
+use Rattle.std.proofs.lemmas.List.Concat.{flat_map-cons, flat_map-append}
+use Rattle.td_base.specs.Run.{IsRun}
+use Rattle.td_base.specs.Value.{AtomIdValue}
+use Rattle.td_path.specs.declared.slot.Slot.{Slot}
+use Rattle.td_path.specs.declared.slot.Slot.TheVariants.{Root, At}
+use Rattle.td_op.specs.declared.body.Body.{Body}
+use Rattle.td_op.specs.declared.body.Body.TheVariants.{Insert, Delete, Propose, Commit, Abort}
+use Rattle.td_op.specs.declared.message.Message.{Message}
+use Rattle.td_op.specs.declared.message.Message.TheVariants.{Op, Vote}
+use Rattle.td_op.specs.declared.vote.Vote.{Vote as VoteValue}
+use Rattle.td_op.specs.Op.{OpValue}
+use Rattle.td_wire.specs.declared.format.Format.{Format}
+use Rattle.td_wire.specs.declared.format.Format.TheVariants.{One, Two}
+use Rattle.td_wire.specs.Message.{IsBody, IsMessage, CanSay}
+use Rattle.td_wire.specs.Spelling.{number_bytes, dot_bytes, identity_bytes, slot_bytes, run_bytes, deps_bytes, kind, body_bytes, op_bytes, vote_bytes, spelling, Spells}
+use Rattle.td_wire.proofs.Runs.{from_run}
+
+pub length_numbers : (v : List ℕ) → length (flat_map number_bytes v) ≡ 4 * length v
+length_numbers [] = refl
+length_numbers (n ∷ v) = let rest = length_numbers v in omega (arith, rest, ap length (flat_map-cons number_bytes n v), length-append (number_bytes n) (flat_map number_bytes v))
+
+identity_short : (f : Format) (x : AtomIdValue) → length (identity_bytes f x) ≤ 6
+identity_short One x = omega arith
+identity_short Two x = omega arith
+
+slot_short : (f : Format) (s : Slot) → length (slot_bytes f s) ≤ 8
+slot_short f Root = omega arith
+slot_short f (At atom b) = let i = identity_short f atom in omega arith
+
+run_short : (f : Format) (atoms : List (List ℕ)) → IsRun atoms → length (run_bytes f atoms) ≤ 129
+run_short One atoms r = let count = (from_run atoms r).0 in
+    omega (arith, length-append (map length atoms) (concat atoms), length-map atoms length, count.most, r.short)
+run_short Two atoms r = let count = (from_run atoms r).0 in
+    omega (arith, length-append (map length atoms) (concat atoms), length-map atoms length, count.most, r.short)
+
+body_short : (f : Format) (b : Body) → IsBody b → length (body_bytes f b) ≤ 137
+body_short f (Insert s atoms) h = let a = slot_short f s in let b = run_short f atoms h.1 in omega (arith, length-append (slot_bytes f s) (run_bytes f atoms), a, b)
+body_short f (Delete target) h = let i = identity_short f target in omega arith
+body_short f (Propose s) h = let a = slot_short f s in omega arith
+body_short f (Commit proposal) h = omega arith
+body_short f (Abort proposal) h = omega arith
+
+message_short : (f : Format) (m : Message) → IsMessage m → length (spelling f m) ≤ 402
+message_short One (Op o) h =
+    let b = body_short One o.body h.2 in let n = length_numbers o.deps in
+    omega (arith, b, n, h.1.short, length-append (dot_bytes o.dot ++ deps_bytes o.deps) (body_bytes One o.body))
+message_short Two (Op o) h =
+    let b = body_short Two o.body h.2 in let n = length_numbers o.deps in
+    omega (arith, b, n, h.1.short, length-append (dot_bytes o.dot ++ deps_bytes o.deps) (body_bytes Two o.body))
+message_short One (Vote v) h = omega arith
+message_short Two (Vote v) h = omega arith
+
+pub spelling_short : (f : Format) (m : Message) → CanSay f m → length (spelling f m) ≤ 402
+spelling_short One m h = message_short One m h.0
+spelling_short Two m h = message_short Two m h
+
+-- the numbers up to a place
+pub numbers_more : (v : List ℕ) (i : ℕ) → i < length v → flat_map number_bytes (take (i + 1) v) ≡ flat_map number_bytes (take i v) ++ number_bytes (get_or v i 0)
+numbers_more v i lt =
+    ap (flat_map number_bytes) (ap (λ (k : ℕ). take k v) (add-one i) ∙ take-suc v i 0 lt) ∙ flat_map-append number_bytes (take i v) (get_or v i 0 ∷ [])
+    ∙ ap (λ (ys : List ℕ). flat_map number_bytes (take i v) ++ ys) (flat_map-cons number_bytes (get_or v i 0) [] ∙ append-nil (number_bytes (get_or v i 0)))
+
+-- the lengths, and the bytes, of the atoms up to a place
+pub lengths_more : (atoms : List (List ℕ)) (i : ℕ) → i < length atoms → map length (take (i + 1) atoms) ≡ map length (take i atoms) ++ length (get_or atoms i []) ∷ []
+lengths_more atoms i lt = ap (map length) (ap (λ (k : ℕ). take k atoms) (add-one i) ∙ take-suc atoms i [] lt) ∙ map_push length (take i atoms) (get_or atoms i [])
+
+pub concat_more : (atoms : List (List ℕ)) (i : ℕ) → i < length atoms → concat (take (i + 1) atoms) ≡ concat (take i atoms) ++ get_or atoms i []
+concat_more atoms i lt =
+    ap concat (ap (λ (k : ℕ). take k atoms) (add-one i) ∙ take-suc atoms i [] lt) ∙ concat-append (take i atoms) (get_or atoms i [] ∷ [])
+    ∙ ap (λ (ys : List ℕ). concat (take i atoms) ++ ys) (append-nil (get_or atoms i []))
+
+pub concat_within : (atoms : List (List ℕ)) (i : ℕ) → length (concat (take i atoms)) ≤ length (concat atoms)
+concat_within atoms i =
+    let split = ap concat (take-append-drop i atoms) in
+    omega (arith, ap length split, ap length (concat-append (take i atoms) (drop i atoms)), length-append (concat (take i atoms)) (concat (drop i atoms)))
+
+-- an atom of a run has 64 bytes at most
+pub atom_short : (atoms : List (List ℕ)) (i : ℕ) → IsRun atoms → i < length atoms → length (get_or atoms i []) ≤ 64
+atom_short atoms i r lt = (r.each i [] lt).short
+
+pub count_short : (atoms : List (List ℕ)) → IsRun atoms → length atoms ≤ 64
+count_short atoms r = (from_run atoms r).0.most
+
+-- a piece behind what was written
+pub put_more : (old front piece next buffer new : List ℕ) → buffer ≡ old ++ front → new ≡ buffer ++ piece → next ≡ front ++ piece → new ≡ old ++ next
+put_more old front piece next buffer new before more is =
+    more ∙ ap (λ (ys : List ℕ). ys ++ piece) before ∙ append_assoc old front piece ∙ ap (λ (ys : List ℕ). old ++ ys) (sym is)
+
+-- the atom at a place
+pub atom_is : (atoms : List (List ℕ)) (i : ℕ) (found : Option (List ℕ)) (a : List ℕ) → i < length atoms → found ≡ slice_get atoms i → found ≡ Some a → a ≡ get_or atoms i []
+atom_is atoms i found a lt got some =
+    let both : Some a ≡ Some (get_or atoms i []) = sym some ∙ got ∙ slice_get-get_or atoms i [] lt in cc
+
+pub deps_room : (old v buffer : List ℕ) (i : ℕ) → length old ≤ 8 → length v ≤ 64 → i < length v → buffer ≡ old ++ length v ∷ flat_map number_bytes (take i v) → length buffer + 4 ≤ 402
+deps_room old v buffer i short size lt is =
+    omega (arith, short, size, lt, ap length is, length-append old (length v ∷ flat_map number_bytes (take i v)), length_numbers (take i v), length-take-le i v (omega (arith, lt)))
+
+pub lengths_room : (old : List ℕ) (atoms : List (List ℕ)) (buffer : List ℕ) (i : ℕ) → length old ≤ 273 → IsRun atoms → i < length atoms
+    → buffer ≡ old ++ length atoms ∷ map length (take i atoms) → length buffer < 402
+lengths_room old atoms buffer i short r lt is =
+    omega (arith, short, lt, count_short atoms r, ap length is, length-append old (length atoms ∷ map length (take i atoms)), length-map (take i atoms) length, length-take-le i atoms (omega (arith, lt)))
+
+pub run_room : (old : List ℕ) (atoms : List (List ℕ)) (buffer : List ℕ) (i : ℕ) → length old ≤ 273 → IsRun atoms → i < length atoms
+    → buffer ≡ (old ++ length atoms ∷ map length atoms) ++ concat (take i atoms) → length buffer + length (get_or atoms i []) ≤ 402
+run_room old atoms buffer i short r lt is =
+    omega (
+      arith,
+      short,
+      count_short atoms r,
+      ap length is,
+      length-append (old ++ length atoms ∷ map length atoms) (concat (take i atoms)),
+      length-append old (length atoms ∷ map length atoms),
+      length-map atoms length,
+      r.short,
+      concat_within atoms (i + 1),
+      ap length (concat_more atoms i lt),
+      length-append (concat (take i atoms)) (get_or atoms i []),
+    )
+
+pub deps_short : (old dot v buffer after_kind after_dot : List ℕ) (k : ℕ) → length old ≤ 2 → length v ≤ 64 → length dot ≡ 5 → after_kind ≡ old ++ k ∷ [] → after_dot ≡ after_kind ++ dot
+    → buffer ≡ after_dot ++ deps_bytes v → length buffer ≤ 265
+deps_short old dot v buffer after_kind after_dot k short size five first second third =
+    omega (arith, short, size, five, ap length first, length-append old (k ∷ []), ap length second, length-append after_kind dot, ap length third, length-append after_dot (deps_bytes v), length_numbers v)
+
+-- what is written behind the mark
+op_is : (o : OpValue) (buffer : List ℕ) → buffer ≡ spelling Two (Op o) → IsMessage (Op o) → Spells Two (Op o) buffer
+op_is o buffer is can = record { can = can; bytes_are = is }
+
+pub op_spelled : (m : Message) (o : OpValue) (empty start buffer : List ℕ) → m ≡ Op o → empty ≡ [] → start ≡ empty ++ 84 ∷ 50 ∷ [] → buffer ≡ start ++ kind o.body ∷ op_bytes Two o → IsMessage (Op o)
+    → Spells Two m buffer
+op_spelled m o empty start buffer e none first behind can =
+    let is : buffer ≡ spelling Two (Op o) = behind ∙ ap (λ (ys : List ℕ). ys ++ kind o.body ∷ op_bytes Two o) (first ∙ ap (λ (ys : List ℕ). ys ++ 84 ∷ 50 ∷ []) none) in
+    subst (λ (n : Message). Spells Two n buffer) (sym e) (op_is o buffer is can)
+
+pub vote_spelled : (m : Message) (v : VoteValue) (empty start buffer : List ℕ) → m ≡ Vote v → empty ≡ [] → start ≡ empty ++ 84 ∷ 50 ∷ [] → buffer ≡ start ++ 6 ∷ vote_bytes v → IsMessage (Vote v)
+    → Spells Two m buffer
+vote_spelled m v empty start buffer e none first behind can =
+    let is : buffer ≡ spelling Two (Vote v) = behind ∙ ap (λ (ys : List ℕ). ys ++ 6 ∷ vote_bytes v) (first ∙ ap (λ (ys : List ℕ). ys ++ 84 ∷ 50 ∷ []) none) in
+    let made : Spells Two (Vote v) buffer = record { can = can; bytes_are = is } in
+    subst (λ (n : Message). Spells Two n buffer) (sym e) made

@@ -1,0 +1,26 @@
+//! Packets: what a message is on a wire, and back.
+//!
+//! What comes over a wire is exactly one message, or it is refused at the first byte that no message has there. `encode`
+//! writes format 2; `decode` reads format 2 and the older format 1. Begin at `specs/Message.antt`, which says what the messages
+//! are, at `specs/Spelling.antt`, which has their spellings field by field and the place of a fault, and at `reading` for
+//! `decode`. That no bytes spell two messages is in `laws`.
+#![tactic(auto)]
+
+mod buffer;
+mod format;
+mod laws;
+mod operation;
+mod packet;
+mod reader;
+mod reading;
+mod run;
+mod text;
+mod writing;
+
+pub use laws::{decode_encoded, spellings_are_unique};
+pub use packet::{MAX_PACKET_LEN, Packet};
+pub use reading::{Malformed, decode};
+pub use writing::encode;
+
+#[cfg(test)]
+mod tests;

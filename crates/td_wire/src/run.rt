@@ -1,0 +1,64 @@
+ghost use Rattle.std.specs.Prelude.{◌≡◌, ◌<◌, ◌≤◌, length, sum, All, IfOk, MatchResult};
+ghost use Rattle.td_base.specs.declared.run.TheConstants.{MAX_RUN_LEN};
+ghost use Rattle.td_wire.specs.Reading.{Gives, run_at, lengths_at, atoms_at};
+
+use crate::format::Format;
+use crate::reader::{Fault, Reader};
+use td_base::{MAX_RUN_LEN, Run};
+
+const MAX_LEN: u8 = MAX_RUN_LEN as u8;
+
+impl<'a> Reader<'a> {
+    #[tactic(auto, unfolding(crate::specs::Reading::run_at))]
+    pub(crate) fn run(&mut self, format: Format) -> Result<Run, Fault>
+        ensures { Gives result self.new.rest.now (run_at format self.old.rest.now) }
+    {
+        match format {
+            Format::One => {
+                let len = self.byte(1, MAX_LEN)?;
+                let atom = self.atom(len)?;
+                Ok(Run::one(atom))
+            }
+            Format::Two => {
+                let count = self.byte(1, MAX_LEN)?;
+                let lengths = self.lengths(count)?;
+                self.atoms(lengths)
+            }
+        }
+    }
+
+    // So many lengths of atoms that have at most `MAX_LEN` bytes together.
+    fn lengths(&mut self, count: u8) -> Result<&'a [u8], Fault>
+        requires { count ≤ MAX_RUN_LEN }
+        ensures read { MatchResult result (λ lengths. lengths_at count 64 self.old.rest.now ≡ Ok (lengths.now, self.new.rest.now))
+            (λ fault. lengths_at count 64 self.old.rest.now ≡ Err fault.left) }
+        ensures count { IfOk result (λ lengths. length lengths.now ≡ count) }
+        ensures each { IfOk result (λ lengths. All (λ len. 1 ≤ len) lengths.now) }
+        ensures together { IfOk result (λ lengths. sum lengths.now ≤ MAX_RUN_LEN) }
+    {
+        let bytes = self.rest;
+        let mut room = MAX_LEN;
+        for i in 0..count {
+            // each atom behind this one has a byte at least
+            let behind = count - i - 1;
+            room -= self.byte(1, room - behind)?;
+        }
+        Ok(&bytes[..count as usize])
+    }
+
+    // The atoms with these lengths, one after another.
+    fn atoms(&mut self, lengths: &[u8]) -> Result<Run, Fault>
+        requires some { 0 < length lengths.now }
+        requires few { length lengths.now ≤ MAX_RUN_LEN }
+        requires each { All (λ len. 1 ≤ len) lengths.now }
+        requires together { sum lengths.now ≤ MAX_RUN_LEN }
+        ensures { Gives result self.new.rest.now (atoms_at lengths.now self.old.rest.now) }
+    {
+        let first = self.atom(lengths[0])?;
+        let mut atoms = [first; MAX_RUN_LEN];
+        for i in 1..lengths.len() {
+            atoms[i] = self.atom(lengths[i])?;
+        }
+        Ok(Run::new(&atoms[..lengths.len()]).ok().unwrap())
+    }
+}
