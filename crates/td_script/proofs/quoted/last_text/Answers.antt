@@ -1,0 +1,49 @@
+use Rattle.std.proofs.Common.{ℕ, List, drop, Some, None, string_bytes, true, ap, subst, ◌∙◌, length-drop, arith}
+use Rattle.std.proofs.lemmas.Str.Pattern.{strip_prefix_char}
+use Rattle.unicode_segmentation.specs.Grapheme.{graphemes}
+use Rattle.td_script.specs.Arguments.{Reading, behind, last}
+use Rattle.td_script.specs.Texts.{IsFirstLong}
+use Rattle.td_script.proofs.TextReading.{no_opening, read_text, long_text, text_then_last, last_left, last_done}
+use Rattle.td_script.proofs.quoted.last_text.Goals as goal
+
+pub returns-in_default : goal.returns-in_default
+returns-in_default c =
+    let all = c.in_ok-argument.argument.now in
+    ap (λ (r : Reading (List (List ℕ))). behind r last) (no_opening c.args.rest.now all c.in_ok-argument.ensures (strip_prefix_char 34 all None c.in_default.ensures.cases (omega arith)))
+
+pub returns-in-Err-Long : goal.returns-in-Err-Long
+returns-in-Err-Long c =
+    let rest = c.args.rest.now in
+    let all = c.in_ok-argument.argument.now in
+    let inner = c.in-Some.quoted.now in
+    let text = string_bytes c.in-Some-2.text in
+    let left = drop c.in-Some-2.len inner in
+    let opens = strip_prefix_char 34 all (Some c.in-Some.quoted) c.in-Some.ensures.cases (omega arith) in
+    let read = rw c.in-Some-2.is at c.in_ok-text.ensures.some in
+    let long = rw c.in-Err-Long.field-0-is at c.in-Err-Long.ensures.fault in
+    long_text rest text left c.in-Err-Long.field-0-0 (read_text rest all inner text left c.in_ok-argument.ensures opens read.1)
+    (subst (λ (bs : List ℕ). IsFirstLong (graphemes true bs) c.in-Err-Long.field-0-0) c.deref.ensures long)
+
+pub returns-in-Ok : goal.returns-in-Ok
+returns-in-Ok c =
+    let rest = c.args.rest.now in
+    let all = c.in_ok-argument.argument.now in
+    let inner = c.in-Some.quoted.now in
+    let text = string_bytes c.in-Some-2.text in
+    let left = drop c.in-Some-2.len inner in
+    let opens = strip_prefix_char 34 all (Some c.in-Some.quoted) c.in-Some.ensures.cases (omega arith) in
+    let read = rw c.in-Some-2.is at c.in_ok-text.ensures.some in
+    text_then_last rest text left c.in-Ok.field-0 (read_text rest all inner text left c.in_ok-argument.ensures opens read.1) (c.in-Ok.ensures.ok ∙ ap (graphemes true) c.deref.ensures) c.in-Ok.ensures.atoms
+    ∙ last_left c.in-Ok.field-0 left (omega (arith, c.if-len-quoted.true, length-drop c.in-Some-2.len inner))
+
+pub returns : goal.returns
+returns c =
+    let rest = c.args.rest.now in
+    let all = c.in_ok-argument.argument.now in
+    let inner = c.in-Some.quoted.now in
+    let text = string_bytes c.in-Some-2.text in
+    let left = drop c.in-Some-2.len inner in
+    let opens = strip_prefix_char 34 all (Some c.in-Some.quoted) c.in-Some.ensures.cases (omega arith) in
+    let read = rw c.in-Some-2.is at c.in_ok-text.ensures.some in
+    text_then_last rest text left c.in-Ok.field-0 (read_text rest all inner text left c.in_ok-argument.ensures opens read.1) (c.in-Ok.ensures.ok ∙ ap (graphemes true) c.deref.ensures) c.in-Ok.ensures.atoms
+    ∙ last_done c.in-Ok.field-0 left (omega (arith, c.if-len-quoted.false, length-drop c.in-Some-2.len inner))

@@ -1,0 +1,11 @@
+pub mod Kinds
+pub mod Lines
+pub mod Texts
+pub mod Spelling
+pub mod Arguments
+pub mod Words
+pub use Rattle.td_base.specs.Value
+pub use Rattle.td_base.specs.Atom
+pub mod Faults
+pub mod Script
+pub mod Answers

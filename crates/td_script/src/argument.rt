@@ -1,0 +1,119 @@
+// Arguments of one word: each is read from what is left of a line, and leaves what stands behind it.
+ghost use Rattle.std.specs.Prelude.{◌≡◌, ◌≤◌, MatchResult, Ok, Err};
+ghost use Rattle.td_script.specs.Arguments.{argument, bit_of, by_word, cut_word, dot_of, last, name_of, number_of, site_of, word_at};
+
+use crate::kind::Kind;
+use crate::number::number_of;
+use td_base::{Bit, Dot, MAX_SITE, Site};
+
+/// The greatest name of a mark.
+const MAX_NAME: u32 = 31;
+
+/// What stands up to the next space or to the end, and what stands from there on.
+pub(crate) fn split_word(text: &str) -> (&str, &str)
+    ensures { cut_word text.now ≡ (result.0.now, result.1.now) }
+{
+    let end = text.find(' ').unwrap_or(text.len());
+    text.split_at(end)
+}
+
+/// What an argument begins with, behind exactly one space. `End` where nothing is left, or such a space alone.
+pub(crate) fn argument(rest: &str) -> Result<&str, Kind>
+    ensures { MatchResult result (λ text. argument rest.now ≡ Ok text.now) (λ kind. argument rest.now ≡ Err kind) }
+{
+    match rest.strip_prefix(' ') {
+        Some(text) if !text.is_empty() => Ok(text),
+        _ => Err(Kind::End),
+    }
+}
+
+/// The word of an argument.
+pub(crate) fn next_word(rest: &str) -> Result<(&str, &str), Kind>
+    ensures { MatchResult result (λ read. word_at rest.now ≡ Ok (read.0.now, read.1.now)) (λ kind. word_at rest.now ≡ Err kind) }
+{
+    let text = argument(rest)?;
+    Ok(split_word(text))
+}
+
+/// The number that the word is.
+pub(crate) fn number_word(word: &str) -> Result<u32, Kind>
+    ensures { result ≡ number_of word.now }
+{
+    match number_of(word.as_bytes()) {
+        Some(number) => Ok(number),
+        None => Err(Kind::Number),
+    }
+}
+
+/// A number.
+pub(crate) fn number(rest: &str) -> Result<(u32, &str), Kind>
+    ensures { MatchResult result (λ read. by_word number_of rest.now ≡ Ok (read.0, read.1.now)) (λ kind. by_word number_of rest.now ≡ Err kind) }
+{
+    let (text, rest) = next_word(rest)?;
+    let number = number_word(text)?;
+    Ok((number, rest))
+}
+
+/// A name of a mark.
+pub(crate) fn mark_name(rest: &str) -> Result<(u8, &str), Kind>
+    ensures { MatchResult result (λ read. by_word name_of rest.now ≡ Ok (read.0, read.1.now)) (λ kind. by_word name_of rest.now ≡ Err kind) }
+{
+    let (name, rest) = number(rest)?;
+    if name > MAX_NAME {
+        return Err(Kind::Number);
+    }
+    Ok((name as u8, rest))
+}
+
+/// The site that the word is, among so many.
+pub(crate) fn site_word(word: &str, sites: u8) -> Result<Site, Kind>
+    requires { sites ≤ MAX_SITE }
+    ensures { result ≡ site_of sites word.now }
+{
+    let number = number_word(word)?;
+    if number > u32::from(sites) {
+        return Err(Kind::Site);
+    }
+    match Site::new(number as u8) {
+        Some(site) => Ok(site),
+        None => Err(Kind::Site),
+    }
+}
+
+/// The dot that the word is, of so many sites.
+pub(crate) fn dot_word(word: &str, sites: u8) -> Result<Dot, Kind>
+    requires { sites ≤ MAX_SITE }
+    ensures { result ≡ dot_of sites word.now }
+{
+    let Some((site, seq)) = word.split_once('.') else {
+        return Err(Kind::Dot);
+    };
+    let (Ok(site), Ok(seq)) = (site_word(site, sites), number_word(seq)) else {
+        return Err(Kind::Dot);
+    };
+    match Dot::new(site, seq) {
+        Some(dot) => Ok(dot),
+        None => Err(Kind::Dot),
+    }
+}
+
+/// The bit that the word is.
+pub(crate) fn bit_word(word: &str) -> Result<Bit, Kind>
+    ensures { result ≡ bit_of word.now }
+{
+    match word {
+        "left" => Ok(Bit::Left),
+        "right" => Ok(Bit::Right),
+        _ => Err(Kind::Word),
+    }
+}
+
+/// `End` where something is left behind the last argument.
+pub(crate) fn last<T: Drop>(value: T, rest: &str) -> Result<T, Kind>
+    ensures { result ≡ last value rest.now }
+{
+    if !rest.is_empty() {
+        return Err(Kind::End);
+    }
+    Ok(value)
+}

@@ -1,0 +1,36 @@
+//! The language in which a script of `play` is written: from the bytes of a script to its commands.
+//!
+//! `read_script` answers the commands that the bytes spell, or the first faulty line with the first thing wrong with it. Begin
+//! at `specs/Spelling.antt`, the line of each command, and `specs/Script.antt`, the grammar; `specs/Faults.antt` is the order
+//! in which a line is judged. The readers of lines, words, numbers and texts know no command: `language` alone does.
+#![tactic(auto)]
+
+mod argument;
+mod atoms;
+mod before;
+mod clusters;
+mod command;
+mod commands;
+mod kind;
+mod language;
+mod laws;
+mod line;
+mod number;
+mod quoted;
+mod read_line;
+mod script;
+mod word;
+
+pub use atoms::Atoms;
+pub use clusters::{CutFault, cut};
+pub use command::{Command, Place};
+pub use commands::Commands;
+pub use kind::{Kind, ScriptFault};
+pub use laws::{scripts_have_no_fault, spelled_scripts_are_unique, written_scripts_are_read_again};
+pub use script::{
+    MAX_LINE, MAX_MIDDLE_REQUESTS, MAX_SCRIPT, MAX_WIDE_REQUESTS, MAX_WIDE_SCRIPT, Script,
+    read_script,
+};
+
+#[cfg(test)]
+mod tests;

@@ -1,0 +1,56 @@
+ghost use Rattle.std.specs.Prelude.{◌≡◌, ◌≢◌, ◌<◌, ◌∷◌, ◌++◌, All, IfNone, IfSome, false, true, length};
+ghost use Rattle.std.specs.List.{list_any};
+ghost use Rattle.td_script.specs.Lines.{is_control, is_skipped, is_text_line, lines_of};
+
+/// The line as a text, where it is UTF-8 without control characters.
+pub(crate) fn text_of_line(line: &[u8]) -> Option<&str>
+    ensures some { IfSome result (λ text. (text.now ≡ line.now) × (is_text_line line.now ≡ true)) }
+    ensures none { IfNone result (is_text_line line.now ≡ false) }
+{
+    if has_control(line) {
+        return None;
+    }
+    match str::from_utf8(line) {
+        Ok(text) => Some(text),
+        Err(_) => None,
+    }
+}
+
+// Whether the line has a control character of ASCII.
+fn has_control(line: &[u8]) -> bool
+    ensures { result ≡ list_any is_control line.now }
+{
+    line.iter().any(|byte| *byte < 0x20 || *byte == 0x7f)
+}
+
+/// An empty line, and a line that begins with `#`, says nothing.
+pub(crate) fn is_skipped(line: &str) -> bool
+    ensures { result ≡ is_skipped line.now }
+{
+    match line.as_bytes().first() {
+        None => true,
+        Some(byte) => *byte == b'#',
+    }
+}
+
+/// The first line, without its LF, and what stands behind it.
+pub(crate) fn split_line(bytes: &[u8]) -> (&[u8], &[u8])
+    requires { 0 < length bytes.now }
+    ensures lines { lines_of bytes.now ≡ result.0.now ∷ lines_of result.1.now }
+    ensures shorter { length result.1.now < length bytes.now }
+{
+    match split_once(bytes, b'\n') {
+        Some(parts) => parts,
+        None => (bytes, &[]),
+    }
+}
+
+// What stands before the first such byte, and what stands behind it.
+fn split_once(bytes: &[u8], delimiter: u8) -> Option<(&[u8], &[u8])>
+    ensures some { IfSome result (λ parts. All (λ byte. byte ≢ delimiter) parts.0.now
+        × (bytes.now ≡ parts.0.now ++ delimiter ∷ parts.1.now)) }
+    ensures none { IfNone result (All (λ byte. byte ≢ delimiter) bytes.now) }
+{
+    let place = bytes.iter().position(|byte| *byte == delimiter)?;
+    Some((&bytes[..place], &bytes[place + 1..]))
+}

@@ -1,0 +1,2 @@
+mod clusters;
+mod script;
