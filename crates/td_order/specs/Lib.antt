@@ -1,0 +1,10 @@
+pub mod Lists
+pub mod Insertions
+pub mod LineUp
+pub mod Under
+pub mod Place
+pub mod Order
+pub mod Show
+pub mod Causal
+pub mod Standing
+pub mod Example
