@@ -1,0 +1,15 @@
+pub mod Basics
+pub mod Refusals
+pub mod Vectors
+pub mod Ballots
+pub mod Aims
+pub mod Walk
+pub mod Causal
+pub mod Counting
+pub mod Room
+pub mod Documents
+pub mod Stays
+pub mod Holding
+pub mod Naming
+pub mod Reached
+pub mod Family

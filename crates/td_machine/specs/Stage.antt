@@ -1,0 +1,144 @@
+-- A stage for worked examples: machines side by side, and their messages in the order of sending.
+use Rattle.std.specs.Prelude.{ℕ, zero, suc, ◌-◌, List, [], ◌∷◌, ◌++◌, Bool, true, false, cond, nat_eq, length, map, drop, Option, Some, None}
+use Rattle.std.specs.List.{filter_map}
+use Rattle.td_base.specs.Value.{DotValue, AtomIdValue}
+use Rattle.td_op.specs.declared.input.Input.{Input}
+use Rattle.td_op.specs.declared.input.Input.TheVariants.{Local, Take, Next}
+use Rattle.td_op.specs.declared.message.Message.{Message}
+use Rattle.td_op.specs.declared.message.Message.TheVariants.{Op, Vote as AVote}
+use Rattle.td_op.specs.declared.vote.Vote.{Vote}
+use Rattle.td_op.specs.declared.reply.Reply.{Reply}
+use Rattle.td_op.specs.declared.request.Request.{Request}
+use Rattle.td_path.specs.declared.slot.Slot.{Slot}
+use Rattle.td_doc.specs.Document.{DocRow, row_id, text_of}
+use Rattle.td_doc.specs.Slots.{own_slot}
+use Rattle.td_machine.specs.Log.{decision}
+use Rattle.td_machine.specs.Machine.{Machine, start}
+use Rattle.td_machine.specs.Taking.{Stepped}
+use Rattle.td_machine.specs.Step.{step}
+
+-- what happens at a site: a request, the k-th message (from 1) given to it, or a waiting operation taken
+pub data Move : Type 0 where
+  Ask : ℕ → Request → Move
+  Give : ℕ → ℕ → Move
+  GoOn : ℕ → Move
+
+pub record Stage : Type 0 where
+  pub machines : List Machine
+  pub sent : List Message
+  -- the replies so far
+  pub replies : List Reply
+
+abbrev pub starts_from : ℕ → ℕ → ℕ → List Machine
+starts_from size zero site = []
+starts_from size (suc k) site = start site size ∷ starts_from size k (suc site)
+
+-- n machines at the beginning
+abbrev pub stage : ℕ → Stage
+stage n = record { machines = starts_from n n 1; sent = []; replies = [] }
+
+abbrev pub at_place : {X : Type 0} → ℕ → List X → Option X
+at_place k [] = None
+at_place zero (x ∷ xs) = Some x
+at_place (suc k) (x ∷ xs) = at_place k xs
+
+abbrev pub put_at : Machine → List Machine → List Machine
+put_at m [] = []
+put_at m (n ∷ machines) = cond (nat_eq m.site n.site) (m ∷ machines) (n ∷ put_at m machines)
+
+abbrev pub stepped_to : Machine → Stepped → Stage → Stage
+stepped_to old new s =
+    record {
+      machines = put_at new.machine s.machines;
+      sent = s.sent ++ drop (length old.sent) new.machine.sent;
+      replies = s.replies ++ new.reply ∷ [];
+    }
+
+abbrev pub input_at : Option Machine → Option Input → Stage → Stage
+input_at None input s = s
+input_at (Some m) None s = s
+input_at (Some m) (Some input) s = stepped_to m (step m input) s
+
+abbrev pub taken_input : Option Message → Option Input
+taken_input None = None
+taken_input (Some message) = Some (Take message)
+
+abbrev pub moved : Move → Stage → Stage
+moved (Ask site request) s = input_at (at_place (site - 1) s.machines) (Some (Local request)) s
+moved (Give site k) s = input_at (at_place (site - 1) s.machines) (taken_input (at_place (k - 1) s.sent)) s
+moved (GoOn site) s = input_at (at_place (site - 1) s.machines) (Some Next) s
+
+abbrev pub moved_all : List Move → Stage → Stage
+moved_all [] s = s
+moved_all (move ∷ moves) s = moved_all moves (moved move s)
+
+-- what n sites answer to the moves
+abbrev pub replies : ℕ → List Move → List Reply
+replies n moves = (moved_all moves (stage n)).replies
+
+abbrev pub text_found : Option Machine → List ℕ
+text_found None = []
+text_found (Some m) = text_of m.doc
+
+-- the text of a site after the moves
+abbrev pub text_after : ℕ → List Move → ℕ → List ℕ
+text_after n moves site = text_found (at_place (site - 1) (moved_all moves (stage n)).machines)
+
+-- a row as it is told: its identity, the slot in which it stands, its atom and its delete dots
+pub record Told : Type 0 where
+  pub id : AtomIdValue
+  pub slot : Slot
+  pub atom : List ℕ
+  pub deletes : List DotValue
+
+abbrev pub told : DocRow → Told
+told r = record { id = row_id r; slot = own_slot r; atom = r.atom; deletes = r.deletes }
+
+abbrev pub rows_found : Option Machine → List Told
+rows_found None = []
+rows_found (Some m) = map told m.doc
+
+-- the rows of a site after the moves
+abbrev pub rows_after : ℕ → List Move → ℕ → List Told
+rows_after n moves site = rows_found (at_place (site - 1) (moved_all moves (stage n)).machines)
+
+abbrev pub vote_of : Message → Option Vote
+vote_of (Op x) = None
+vote_of (AVote v) = Some v
+
+-- the votes sent, in their order
+abbrev pub votes_after : ℕ → List Move → List Vote
+votes_after n moves = filter_map vote_of (moved_all moves (stage n)).sent
+
+abbrev pub decision_found : DotValue → Option Machine → Option Bool
+decision_found p None = None
+decision_found p (Some m) = decision p m.log
+
+-- what a site knows of the decision of a proposal after the moves
+abbrev pub decision_after : ℕ → List Move → ℕ → DotValue → Option Bool
+decision_after n moves site p = decision_found p (at_place (site - 1) (moved_all moves (stage n)).machines)
+
+abbrev pub dot : ℕ → ℕ → DotValue
+dot site seq = record { site = site; seq = seq }
+
+abbrev pub first_of : ℕ → ℕ → AtomIdValue
+first_of site seq = record { dot = dot site seq; offset = 0 }
+
+abbrev pub atom_of : ℕ → ℕ → ℕ → AtomIdValue
+atom_of site seq offset = record { dot = dot site seq; offset = offset }
+
+-- a letter by its byte
+abbrev pub letter : ℕ → List ℕ
+letter c = c ∷ []
+
+abbrev pub live_row : AtomIdValue → Slot → ℕ → Told
+live_row id slot c = record { id = id; slot = slot; atom = letter c; deletes = [] }
+
+abbrev pub tombstone : AtomIdValue → Slot → ℕ → List DotValue → Told
+tombstone id slot c deletes = record { id = id; slot = slot; atom = letter c; deletes = deletes }
+
+abbrev pub vote_yes : ℕ → DotValue → Vote
+vote_yes site p = record { proposal = p; voter = site; yes = true }
+
+abbrev pub vote_no : ℕ → DotValue → Vote
+vote_no site p = record { proposal = p; voter = site; yes = false }

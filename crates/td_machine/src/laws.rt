@@ -1,0 +1,79 @@
+// What the definitions come to, each law as the contract of a function with an empty body.
+ghost use Rattle.std.specs.Prelude.{◌≡◌, ◌<◌, ◌≤◌, ◌+◌, ◌++◌, ◌∷◌, ℕ, List, true, false, length, IsTrue, Some};
+ghost use Rattle.td_base.specs.Value.{DotValue, AtomIdValue};
+ghost use Rattle.td_base.specs.declared.dot.TheConstants.{MAX_SEQ};
+ghost use Rattle.td_clock.specs.Vector.{vector_get, vector_has, vector_covers};
+ghost use Rattle.td_op.specs.declared.input.Input.{Input};
+ghost use Rattle.td_path.specs.declared.slot.Slot.{Slot};
+ghost use Rattle.td_op.specs.declared.body.Body.TheVariants.{Insert};
+ghost use Rattle.td_op.specs.Op.{OpValue, IsOp};
+ghost use Rattle.td_op.specs.Past.{in_past, op_sum};
+ghost use Rattle.td_doc.specs.Document.{In, IsDocument, Successive};
+ghost use Rattle.td_doc.specs.Slots.{overlaps};
+ghost use Rattle.td_machine.specs.Counts.{ops_of};
+ghost use Rattle.td_machine.specs.Naming.{Inserts, named_atom};
+ghost use Rattle.td_machine.specs.Hold.{Hold};
+ghost use Rattle.td_machine.specs.Vote.{is_rooted};
+ghost use Rattle.td_machine.specs.Machine.{Machine, made, undecided};
+ghost use Rattle.td_machine.specs.Step.{step, IsRefusal};
+ghost use Rattle.td_machine.specs.History.{Family, IsReached, IsConsistent, IsOpOf};
+
+/// A reply that is a refusal leaves the machine as it was.
+#[tactic(auto, using(crate::proofs::Refusals::kept))]
+pub fn a_refusal_changes_nothing()
+    ensures { (m : Machine) (input : Input) → IsRefusal (step m input).reply → (step m input).machine ≡ m }
+{}
+
+/// After every legal history the vector counts the operations of each site in the log, the operations of a site are its
+/// first ones in their order, and each operation stands in the log after all of its past (causal delivery; Lamport 1978).
+#[tactic(auto, using(crate::proofs::Reached::counted_of))]
+pub fn logs_are_causal()
+    ensures counted { (m : Machine) → IsReached m → (site : ℕ) → 0 < site → site ≤ m.size
+        → vector_get m.have site ≡ length (ops_of site m.log) }
+    ensures numbered { (m : Machine) → IsReached m → (newer : List OpValue) (x : OpValue) (older : List OpValue)
+        → m.log ≡ newer ++ x ∷ older → x.dot.seq ≡ length (ops_of x.dot.site older) + 1 }
+    ensures past { (m : Machine) → IsReached m → (newer : List OpValue) (x : OpValue) (older : List OpValue)
+        → m.log ≡ newer ++ x ∷ older → (d : DotValue) → 0 < d.site → 0 < d.seq → IsTrue (vector_has x.deps d)
+        → (y : OpValue) × In y older × (y.dot ≡ d) }
+{}
+
+/// A decision can always be made: the operations that a site made and its undecided proposals are together at most the
+/// greatest number of an operation.
+#[tactic(auto, using(crate::proofs::Reached::room))]
+pub fn a_decision_has_room()
+    ensures { (m : Machine) → IsReached m → made m + undecided m ≤ MAX_SEQ }
+{}
+
+/// The document of a machine obeys the rules of a document, whatever its site did and was given.
+pub fn documents_obey_their_rules()
+    ensures { (m : Machine) → IsReached m → IsDocument m.doc }
+{}
+
+/// The holds of a machine never overlap, and the atom of a held slot is a row.
+pub fn holds_keep_apart()
+    ensures rooted { (m : Machine) → IsReached m → (h : Hold) → In h m.holds → is_rooted m.doc h.slot ≡ true }
+    ensures apart { (m : Machine) → IsReached m → Successive (λ (g h : Hold). overlaps m.doc g.slot h.slot ≡ false) m.holds }
+{}
+
+/// In a consistent family the past is an order: no operation is in its own past, what is in the past of y is in the past
+/// of each z that has y in its past, and where x is in the past of y, y knew all that x knew and has the greater sum.
+pub fn pasts_are_in_order()
+    ensures covers { (family : Family) → IsConsistent family → (x y : OpValue) → IsOpOf family x → IsOpOf family y
+        → IsTrue (in_past x y) → IsTrue (vector_covers y.deps x.deps) }
+    ensures sums { (family : Family) → IsConsistent family → (x y : OpValue) → IsOpOf family x → IsOpOf family y
+        → IsTrue (in_past x y) → op_sum x < op_sum y }
+    ensures irreflexive { (family : Family) → IsConsistent family → (x : OpValue) → IsOpOf family x → ¬ IsTrue (in_past x x) }
+    ensures transitive { (family : Family) → IsConsistent family → (x y z : OpValue) → IsOpOf family x → IsOpOf family y
+        → IsOpOf family z → IsTrue (in_past x y) → IsTrue (in_past y z) → IsTrue (in_past x z) }
+{}
+
+/// In a consistent family each operation is valid, no run is empty, and the atom that an operation names (that of its slot, or
+/// its target) is one of an insert in its past.
+pub fn operations_name_their_past()
+    ensures valid { (family : Family) → IsConsistent family → (x : OpValue) → IsOpOf family x → IsOp x }
+    ensures full { (family : Family) → IsConsistent family → (x : OpValue) → IsOpOf family x
+        → (slot : Slot) (run : List (List ℕ)) → x.body ≡ Insert slot run → 0 < length run }
+    ensures named { (family : Family) → IsConsistent family → (x : OpValue) → IsOpOf family x
+        → (z : AtomIdValue) → named_atom x.body ≡ Some z
+        → (y : OpValue) × IsOpOf family y × IsTrue (in_past y x) × Inserts y z }
+{}
