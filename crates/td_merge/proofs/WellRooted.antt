@@ -1,0 +1,106 @@
+-- The log of a site of a consistent family is well rooted.
+use Rattle.std.proofs.Common.{◌≡◌, ◌≢◌, ◌<◌, ◌≤◌, ℕ, suc, List, [], ◌∷◌, length, Some, refl, sym, ap, ◌∙◌, subst, inl, inr, arith}
+use Rattle.std.specs.Prelude.{IsTrue}
+use Rattle.td_base.specs.Value.{DotValue, AtomIdValue}
+use Rattle.td_clock.specs.Vector.{vector_has}
+use Rattle.td_path.specs.declared.slot.Slot.{Slot}
+use Rattle.td_path.specs.declared.slot.Slot.TheVariants.{Root, At}
+use Rattle.td_op.specs.declared.body.Body.{Body}
+use Rattle.td_op.specs.declared.body.Body.TheVariants.{Insert, Delete, Propose, Commit, Abort}
+use Rattle.td_op.specs.Op.{OpValue}
+use Rattle.td_doc.specs.Array.{NamedAtom, run_atoms_from}
+use Rattle.td_machine.specs.Counts.{IsCausal as IsCausalLog}
+use Rattle.td_machine.specs.Naming.{Inserts, named_atom}
+use Rattle.td_machine.specs.History.{Family, IsConsistent, IsOpOf, log_of}
+use Rattle.td_machine.proofs.Family.{not_older, valid_of, full_of, named_of_past, size_of, log_causal, past_covered, past_in_log}
+use Rattle.td_order.specs.declared.insertion.Insertion.{Insertion}
+use Rattle.td_order.specs.Lists.{In, Successive}
+use Rattle.td_order.specs.Insertions.{insertion_by, insertion_of, ids_from, IsInsertionOf, IsAtomOf}
+use Rattle.td_order.specs.LineUp.{DotsDiffer, line_up}
+use Rattle.td_order.proofs.OrderOfPart.{past_before}
+use Rattle.td_op.specs.Past.{in_past}
+use Rattle.td_order.specs.Causal.{IsCausal, IsRootedIn, IsWellRooted}
+
+dots_differ : (n : ℕ) (log : List OpValue) → IsCausalLog n log → DotsDiffer log
+dots_differ n [] c = tt
+dots_differ n (x ∷ log) c = ((λ y i e. not_older n x y log c.0 c.1 i e), dots_differ n log c.1)
+
+-- an insertion is its operation
+pub record IsInsertBy (a : Insertion) (x : OpValue) : Type 0 where
+  pub dot : a.dot ≡ x.dot
+  pub deps : a.deps ≡ x.deps
+  pub body : x.body ≡ Insert a.slot a.run
+
+insertion_parts : (x : OpValue) (a : Insertion) → insertion_of x ≡ Some a → IsInsertBy a x
+insertion_parts x a e = at x.body refl e
+  where
+    same : (d : DotValue) (v : List ℕ) (slot : Slot) (run : List (List ℕ)) → insertion_by d v (Insert slot run) ≡ Some a → record { dot = d; deps = v; slot = slot; run = run } ≡ a
+    same d v slot run k = cc
+
+    at : (b : Body) → x.body ≡ b → insertion_by x.dot x.deps b ≡ Some a → IsInsertBy a x
+    at (Insert slot run) f k =
+        let s = same x.dot x.deps slot run k in
+        record {
+          dot = sym (ap (λ (i : Insertion). i.dot) s);
+          deps = sym (ap (λ (i : Insertion). i.deps) s);
+          body = f ∙ ap (λ (i : Insertion). Insert i.slot i.run) s;
+        }
+    at (Delete target) f k = absurd cc
+    at (Propose slot) f k = absurd cc
+    at (Commit p) f k = absurd cc
+    at (Abort p) f k = absurd cc
+
+-- the atoms of a run, by their identities
+among : (dot : DotValue) (k : ℕ) (run : List (List ℕ)) (a : NamedAtom) → In a (run_atoms_from dot k run) → In a.id (ids_from dot k run)
+among dot k [] a i = absurd i
+among dot k (atom ∷ run) a (inl e) = inl (ap (λ (b : NamedAtom). b.id) e)
+among dot k (atom ∷ run) a (inr i) = inr (among dot (suc k) run a i)
+
+module _ (family : Family) (c : IsConsistent family) (site : ℕ) (some : 0 < site) (within : site ≤ length family) where
+  abbrev log : List OpValue
+  log = log_of family site
+
+  op_of : (x : OpValue) → In x log → IsOpOf family x
+  op_of x i = record { site = site; some = some; within = within; inside = i }
+
+  causal : IsCausal log
+  causal =
+      record {
+        valid = λ x i. valid_of family c x (op_of x i);
+        one_size = λ x y i j. size_of family c x (op_of x i) ∙ sym (size_of family c y (op_of y j));
+        knows = λ x y i j past. past_covered family c x y (op_of x i) (op_of y j) past;
+      }
+
+  full : (a : Insertion) → IsInsertionOf log a → a.run ≢ []
+  full a i e =
+      let p = insertion_parts i.op a i.is in
+      let long : 0 < length a.run = full_of family c i.op (op_of i.op i.inside) a.slot a.run p.body in
+      let none : length a.run ≡ 0 = ap (λ (r : List (List ℕ)). length r) e in
+      omega (arith, long, none)
+
+  -- an insert in the log that puts an atom
+  put_by : (y : OpValue) (z : AtomIdValue) → In y log → Inserts y z → IsAtomOf log z
+  put_by y z i h =
+      record {
+        insertion = record { dot = y.dot; deps = y.deps; slot = h.slot; run = h.run };
+        inside = record { op = y; inside = i; is = ap (λ (b : Body). insertion_by y.dot y.deps b) h.is };
+        among = subst (λ (x : AtomIdValue). In x (ids_from y.dot 0 h.run)) h.named (among y.dot 0 h.run h.atom h.among);
+      }
+
+  rooted : (a : Insertion) → IsInsertionOf log a → IsRootedIn log a a.slot
+  unfolding put_by
+  rooted a i = at a.slot (insertion_parts i.op a i.is).body
+    where
+      at : (slot : Slot) → i.op.body ≡ Insert slot a.run → IsRootedIn log a slot
+      at Root e = tt
+      at (At z bit) e =
+          let p = insertion_parts i.op a i.is in
+          let h = named_of_past family c i.op (op_of i.op i.inside) z (ap named_atom e) in
+          let inside = past_in_log family c site some within i.op h.0 i.inside h.1 h.2 in
+          (put_by h.0 z inside h.3, subst (λ (v : List ℕ). IsTrue (vector_has v h.0.dot)) (sym p.deps) h.2)
+
+  pub well_rooted : IsWellRooted log
+  well_rooted = record { apart = dots_differ (length family) log (log_causal family c site some within); causal = causal; full = full; rooted = rooted }
+
+  pub lined_up_past : Successive (λ (x y : OpValue). ¬ IsTrue (in_past x y)) (line_up log)
+  lined_up_past = past_before log causal
