@@ -30,11 +30,18 @@ pub record IsProposal (held : Option DotValue) (room : ℕ) (slot : Slot) (m : M
   pub holder : held ≡ held_over m.doc slot m.holds
   pub rooted : is_rooted m.doc slot ≡ true
 
+-- the slot is allocated after a row, or at the start
+pub record IsAllocated (slot : Slot) (m : Machine) : Type 0 where
+  pub anchor_of : Option AtomIdValue
+  pub is : slot ≡ alloc m.doc anchor_of
+  pub row : MatchOption anchor_of (Unit {0}) (IsRow m.doc)
+
 pub record IsPlacing (held : Option DotValue) (room : ℕ) (slot : Slot) (run : List (List ℕ)) (m : Machine) : Type 0 where
   pub one : room ≡ 1
   pub holder : held ≡ held_slot m.doc slot m.holds
   pub rooted : is_rooted m.doc slot ≡ true
   pub full : 0 < length run
+  pub allocated : IsAllocated slot m
 
 pub record IsRemoving (held : Option DotValue) (room : ℕ) (x : AtomIdValue) (m : Machine) : Type 0 where
   pub one : room ≡ 1
@@ -62,7 +69,7 @@ rooted_row rows (At x bit) h = h
 
 -- a run placed after a live row or at the start goes to a slot that is there
 placing : (run : List (List ℕ)) (o : Option AtomIdValue) (m : Machine) → 0 < length run → MatchOption o (Unit {0}) (IsRow m.doc) → FitsAim m (place run o m)
-placing run o m full row = record { one = refl; holder = refl; rooted = rooted_row m.doc (alloc m.doc o) (alloc_rooted m.doc o row); full = full }
+placing run o m full row = record { one = refl; holder = refl; rooted = rooted_row m.doc (alloc m.doc o) (alloc_rooted m.doc o row); full = full; allocated = record { anchor_of = o; is = refl; row = row } }
 
 placed_at : (run : List (List ℕ)) (index : ℕ) (m : Machine) → 0 < length run → FitsAim m (place_at run index m)
 placed_at run index m full =

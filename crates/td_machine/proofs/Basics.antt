@@ -32,6 +32,10 @@ pub in_append : {X : Type 0} (x : X) (xs ys : List X) → In x (xs ++ ys) → In
 in_append x [] ys h = inr h
 in_append x (y ∷ xs) ys h = ⊎_elim (λ (e : x ≡ y). inl (inl e)) (λ (k : In x (xs ++ ys)). ⊎_elim (λ (a : In x xs). inl (inr a)) (λ (b : In x ys). inr b) (in_append x xs ys k)) h
 
+pub in_behind : {X : Type 0} (x : X) (front : List X) (y : X) (back : List X) → In x back → In x (front ++ y ∷ back)
+in_behind x [] y back i = inr i
+in_behind x (z ∷ front) y back i = inr (in_behind x front y back i)
+
 -- where an element stands
 pub record Split {X : Type 0} (x : X) (xs : List X) : Type 0 where
   pub front : List X

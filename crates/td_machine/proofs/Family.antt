@@ -24,7 +24,7 @@ use Rattle.td_machine.specs.Counts.{counts, ops_of, IsNext, IsCausal}
 use Rattle.td_machine.specs.Machine.{Machine, start, next_op}
 use Rattle.td_machine.specs.Step.{step}
 use Rattle.td_machine.specs.History.{History, after, Family, IsLegalFrom, IsConsistent, MayCome, IsOpOf, history, machine, machine_after, log_of}
-use Rattle.td_machine.proofs.Basics.{in_append, in_filter, split_of, Split}
+use Rattle.td_machine.proofs.Basics.{in_append, in_behind, in_filter, split_of, Split}
 use Rattle.td_machine.proofs.Vectors.{bump_covers}
 use Rattle.td_machine.proofs.Walk.{IsKept, closed, walk}
 use Rattle.td_machine.proofs.Causal.{IsOffered, At, counting, start_at, length_counts, valid_op, foreign_offered, waiting_offered}
@@ -131,6 +131,17 @@ unique n x y (z ∷ log) c (inl p) (inl q) e = p ∙ sym q
 unique n x y (z ∷ log) c (inl p) (inr j) e = absurd (not_older n x y log (subst (λ (w : OpValue). IsNext (counts n log) w) (sym p) c.0) c.1 j e)
 unique n x y (z ∷ log) c (inr i) (inl q) e = absurd (not_older n y x log (subst (λ (w : OpValue). IsNext (counts n log) w) (sym q) c.0) c.1 i (sym e))
 unique n x y (z ∷ log) c (inr i) (inr j) e = unique n x y log c.1 i j e
+
+-- what is in a causal log is had by the vector that counts it
+pub counted_had : (n : ℕ) (y : OpValue) (log : List OpValue) → IsCausal n log → In y log → IsTrue (vector_has (counts n log) y.dot)
+counted_had n y log c i =
+    let s : Split y log = split_of y log i in
+    let next = (older_causal n s.front y s.back (subst (λ (l : List OpValue). IsCausal n l) s.is c)).0 in
+    let within : y.dot.site ≤ length (counts n s.back) = next.within in
+    let size : length (counts n s.back) ≡ n = length_counts n s.back in
+    let below : y.dot.seq ≤ length (ops_of y.dot.site log) = seq_within n y log c i in
+    let count : vector_get (counts n log) y.dot.site ≡ length (ops_of y.dot.site log) = total n y.dot.site log next.some (omega (arith, within, size)) c in
+    le-leb y.dot.seq (vector_get (counts n log) y.dot.site) (omega (arith, below, count))
 
 -- ---- a longer log counts more
 
@@ -262,7 +273,7 @@ module _ (family : Family) (c : IsConsistent family) where
       let p : Place y = place y q in
       let nx : Place x = place x o in
       let f : Found x.dot p.1 = past_found n y p.1 p.4 p.5 x.dot mx.0.0 (positive x nx.4) past in
-      let inside : In f.op (log_of family y.dot.site) = subst (λ (log : List OpValue). In f.op log) (sym p.2) (deeper f.op p.0 y p.1 f.inside) in
+      let inside : In f.op (log_of family y.dot.site) = subst (λ (log : List OpValue). In f.op log) (sym p.2) (in_behind f.op p.0 y p.1 f.inside) in
       let there : Made f.op = made_there f.op (record { site = y.dot.site; some = my.0.0; within = my.0.1; inside = inside }) in
       let same : f.op ≡ x = unique n f.op x (log_of family x.dot.site) (causal_of x.dot.site mx.0) (subst (λ (d : DotValue). In f.op (log_of family d.site)) f.is there.1) mx.1 f.is in
       let s : Split f.op p.1 = split_of f.op p.1 f.inside in
@@ -275,10 +286,6 @@ module _ (family : Family) (c : IsConsistent family) where
     where
       positive : (x : OpValue) → {v : List ℕ} → IsNext v x → 0 < x.dot.seq
       positive x next = let k : x.dot.seq ≡ vector_get _ x.dot.site + 1 = next.next in omega (arith, k)
-
-      deeper : (x : OpValue) (newer : List OpValue) (y : OpValue) (older : List OpValue) → In x older → In x (newer ++ y ∷ older)
-      deeper x [] y older i = inr i
-      deeper x (z ∷ newer) y older i = inr (deeper x newer y older i)
 
   pub not_own_past : (x : OpValue) → IsOpOf family x → ¬ IsTrue (in_past x x)
   not_own_past x o past =
@@ -324,7 +331,7 @@ module _ (family : Family) (c : IsConsistent family) where
           site = x.dot.site;
           some = m.0.0;
           within = m.0.1;
-          inside = subst (λ (log : List OpValue). In named.0 log) (sym s.is) (behind named.0 s.front x s.back named.1);
+          inside = subst (λ (log : List OpValue). In named.0 log) (sym s.is) (in_behind named.0 s.front x s.back named.1);
         },
         subst (λ (v : List ℕ). IsTrue (vector_has v named.0.dot)) (sym deps) known,
         named.2,
@@ -334,42 +341,41 @@ module _ (family : Family) (c : IsConsistent family) where
       names_split site [] x older h e = h.0 e
       names_split site (y ∷ front) x older h e = names_split site front x older h.1 e
 
-      behind : (y : OpValue) (front : List OpValue) (x : OpValue) (older : List OpValue) → In y older → In y (front ++ x ∷ older)
-      behind y [] x older i = inr i
-      behind y (z ∷ front) x older i = inr (behind y front x older i)
-
-      counted_had : (n : ℕ) (y : OpValue) (log : List OpValue) → IsCausal n log → In y log → IsTrue (vector_has (counts n log) y.dot)
-      counted_had n y log c i =
-          let s : Split y log = split_of y log i in
-          let next = (older_causal n s.front y s.back (subst (λ (l : List OpValue). IsCausal n l) s.is c)).0 in
-          let within : y.dot.site ≤ length (counts n s.back) = next.within in
-          let size : length (counts n s.back) ≡ n = length_counts n s.back in
-          let below : y.dot.seq ≤ length (ops_of y.dot.site log) = seq_within n y log c i in
-          let count : vector_get (counts n log) y.dot.site ≡ length (ops_of y.dot.site log) = total n y.dot.site log next.some (omega (arith, within, size)) c in
-          le-leb y.dot.seq (vector_get (counts n log) y.dot.site) (omega (arith, below, count))
-
   pub size_of : (x : OpValue) → IsOpOf family x → length x.deps ≡ n
   size_of x o = let p : Place x = place x o in p.4.size ∙ length_counts n p.1
 
   pub log_causal : (site : ℕ) → 0 < site → site ≤ n → IsCausal n (log_of family site)
   log_causal site some within = causal_of site (some, within)
 
-  -- what is in the past of an operation of a log is in the log
-  pub past_in_log : (site : ℕ) → 0 < site → site ≤ n → (x y : OpValue) → In x (log_of family site) → IsOpOf family y → IsTrue (in_past y x) → In y (log_of family site)
-  past_in_log site some within x y i o past =
-      let s : Split x (log_of family site) = split_of x (log_of family site) i in
-      let p = older_causal n s.front x s.back (subst (λ (log : List OpValue). IsCausal n log) s.is (log_causal site some within)) in
+  -- what is in the past of an operation of a log is older there
+  pub past_in_older : (site : ℕ) → 0 < site → site ≤ n → (newer : List OpValue) (x : OpValue) (older : List OpValue) → log_of family site ≡ newer ++ x ∷ older → (y : OpValue) → IsOpOf family y → IsTrue (in_past y x) → In y older
+  past_in_older site some within newer x older is y o past =
+      let p = older_causal n newer x older (subst (λ (log : List OpValue). IsCausal n log) is (log_causal site some within)) in
       let my : Made y = made_there y o in
       let ny : Place y = place y o in
-      let f : Found y.dot s.back = past_found n x s.back p.0 p.1 y.dot my.0.0 (positive ny.4) past in
-      let inside : In f.op (log_of family site) = subst (λ (log : List OpValue). In f.op log) (sym s.is) (deeper f.op s.front x s.back f.inside) in
+      let f : Found y.dot older = past_found n x older p.0 p.1 y.dot my.0.0 (positive ny.4) past in
+      let inside : In f.op (log_of family site) = subst (λ (log : List OpValue). In f.op log) (sym is) (in_behind f.op newer x older f.inside) in
       let there : Made f.op = made_there f.op (record { site = site; some = some; within = within; inside = inside }) in
       let same : f.op ≡ y = unique n f.op y (log_of family y.dot.site) (causal_of y.dot.site my.0) (subst (λ (d : DotValue). In f.op (log_of family d.site)) f.is there.1) my.1 f.is in
-      subst (λ (z : OpValue). In z (log_of family site)) same inside
+      subst (λ (z : OpValue). In z older) same f.inside
     where
       positive : {v : List ℕ} → IsNext v y → 0 < y.dot.seq
       positive next = let k : y.dot.seq ≡ vector_get _ y.dot.site + 1 = next.next in omega (arith, k)
 
-      deeper : (x : OpValue) (newer : List OpValue) (y : OpValue) (older : List OpValue) → In x older → In x (newer ++ y ∷ older)
-      deeper x [] y older i = inr i
-      deeper x (z ∷ newer) y older i = inr (deeper x newer y older i)
+  -- so it is in the log
+  pub past_in_log : (site : ℕ) → 0 < site → site ≤ n → (x y : OpValue) → In x (log_of family site) → IsOpOf family y → IsTrue (in_past y x) → In y (log_of family site)
+  past_in_log site some within x y i o past =
+      let s : Split x (log_of family site) = split_of x (log_of family site) i in
+      subst (λ (log : List OpValue). In y log) (sym s.is) (in_behind y s.front x s.back (past_in_older site some within s.front x s.back s.is y o past))
+
+  -- where it was made an operation knew all that was older there
+  pub older_in_past : (newer : List OpValue) (x : OpValue) (older : List OpValue) → log_of family x.dot.site ≡ newer ++ x ∷ older → IsOpOf family x → (y : OpValue) → In y older → IsTrue (in_past y x)
+  older_in_past newer x older is o y i =
+      let m : Made x = made_there x o in
+      let c = (older_causal n newer x older (subst (λ (log : List OpValue). IsCausal n log) is (causal_of x.dot.site m.0))).1 in
+      let deps : x.deps ≡ counts n older = own_split x.dot.site n newer x older (subst (λ (log : List OpValue). OwnDeps x.dot.site n log) is (home_of x.dot.site m.0).own) refl in
+      subst (λ (v : List ℕ). IsTrue (vector_has v y.dot)) (sym deps) (counted_had n y older c i)
+
+  -- and it was made there
+  pub made_at : (x : OpValue) → IsOpOf family x → (0 < x.dot.site) × (x.dot.site ≤ n) × In x (log_of family x.dot.site)
+  made_at x o = let m : Made x = made_there x o in (m.0.0, m.0.1, m.1)

@@ -32,7 +32,7 @@ use Rattle.td_machine.specs.Taking.{Stepped, stepped, body_misfit, misfit, answe
 use Rattle.td_machine.specs.Request.{Aim, Refuse, Do, GiveUp, aim, judge, perform}
 use Rattle.td_machine.specs.Step.{step}
 use Rattle.td_machine.proofs.Basics.{not_false, either, in_filter}
-use Rattle.td_machine.proofs.Aims.{IsOpenAt, FitsAim, aimed}
+use Rattle.td_machine.proofs.Aims.{IsAllocated, IsOpenAt, FitsAim, aimed}
 use Rattle.td_machine.proofs.Ballots.{same_dot_itself, counted_open, found_counted}
 
 -- an operation that is offered passes as one of another site and of this size
@@ -46,7 +46,7 @@ RoomFor k m = made m + undecided m + k ≤ MAX_SEQ
 
 -- an edit that may be made here
 abbrev pub IsEdit : Body → Machine → Type 0
-IsEdit (InsertIn slot run) m = (is_rooted m.doc slot ≡ true) × (held_slot m.doc slot m.holds ≡ None) × (0 < length run)
+IsEdit (InsertIn slot run) m = (is_rooted m.doc slot ≡ true) × (held_slot m.doc slot m.holds ≡ None) × (0 < length run) × IsAllocated slot m
 IsEdit (DeleteOf target) m = (is_some (find_row target m.doc) ≡ true) × (held_row m.doc target m.holds ≡ None)
 IsEdit (ProposeOf slot) m = ⊥
 IsEdit (Commit p) m = ⊥
@@ -104,7 +104,7 @@ module _ (P : Machine → Type 0) (Passes : OpValue → Type 0) (c : IsClosed P 
   decided p (Some false) m b h = c.decides p false m b h
 
   performed : (held : Option DotValue) (room : ℕ) (body : Body) (m : Machine) → FitsAim m (Do held room body) → held ≡ None → RoomFor room m → P m → P (perform body m)
-  performed held room (InsertIn slot run) m f free r h = let one : room ≡ 1 = f.one in c.edits (InsertIn slot run) m (f.rooted, sym f.holder ∙ free, f.full) (omega (arith, r, one)) h
+  performed held room (InsertIn slot run) m f free r h = let one : room ≡ 1 = f.one in c.edits (InsertIn slot run) m (f.rooted, sym f.holder ∙ free, f.full, f.allocated) (omega (arith, r, one)) h
   performed held room (DeleteOf target) m f free r h = let one : room ≡ 1 = f.one in c.edits (DeleteOf target) m (f.row, sym f.holder ∙ free) (omega (arith, r, one)) h
   performed held room (ProposeOf slot) m f free r h =
       let p : DotValue = next_dot m in

@@ -16,3 +16,4 @@ pub mod TextInOrder
 pub mod ExampleHolds
 pub mod MachineLog
 pub mod WellRooted
+pub mod Unflattened

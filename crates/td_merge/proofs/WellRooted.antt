@@ -20,6 +20,7 @@ use Rattle.td_order.specs.LineUp.{DotsDiffer, line_up}
 use Rattle.td_order.proofs.OrderOfPart.{past_before}
 use Rattle.td_op.specs.Past.{in_past}
 use Rattle.td_order.specs.Causal.{IsCausal, IsRootedIn, IsWellRooted}
+use Rattle.td_merge.specs.Log.{DeletesAtoms}
 
 dots_differ : (n : ℕ) (log : List OpValue) → IsCausalLog n log → DotsDiffer log
 dots_differ n [] c = tt
@@ -31,7 +32,7 @@ pub record IsInsertBy (a : Insertion) (x : OpValue) : Type 0 where
   pub deps : a.deps ≡ x.deps
   pub body : x.body ≡ Insert a.slot a.run
 
-insertion_parts : (x : OpValue) (a : Insertion) → insertion_of x ≡ Some a → IsInsertBy a x
+pub insertion_parts : (x : OpValue) (a : Insertion) → insertion_of x ≡ Some a → IsInsertBy a x
 insertion_parts x a e = at x.body refl e
   where
     same : (d : DotValue) (v : List ℕ) (slot : Slot) (run : List (List ℕ)) → insertion_by d v (Insert slot run) ≡ Some a → record { dot = d; deps = v; slot = slot; run = run } ≡ a
@@ -98,6 +99,13 @@ module _ (family : Family) (c : IsConsistent family) (site : ℕ) (some : 0 < si
           let h = named_of_past family c i.op (op_of i.op i.inside) z (ap named_atom e) in
           let inside = past_in_log family c site some within i.op h.0 i.inside h.1 h.2 in
           (put_by h.0 z inside h.3, subst (λ (v : List ℕ). IsTrue (vector_has v h.0.dot)) (sym p.deps) h.2)
+
+  -- each delete names an atom that an insert in its past put
+  pub deletes_atoms : DeletesAtoms log
+  unfolding put_by
+  deletes_atoms x target i e =
+      let h = named_of_past family c x (op_of x i) target (ap named_atom e) in
+      (put_by h.0 target (past_in_log family c site some within x h.0 i h.1 h.2) h.3, h.2)
 
   pub well_rooted : IsWellRooted log
   well_rooted = record { apart = dots_differ (length family) log (log_causal family c site some within); causal = causal; full = full; rooted = rooted }

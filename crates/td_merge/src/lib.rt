@@ -9,7 +9,9 @@
 mod families;
 mod laws;
 
-pub use families::{line_ups_follow_the_past, logs_are_well_rooted};
+pub use families::{
+    line_ups_follow_the_past, logs_are_well_rooted, texts_converge_where_nothing_is_flattened,
+};
 pub use laws::{
     a_document_is_that_of_its_log, empty_slots_are_needed, rows_are_in_order,
     text_is_that_of_the_order, two_logs_of_a_small_history,
