@@ -1,2 +1,3 @@
 pub mod AtomLemmas
 pub mod RunLemmas
+pub mod RunPieces

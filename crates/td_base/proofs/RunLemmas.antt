@@ -70,16 +70,18 @@ parts_of atoms bytes ends run same_bytes same_ends =
 
 -- ---- the word of ends as a number
 
+-- the power of the bytes of some atoms, of which the first is taken apart
+pub whole_power : (atom : List ℕ) (atoms : List (List ℕ)) → 0 < length atom → 2 ^ length (concat (atom ∷ atoms)) ≡ 2 ^ (length atom - 1) * (2 * 2 ^ length (concat atoms))
+whole_power atom atoms some =
+    let behind : ℕ = 2 ^ length (concat atoms) in
+    ap (λ (n : ℕ). 2 ^ n) (length-append atom (concat atoms)) ∙ pow-add 2 (length atom) (length (concat atoms))
+    ∙ ap (λ (n : ℕ). n * behind) (sym (half_of_power (length atom) some)) ∙ omega arith
+
 pub ends_below : (atoms : List (List ℕ)) → All IsAtom atoms → ends_of atoms < 2 ^ length (concat atoms)
 ends_below [] each = omega arith
 ends_below (atom ∷ atoms) each =
-    let front : ℕ = 2 ^ (length atom - 1) in
-    let behind : ℕ = 2 ^ length (concat atoms) in
-    let below : ends_of atoms < behind = ends_below atoms (All-tail IsAtom atom atoms each) in
-    let whole : 2 ^ length (atom ++ concat atoms) ≡ front * (2 * behind) =
-    ap (λ (n : ℕ). 2 ^ n) (length-append atom (concat atoms)) ∙ pow-add 2 (length atom) (length (concat atoms))
-    ∙ ap (λ (n : ℕ). n * behind) (sym (half_of_power (length atom) (All-head IsAtom atom atoms each).some)) ∙ omega arith in
-    rw whole (mul-lt-mul_of_pos_left (omega arith) (pow_pos (length atom - 1)))
+    let below : ends_of atoms < 2 ^ length (concat atoms) = ends_below atoms (All-tail IsAtom atom atoms each) in
+    rw (whole_power atom atoms (All-head IsAtom atom atoms each).some) (mul-lt-mul_of_pos_left (omega arith) (pow_pos (length atom - 1)))
 
 pub count_ends : (atoms : List (List ℕ)) → count_ones (ends_of atoms) ≡ length atoms
 unfolding count_ones

@@ -1,5 +1,5 @@
 -- Runs as lists of atoms.
-use Rattle.std.specs.Prelude.{◌≡◌, ◌<◌, ◌≤◌, ℕ, List, [], length, All}
+use Rattle.std.specs.Prelude.{◌≡◌, ◌<◌, ◌≤◌, ℕ, List, [], ◌∷◌, length, take, drop, All}
 use Rattle.std.specs.List.{concat}
 use Rattle.td_base.specs.Atom.{IsAtom}
 use Rattle.td_base.specs.declared.run.TheConstants.{MAX_RUN_LEN}
@@ -16,3 +16,8 @@ pub record IsRun (atoms : List (List ℕ)) : Type 0 where
 abbrev pub IsRunFault : List (List ℕ) → RunFault → Type 0
 IsRunFault atoms Empty = atoms ≡ []
 IsRunFault atoms (Long len) = (MAX_RUN_LEN < length (concat atoms)) × (len ≡ length (concat atoms))
+
+-- the bytes, cut into pieces of these lengths, one after another
+abbrev pub pieces : List ℕ → List ℕ → List (List ℕ)
+pieces [] bytes = []
+pieces (len ∷ lens) bytes = take len bytes ∷ pieces lens (drop len bytes)

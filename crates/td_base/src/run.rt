@@ -1,8 +1,8 @@
-ghost use Rattle.std.specs.Prelude.{◌≡◌, ◌<◌, ◌^◌, ◌∷◌, [], length, All, IfErr, slice_get};
+ghost use Rattle.std.specs.Prelude.{◌≡◌, ◌<◌, ◌-◌, ◌^◌, ◌++◌, ◌∷◌, [], length, map, replicate, sum, All, IfErr, slice_get};
 ghost use Rattle.std.specs.List.{concat};
 ghost use Rattle.std.specs.Result.{OkIff};
 ghost use Rattle.td_base.specs.Atom.{IsAtom};
-ghost use Rattle.td_base.specs.Run.{IsRun, IsRunFault};
+ghost use Rattle.td_base.specs.Run.{IsRun, IsRunFault, pieces};
 
 use crate::atom::Atom;
 use std::marker::Model;
@@ -86,6 +86,23 @@ impl Run {
         Ok(Run { bytes, ends })
     }
 
+    /// The run of the atoms that these bytes are, cut into pieces of these lengths. Takes no memory.
+    pub fn cut(bytes: &[u8], lengths: &[u8]) -> Run
+        requires whole { sum lengths.now ≡ length bytes.now }
+        requires run { IsRun (pieces lengths.now bytes.now) }
+        ensures { result ≡ pieces lengths.now bytes.now }
+    {
+        let mut ends = 0;
+        let mut end = 0;
+        for len in lengths {
+            end += *len;
+            ends |= 1 << (end - 1);
+        }
+        let mut all = [0; MAX_RUN_LEN];
+        all[..bytes.len()].copy_from_slice(bytes);
+        Run { bytes: all, ends }
+    }
+
     /// How many atoms the run has.
     pub fn len(&self) -> u8
         ensures len { result ≡ length self.now }
@@ -110,6 +127,28 @@ impl Run {
         }
         let end = start + ends.trailing_zeros() as usize + 1;
         Atom::new(&self.bytes[start..end]).ok()
+    }
+
+    /// The bytes of the atoms, one after another.
+    pub fn bytes(&self) -> &[u8]
+        ensures { result.now ≡ concat self.now }
+    {
+        let len = u64::BITS - self.ends.leading_zeros();
+        &self.bytes[..len as usize]
+    }
+
+    /// How many bytes each atom has, and zeros behind these numbers.
+    pub fn lengths(&self) -> [u8; MAX_RUN_LEN]
+        ensures { result ≡ map length self.now ++ replicate (MAX_RUN_LEN - length self.now) 0 }
+    {
+        let mut lengths = [0; MAX_RUN_LEN];
+        let mut ends = self.ends;
+        for i in 0..self.len() as usize {
+            let last = ends.trailing_zeros();
+            lengths[i] = last as u8 + 1;
+            ends = ends >> last >> 1;
+        }
+        lengths
     }
 }
 
