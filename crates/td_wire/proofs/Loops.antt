@@ -1,19 +1,24 @@
 -- Loops that read one field after another: what was read so far, put in front of what reading gives for the rest, is what
 -- reading gives for all.
-use Rattle.std.proofs.Common.{◌≡◌, ℕ, zero, suc, ◌+◌, ◌-◌, ◌<◌, ◌≤◌, leb, ◌&&◌, List, [], ◌∷◌, ◌++◌, length, take, drop, get_or, sum, All, Option, Some, None, Result, Ok, Err, refl, sym, ap, subst, ◌∙◌, append_assoc, add-one, arith}
+use Rattle.std.proofs.Common.{◌≡◌, ℕ, zero, suc, ◌+◌, ◌-◌, ◌*◌, ◌/◌, ◌%◌, ◌<◌, ◌≤◌, leb, ◌&&◌, List, [], ◌∷◌, ◌++◌, length, take, drop, get_or, map, sum, All, Option, Some, None, Result, Ok, Err, refl, sym, ap, subst, ◌∙◌, append_assoc, add-one, arith}
 use Rattle.std.specs.Prelude.{IsSome, slice_set}
 use Rattle.std.specs.Option.{SomeIff}
 use Rattle.std.specs.Result.{result_ok}
-use Rattle.td_base.specs.Run.{IsRun}
+use Rattle.td_base.specs.Run.{IsRun, pieces}
+use Rattle.td_base.proofs.RunPieces.{piece_lengths, piece_bytes, pieces_again}
 use Rattle.std.proofs.lemmas.List.Elements.{recursion_from_All}
-use Rattle.std.proofs.lemmas.List.{append-nil, take_all, drop_all}
+use Rattle.std.proofs.lemmas.List.{append-nil, length-append, length-take-le, length-drop, take_all, drop_all, take_at, take-append-drop}
+use Rattle.std.proofs.lemmas.Str.{IsUtf8-from_ascii, IsAscii-take, IsAscii-drop}
+use Rattle.std.specs.Str.{IsUtf8, IsAscii}
+use Rattle.std.specs.List.{AllByRecursion}
+use Rattle.td_wire.specs.Spelling.{number_bytes}
 use Rattle.std.proofs.lemmas.Bool.{leb-true, and_parts}
 use Rattle.std.proofs.Math.Seq.{take-suc-set, drop-cons}
 use Rattle.td_base.specs.Value.{DotValue}
 use Rattle.td_wire.specs.Reading.{Read, ◌>>=◌, byte_at, number_at, character_len, second_least, second_most, lead_at, continuations_at, character_at, text_at, atom_at, lengths_at, atoms_at, dep_least, dep_most, deps_at}
-use Rattle.td_wire.proofs.Bytes.{InRange, passing_sound, number_reads}
+use Rattle.td_wire.proofs.Bytes.{InRange, passing_sound, number_is, number_reads}
 use Rattle.td_wire.proofs.Texts.{character_reads}
-use Rattle.td_wire.proofs.Runs.{AtomOf, atom_reads, Lengths, to_lengths, lengths_reads, atoms_reads, run_from}
+use Rattle.td_wire.proofs.Runs.{AtomOf, atom_reads, Lengths, to_lengths, lengths_reads, AtomsFrom, atoms_reads, to_atoms, from_atoms, length_concat, run_from}
 
 -- the values that are read, changed
 abbrev pub mapped : {A B : Type 0} → (A → B) → Read A → Read B
@@ -55,6 +60,28 @@ some_if None P v h p = absurd (h p)
 
 pub number_in : (low high : ℕ) (xs : List ℕ) (n : ℕ) (rest : List ℕ) → low ≤ high → high ≤ 65535 → number_at low high xs ≡ Ok (n, rest) → InRange low high n
 number_in low high xs n rest some short read = ((number_reads low high some short).sound xs n rest read).2.can
+
+-- a number in its four bytes
+number_taken : (low high n a b c d : ℕ) (rest : List ℕ) → n ≡ a * 16777216 + b * 65536 + c * 256 + d → d < 256 → low ≤ n → n ≤ high → high ≤ 65535
+    → number_at low high (a ∷ b ∷ c ∷ d ∷ rest) ≡ Ok (n, rest)
+number_taken low high n a b c d rest is byte least most short =
+    let first : 0 ≡ a = omega (arith, is, most, short) in
+    let second : 0 ≡ b = omega (arith, is, most, short) in
+    let third : n / 256 ≡ c = omega (arith, is, byte, most, short) in
+    let fourth : n % 256 ≡ d = omega (arith, is, byte, most, short) in
+    let bytes : number_bytes n ≡ a ∷ b ∷ c ∷ d ∷ [] = number_is n (omega (arith, most, short)) ∙ (λ i. first i ∷ second i ∷ third i ∷ fourth i ∷ []) in
+    ap (λ (front : List ℕ). number_at low high (front ++ rest)) (sym bytes)
+    ∙ (number_reads low high (omega (arith, least, most)) short).again n (number_bytes n) rest (record { can = record { least = least; most = most }; is = refl })
+
+-- a number in the first four bytes
+pub number_in_front : (low high n : ℕ) (xs : List ℕ) → 4 ≤ length xs → n ≡ get_or xs 0 0 * 16777216 + get_or xs 1 0 * 65536 + get_or xs 2 0 * 256 + get_or xs 3 0 → get_or xs 3 0 < 256
+    → low ≤ n → n ≤ high → high ≤ 65535 → number_at low high xs ≡ Ok (n, take (length xs - 4) (drop 4 xs))
+number_in_front low high n [] four is byte least most short = absurd (omega (arith, four))
+number_in_front low high n (a ∷ []) four is byte least most short = absurd (omega (arith, four))
+number_in_front low high n (a ∷ b ∷ []) four is byte least most short = absurd (omega (arith, four))
+number_in_front low high n (a ∷ b ∷ c ∷ []) four is byte least most short = absurd (omega (arith, four))
+number_in_front low high n (a ∷ b ∷ c ∷ d ∷ rest) four is byte least most short =
+    number_taken low high n a b c d rest is byte least most short ∙ ap (λ ys. done n ys) (sym (take_all (length (a ∷ b ∷ c ∷ d ∷ rest) - 4) rest (omega arith)))
 
 pub character_in : (room : ℕ) (xs : List ℕ) (n : ℕ) (rest : List ℕ) → 1 ≤ room → character_at room xs ≡ Ok (n, rest) → (1 ≤ n) × (n ≤ room)
 character_in room xs n rest some read = let c = ((character_reads room some).sound xs n rest read).2 in (c.some, c.short)
@@ -237,46 +264,6 @@ deps_done own vector n i xs total le long so_far =
     is_done (λ ds. take i vector ++ ds) [] vector xs total (append-nil (take i vector) ∙ take_all i vector (omega (arith, le, long)))
     (subst (λ (k : ℕ). mapped (λ ds. take i vector ++ ds) (deps_at own (i + 1) k xs) ≡ total) m so_far)
 
--- ---- atoms
-
-pub atoms_step : (lens : List ℕ) (atoms : List (List ℕ)) (i : ℕ) (a : List ℕ) (xs after : List ℕ) (total : Read (List (List ℕ))) → i < length lens → i < length atoms
-    → atom_at (get_or lens i 0) xs ≡ Ok (a, after)
-    → mapped (λ more. take i atoms ++ more) (atoms_at (drop i lens) xs) ≡ total
-    → mapped (λ more. take (i + 1) (slice_set atoms i a) ++ more) (atoms_at (drop (i + 1) lens) after) ≡ total
-unfolding atoms_at
-atoms_step lens atoms i a xs after total lt room read so_far =
-    let front : take (i + 1) (slice_set atoms i a) ≡ take i atoms ++ a ∷ [] = ap (λ (k : ℕ). take k (slice_set atoms i a)) (add-one i) ∙ take-suc-set atoms i a room in
-    let step = goes_on (λ a more. a ∷ more) (atom_at (get_or lens i 0) xs) (λ x. atoms_at (drop (suc i) lens) x.1) (λ more. take i atoms ++ more) (λ more. take (i + 1) (slice_set atoms i a) ++ more)
-    a after total read (λ more. sym (append_assoc (take i atoms) (a ∷ []) more) ∙ ap (λ (ys : List (List ℕ)). ys ++ more) (sym front))
-    (subst (λ (ls : List ℕ). mapped (λ more. take i atoms ++ more) (atoms_at ls xs) ≡ total) (drop-cons lens i 0 lt) so_far) in
-    subst (λ (k : ℕ). mapped (λ more. take (i + 1) (slice_set atoms i a) ++ more) (atoms_at (drop k lens) after) ≡ total) (sym (add-one i)) step
-
-pub atoms_end : (lens : List ℕ) (atoms : List (List ℕ)) (i left : ℕ) (xs : List ℕ) (total : Read (List (List ℕ))) → i < length lens
-    → atom_at (get_or lens i 0) xs ≡ Err left → mapped (λ more. take i atoms ++ more) (atoms_at (drop i lens) xs) ≡ total → total ≡ Err left
-unfolding atoms_at
-atoms_end lens atoms i left xs total lt read so_far =
-    ends (λ a more. a ∷ more) (atom_at (get_or lens i 0) xs) (λ x. atoms_at (drop (suc i) lens) x.1) (λ more. take i atoms ++ more) left total read
-    (subst (λ (ls : List ℕ). mapped (λ more. take i atoms ++ more) (atoms_at ls xs) ≡ total) (drop-cons lens i 0 lt) so_far)
-
-pub atoms_done : (lens : List ℕ) (atoms : List (List ℕ)) (i : ℕ) (xs : List ℕ) (total : Read (List (List ℕ))) → i ≡ length lens
-    → mapped (λ more. take i atoms ++ more) (atoms_at (drop i lens) xs) ≡ total → total ≡ Ok (take (length lens) atoms, xs)
-unfolding atoms_at
-atoms_done lens atoms i xs total e so_far =
-    is_done (λ more. take i atoms ++ more) [] (take (length lens) atoms) xs total (append-nil (take i atoms) ∙ ap (λ (k : ℕ). take k atoms) e)
-    (subst (λ (ls : List ℕ). mapped (λ more. take i atoms ++ more) (atoms_at ls xs) ≡ total) (drop_all i lens (omega (arith, e))) so_far)
-
--- the first atom
-pub atoms_first : (l : ℕ) (lens : List ℕ) (atoms : List (List ℕ)) (a xs after : List ℕ) → atom_at l xs ≡ Ok (a, after) → take 1 atoms ≡ a ∷ []
-    → mapped (λ more. take 1 atoms ++ more) (atoms_at lens after) ≡ atoms_at (l ∷ lens) xs
-unfolding atoms_at
-atoms_first l lens atoms a xs after read front =
-    ap (λ (ys : List (List ℕ)). mapped (λ more. ys ++ more) (atoms_at lens after)) front
-    ∙ sym (ap (λ (r : Read (List ℕ)). joined (λ a more. a ∷ more) r (λ x. atoms_at lens x.1)) read)
-
-pub atoms_first_end : (l : ℕ) (lens xs : List ℕ) (left : ℕ) → atom_at l xs ≡ Err left → atoms_at (l ∷ lens) xs ≡ Err left
-unfolding atoms_at
-atoms_first_end l lens xs left read = ap (λ (r : Read (List ℕ)). joined (λ a more. a ∷ more) r (λ x. atoms_at lens x.1)) read
-
 -- ---- one atom
 
 -- the front is a text where one was read
@@ -295,12 +282,90 @@ pub atom_end : (len left : ℕ) (xs : List ℕ) → text_at len len xs ≡ Err l
 unfolding atom_at
 atom_end len left xs read = ap (λ (r : Read ℕ). r >>= λ t. done (take len xs) t.1) read
 
-pub atom_in : (len : ℕ) (xs a rest : List ℕ) → atom_at len xs ≡ Ok (a, rest) → AtomOf len a
-atom_in len xs a rest read = ((atom_reads len).sound xs a rest read).2.can
+-- ---- atoms
 
-pub run_in : (ls : List ℕ) (atoms : List (List ℕ)) (xs rest : List ℕ) → atoms_at ls xs ≡ Ok (atoms, rest) → 0 < length ls → All (λ l. 1 ≤ l) ls → sum ls ≤ 64 → IsRun atoms
-run_in ls atoms xs rest read some each together =
-    run_from ls atoms ((atoms_reads ls).sound xs atoms rest read).2.can some (recursion_from_All (λ l. 1 ≤ l) ls each) together
+-- what is left behind the atoms, or the fault, and not the atoms themselves
+abbrev pub passed : Read (List (List ℕ)) → Read (List (List ℕ))
+passed r = mapped (λ _. []) r
+
+pub atoms_step : (lens : List ℕ) (i n : ℕ) (xs after : List ℕ) (total : Read (List (List ℕ))) → i < length lens → text_at (get_or lens i 0) (get_or lens i 0) xs ≡ Ok (n, after)
+    → passed (atoms_at (drop i lens) xs) ≡ total → passed (atoms_at (drop (i + 1) lens) after) ≡ total
+unfolding atoms_at
+atoms_step lens i n xs after total lt read so_far =
+    let len : ℕ = get_or lens i 0 in
+    let step = goes_on (λ a more. a ∷ more) (atom_at len xs) (λ x. atoms_at (drop (suc i) lens) x.1) (λ _. []) (λ _. []) (take len xs) after total (text_taken len n xs after read).read (λ _. refl)
+    (subst (λ (ls : List ℕ). passed (atoms_at ls xs) ≡ total) (drop-cons lens i 0 lt) so_far) in
+    subst (λ (k : ℕ). passed (atoms_at (drop k lens) after) ≡ total) (sym (add-one i)) step
+
+fault_again : (r : Read (List (List ℕ))) (left : ℕ) → passed r ≡ Err left → r ≡ Err left
+fault_again (Ok x) left e = absurd cc
+fault_again (Err k) left e = let same : k ≡ left = cc in rw same refl
+
+pub atoms_end : (lens : List ℕ) (i left : ℕ) (xs : List ℕ) (all : Read (List (List ℕ))) → i < length lens → text_at (get_or lens i 0) (get_or lens i 0) xs ≡ Err left
+    → passed (atoms_at (drop i lens) xs) ≡ passed all → all ≡ Err left
+unfolding atoms_at
+atoms_end lens i left xs all lt read so_far =
+    let len : ℕ = get_or lens i 0 in
+    fault_again all left (ends (λ a more. a ∷ more) (atom_at len xs) (λ x. atoms_at (drop (suc i) lens) x.1) (λ _. []) left (passed all) (atom_end len left xs read)
+    (subst (λ (ls : List ℕ). passed (atoms_at ls xs) ≡ passed all) (drop-cons lens i 0 lt) so_far))
+
+abbrev read_is : List (List ℕ) × List ℕ → Read (List (List ℕ))
+read_is x = Ok x
+
+pair_is : (x y : List (List ℕ) × List ℕ) → read_is x ≡ read_is y → x ≡ y
+pair_is x y e = cc
+
+atoms_again : (r : Read (List (List ℕ))) (rest : List ℕ) → passed r ≡ Ok ([], rest) → (atoms : List (List ℕ)) × (r ≡ Ok (atoms, rest))
+atoms_again (Ok x) rest e = let same : x.1 ≡ rest = ap (λ (y : List (List ℕ) × List ℕ). y.1) (pair_is ([], x.1) ([], rest) e) in (x.0, ap (λ ys. done x.0 ys) same)
+atoms_again (Err k) rest e = absurd cc
+
+atoms_done : (lens : List ℕ) (i : ℕ) (xs : List ℕ) (all : Read (List (List ℕ))) → length lens ≤ i → passed (atoms_at (drop i lens) xs) ≡ passed all
+    → (atoms : List (List ℕ)) × (all ≡ Ok (atoms, xs))
+unfolding atoms_at
+atoms_done lens i xs all end so_far =
+    atoms_again all xs (is_done {A = List (List ℕ)} (λ _. []) [] [] xs (passed all) refl (subst (λ (ls : List ℕ). passed (atoms_at ls xs) ≡ passed all) (drop_all i lens end) so_far))
+
+-- the bytes in front of the rest are those of the run that is read
+pub record IsCut (lens xs front rest : List ℕ) : Type 0 where
+  pub within : length rest ≤ length xs
+  pub whole : sum lens ≡ length front
+  pub run : IsRun (pieces lens front)
+  pub read : atoms_at lens xs ≡ Ok (pieces lens front, rest)
+
+pub atoms_cut : (lens : List ℕ) (i : ℕ) (xs rest : List ℕ) → length lens ≤ i → 0 < length lens → All (λ l. 1 ≤ l) lens → sum lens ≤ 64
+    → passed (atoms_at (drop i lens) rest) ≡ passed (atoms_at lens xs) → IsCut lens xs (take (length xs - length rest) xs) rest
+atoms_cut lens i xs rest end some each together so_far =
+    let read = atoms_done lens i rest (atoms_at lens xs) end so_far in
+    let atoms : List (List ℕ) = read.0 in
+    let s = (atoms_reads lens).sound xs atoms rest read.1 in
+    let long = ap length s.1 ∙ length-append s.0 rest in
+    let front : take (length xs - length rest) xs ≡ s.0 = ap (take (length xs - length rest)) s.1 ∙ take_at s.0 rest (length xs - length rest) (omega (arith, long)) in
+    let lengths : map length atoms ≡ lens = (to_atoms lens atoms s.2.can).0 in
+    let cut : pieces lens s.0 ≡ atoms = (λ j. pieces (sym lengths j) (s.2.is j)) ∙ pieces_again atoms in
+    let size : sum lens ≡ length s.0 = ap sum (sym lengths) ∙ sym (length_concat atoms) ∙ ap length (sym s.2.is) in
+    let run : IsRun atoms = run_from lens atoms s.2.can some (recursion_from_All (λ l. 1 ≤ l) lens each) together in
+    let made : IsCut lens xs s.0 rest = record { within = omega (arith, long); whole = size; run = rw cut run; read = read.1 ∙ ap (λ a. done a rest) (sym cut) } in
+    rw front made
+
+-- pieces of ASCII are texts
+ascii_texts : (lens bytes : List ℕ) → IsAscii bytes → AllByRecursion IsUtf8 (pieces lens bytes)
+ascii_texts [] bytes ascii = tt
+ascii_texts (len ∷ lens) bytes ascii = (IsUtf8-from_ascii (take len bytes) (IsAscii-take bytes len ascii), ascii_texts lens (drop len bytes) (IsAscii-drop bytes len ascii))
+
+pub ascii_cut : (lens xs : List ℕ) (len : ℕ) → len ≡ sum lens → len ≤ length xs → IsAscii (take len xs) → 0 < length lens → All (λ l. 1 ≤ l) lens → sum lens ≤ 64
+    → IsCut lens xs (take len xs) (drop len xs)
+ascii_cut lens xs len len_is within ascii some each together =
+    let front : List ℕ = take len xs in
+    let atoms : List (List ℕ) = pieces lens front in
+    let whole : sum lens ≡ length front = sym len_is ∙ sym (length-take-le len xs within) in
+    let lengths : map length atoms ≡ lens = piece_lengths lens front whole in
+    let read : AtomsFrom lens atoms = subst (λ (ls : List ℕ). AtomsFrom ls atoms) lengths (from_atoms atoms (ascii_texts lens front ascii)) in
+    record {
+      within = omega (arith, length-drop len xs);
+      whole = whole;
+      run = run_from lens atoms read some (recursion_from_All (λ l. 1 ≤ l) lens each) together;
+      read = ap (atoms_at lens) (sym (take-append-drop len xs)) ∙ (atoms_reads lens).again atoms front (drop len xs) (record { can = read; is = sym (piece_bytes lens front whole) });
+    }
 
 -- the value of an answer that is Ok
 pub ok_value : {A E : Type 0} (r : Result A E) (o : Option A) (u v : A) → o ≡ result_ok r → r ≡ Ok v → o ≡ Some u → v ≡ u

@@ -148,7 +148,7 @@ abbrev rest_of : List (List ℕ) → List (List ℕ)
 rest_of [] = []
 rest_of (a ∷ atoms) = atoms
 
-abbrev AtomsFrom : List ℕ → List (List ℕ) → Type 0
+abbrev pub AtomsFrom : List ℕ → List (List ℕ) → Type 0
 AtomsFrom [] atoms = [] ≡ atoms
 AtomsFrom (l ∷ ls) atoms = AtomOf l (first_of atoms) × (AtomsFrom ls (rest_of atoms) × (first_of atoms ∷ rest_of atoms ≡ atoms))
 
@@ -170,7 +170,7 @@ to_atoms (l ∷ ls) (a ∷ atoms) c =
     let first : length a ≡ l = c.0.len_is in
     (rw (first, rest.0) refl, (c.0.text, rest.1))
 
-from_atoms : (atoms : List (List ℕ)) → AllByRecursion IsUtf8 atoms → AtomsFrom (map length atoms) atoms
+pub from_atoms : (atoms : List (List ℕ)) → AllByRecursion IsUtf8 atoms → AtomsFrom (map length atoms) atoms
 from_atoms [] h = refl
 from_atoms (a ∷ atoms) h = (record { len_is = refl; text = h.0 }, (from_atoms atoms h.1, refl))
 
@@ -180,7 +180,7 @@ abbrev pub RunIn : Format → List (List ℕ) → Type 0
 RunIn One atoms = IsRun atoms × (length atoms ≡ 1)
 RunIn Two atoms = IsRun atoms
 
-length_concat : (atoms : List (List ℕ)) → length (concat atoms) ≡ sum (map length atoms)
+pub length_concat : (atoms : List (List ℕ)) → length (concat atoms) ≡ sum (map length atoms)
 length_concat [] = refl
 length_concat (a ∷ atoms) = let rest = length_concat atoms in omega (arith, rest, length-append a (concat atoms), sum_cons (length a) (map length atoms))
 

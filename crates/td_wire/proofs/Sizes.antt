@@ -1,10 +1,7 @@
 -- How long spellings are: at most 402 bytes.
-use Rattle.std.proofs.Common.{◌≡◌, ℕ, ◌+◌, ◌*◌, ◌<◌, ◌≤◌, List, [], ◌∷◌, ◌++◌, length, map, take, drop, get_or, add-one, Option, Some, refl, sym, ap, subst, ◌∙◌, append_assoc, arith}
-use Rattle.std.specs.Prelude.{slice_get}
-use Rattle.std.proofs.lemmas.Option.{slice_get-get_or}
+use Rattle.std.proofs.Common.{◌≡◌, ℕ, ◌+◌, ◌*◌, ◌<◌, ◌≤◌, List, [], ◌∷◌, ◌++◌, length, map, take, get_or, add-one, refl, sym, ap, subst, ◌∙◌, arith}
 use Rattle.std.specs.List.{concat, flat_map}
-use Rattle.std.proofs.lemmas.List.{length-append, length-map, append-nil, map_push, take-append-drop, length-take-le}
-use Rattle.std.proofs.lemmas.List.Folds.{concat-append}
+use Rattle.std.proofs.lemmas.List.{length-append, length-map, append-nil, length-take-le}
 use Rattle.std.proofs.Math.Seq.{take-suc}
 use Rattle.std.proofs.lemmas.List.Concat.{flat_map-cons, flat_map-append}
 use Rattle.td_base.specs.Run.{IsRun}
@@ -68,62 +65,9 @@ numbers_more v i lt =
     ap (flat_map number_bytes) (ap (λ (k : ℕ). take k v) (add-one i) ∙ take-suc v i 0 lt) ∙ flat_map-append number_bytes (take i v) (get_or v i 0 ∷ [])
     ∙ ap (λ (ys : List ℕ). flat_map number_bytes (take i v) ++ ys) (flat_map-cons number_bytes (get_or v i 0) [] ∙ append-nil (number_bytes (get_or v i 0)))
 
--- the lengths, and the bytes, of the atoms up to a place
-pub lengths_more : (atoms : List (List ℕ)) (i : ℕ) → i < length atoms → map length (take (i + 1) atoms) ≡ map length (take i atoms) ++ length (get_or atoms i []) ∷ []
-lengths_more atoms i lt = ap (map length) (ap (λ (k : ℕ). take k atoms) (add-one i) ∙ take-suc atoms i [] lt) ∙ map_push length (take i atoms) (get_or atoms i [])
-
-pub concat_more : (atoms : List (List ℕ)) (i : ℕ) → i < length atoms → concat (take (i + 1) atoms) ≡ concat (take i atoms) ++ get_or atoms i []
-concat_more atoms i lt =
-    ap concat (ap (λ (k : ℕ). take k atoms) (add-one i) ∙ take-suc atoms i [] lt) ∙ concat-append (take i atoms) (get_or atoms i [] ∷ [])
-    ∙ ap (λ (ys : List ℕ). concat (take i atoms) ++ ys) (append-nil (get_or atoms i []))
-
-pub concat_within : (atoms : List (List ℕ)) (i : ℕ) → length (concat (take i atoms)) ≤ length (concat atoms)
-concat_within atoms i =
-    let split = ap concat (take-append-drop i atoms) in
-    omega (arith, ap length split, ap length (concat-append (take i atoms) (drop i atoms)), length-append (concat (take i atoms)) (concat (drop i atoms)))
-
--- an atom of a run has 64 bytes at most
-pub atom_short : (atoms : List (List ℕ)) (i : ℕ) → IsRun atoms → i < length atoms → length (get_or atoms i []) ≤ 64
-atom_short atoms i r lt = (r.each i [] lt).short
-
-pub count_short : (atoms : List (List ℕ)) → IsRun atoms → length atoms ≤ 64
-count_short atoms r = (from_run atoms r).0.most
-
--- a piece behind what was written
-pub put_more : (old front piece next buffer new : List ℕ) → buffer ≡ old ++ front → new ≡ buffer ++ piece → next ≡ front ++ piece → new ≡ old ++ next
-put_more old front piece next buffer new before more is =
-    more ∙ ap (λ (ys : List ℕ). ys ++ piece) before ∙ append_assoc old front piece ∙ ap (λ (ys : List ℕ). old ++ ys) (sym is)
-
--- the atom at a place
-pub atom_is : (atoms : List (List ℕ)) (i : ℕ) (found : Option (List ℕ)) (a : List ℕ) → i < length atoms → found ≡ slice_get atoms i → found ≡ Some a → a ≡ get_or atoms i []
-atom_is atoms i found a lt got some =
-    let both : Some a ≡ Some (get_or atoms i []) = sym some ∙ got ∙ slice_get-get_or atoms i [] lt in cc
-
 pub deps_room : (old v buffer : List ℕ) (i : ℕ) → length old ≤ 8 → length v ≤ 64 → i < length v → buffer ≡ old ++ length v ∷ flat_map number_bytes (take i v) → length buffer + 4 ≤ 402
 deps_room old v buffer i short size lt is =
     omega (arith, short, size, lt, ap length is, length-append old (length v ∷ flat_map number_bytes (take i v)), length_numbers (take i v), length-take-le i v (omega (arith, lt)))
-
-pub lengths_room : (old : List ℕ) (atoms : List (List ℕ)) (buffer : List ℕ) (i : ℕ) → length old ≤ 273 → IsRun atoms → i < length atoms
-    → buffer ≡ old ++ length atoms ∷ map length (take i atoms) → length buffer < 402
-lengths_room old atoms buffer i short r lt is =
-    omega (arith, short, lt, count_short atoms r, ap length is, length-append old (length atoms ∷ map length (take i atoms)), length-map (take i atoms) length, length-take-le i atoms (omega (arith, lt)))
-
-pub run_room : (old : List ℕ) (atoms : List (List ℕ)) (buffer : List ℕ) (i : ℕ) → length old ≤ 273 → IsRun atoms → i < length atoms
-    → buffer ≡ (old ++ length atoms ∷ map length atoms) ++ concat (take i atoms) → length buffer + length (get_or atoms i []) ≤ 402
-run_room old atoms buffer i short r lt is =
-    omega (
-      arith,
-      short,
-      count_short atoms r,
-      ap length is,
-      length-append (old ++ length atoms ∷ map length atoms) (concat (take i atoms)),
-      length-append old (length atoms ∷ map length atoms),
-      length-map atoms length,
-      r.short,
-      concat_within atoms (i + 1),
-      ap length (concat_more atoms i lt),
-      length-append (concat (take i atoms)) (get_or atoms i []),
-    )
 
 pub deps_short : (old dot v buffer after_kind after_dot : List ℕ) (k : ℕ) → length old ≤ 2 → length v ≤ 64 → length dot ≡ 5 → after_kind ≡ old ++ k ∷ [] → after_dot ≡ after_kind ++ dot
     → buffer ≡ after_dot ++ deps_bytes v → length buffer ≤ 265

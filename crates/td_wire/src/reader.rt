@@ -36,8 +36,23 @@ impl Reader<'_> {
     }
 
     // A number in a range, in four bytes of which the first two are 0.
-    #[tactic(auto, unfolding(crate::specs::Reading::number_at))]
     pub(crate) fn number(&mut self, least: u16, most: u16) -> Result<u16, Fault>
+        ensures { Gives result self.new.rest.now (number_at least most self.old.rest.now) }
+    {
+        // all four bytes at once: one by one only where they are no such number
+        if let [first, second, third, fourth, rest @ ..] = self.rest {
+            let number = u32::from_be_bytes([*first, *second, *third, *fourth]);
+            if u32::from(least) <= number && number <= u32::from(most) {
+                self.rest = rest;
+                return Ok(number as u16);
+            }
+        }
+        self.number_by_bytes(least, most)
+    }
+
+    // The same, byte by byte, up to the first one at fault.
+    #[tactic(auto, unfolding(crate::specs::Reading::number_at))]
+    fn number_by_bytes(&mut self, least: u16, most: u16) -> Result<u16, Fault>
         ensures { Gives result self.new.rest.now (number_at least most self.old.rest.now) }
     {
         self.byte(0, 0)?;

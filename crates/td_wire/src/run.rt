@@ -54,11 +54,37 @@ impl<'a> Reader<'a> {
         requires together { sum lengths.now ≤ MAX_RUN_LEN }
         ensures { Gives result self.new.rest.now (atoms_at lengths.now self.old.rest.now) }
     {
-        let first = self.atom(lengths[0])?;
-        let mut atoms = [first; MAX_RUN_LEN];
-        for i in 1..lengths.len() {
-            atoms[i] = self.atom(lengths[i])?;
+        let len = bytes_together(lengths);
+        // ASCII is text wherever it is cut
+        if len <= self.rest.len() && self.rest[..len].is_ascii() {
+            let (bytes, rest) = self.rest.split_at(len);
+            self.rest = rest;
+            return Ok(Run::cut(bytes, lengths));
         }
-        Ok(Run::new(&atoms[..lengths.len()]).ok().unwrap())
+        self.texts(lengths)
     }
+
+    // The atoms with these lengths, read character by character.
+    fn texts(&mut self, lengths: &[u8]) -> Result<Run, Fault>
+        requires some { 0 < length lengths.now }
+        requires few { length lengths.now ≤ MAX_RUN_LEN }
+        requires each { All (λ len. 1 ≤ len) lengths.now }
+        requires together { sum lengths.now ≤ MAX_RUN_LEN }
+        ensures { Gives result self.new.rest.now (atoms_at lengths.now self.old.rest.now) }
+    {
+        let bytes = self.rest;
+        for len in lengths {
+            self.text(*len)?;
+        }
+        let end = bytes.len() - self.rest.len();
+        Ok(Run::cut(&bytes[..end], lengths))
+    }
+}
+
+// How many bytes the atoms with these lengths have.
+fn bytes_together(lengths: &[u8]) -> usize
+    requires { length lengths.now ≤ MAX_RUN_LEN }
+    ensures { result ≡ sum lengths.now }
+{
+    lengths.iter().map(|len| usize::from(*len)).sum()
 }

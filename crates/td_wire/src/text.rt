@@ -19,7 +19,7 @@ impl Reader<'_> {
     }
 
     // A text of `room` bytes. What is answered is that number again.
-    fn text(&mut self, room: u8) -> Result<u8, Fault>
+    pub(crate) fn text(&mut self, room: u8) -> Result<u8, Fault>
         ensures { Gives result self.new.rest.now (text_at room room self.old.rest.now) }
     {
         let mut left = room;

@@ -132,23 +132,8 @@ fn put_run(buffer: &mut Buffer, run: &Run)
     ensures bytes { buffer.new ≡ buffer.old ++ run_bytes Two run.now }
     ensures run { IsRun run.now }
 {
-    put_lengths(buffer, run);
-    for i in 0..run.len() {
-        let atom = run.atom(i).unwrap();
-        buffer.extend(atom.bytes());
-    }
-}
-
-// How many atoms the run has, and the length of each.
-fn put_lengths(buffer: &mut Buffer, run: &Run)
-    requires { length buffer.old ≤ 273 }
-    ensures bytes { buffer.new ≡ buffer.old ++ length run.now ∷ map length run.now }
-    ensures run { IsRun run.now }
-{
     let count = run.len();
     buffer.push(count);
-    for i in 0..count {
-        let atom = run.atom(i).unwrap();
-        buffer.push(atom.bytes().len() as u8);
-    }
+    buffer.extend(&run.lengths()[..count as usize]);
+    buffer.extend(run.bytes());
 }
