@@ -1,3 +1,4 @@
+pub mod Lists
 pub mod AtomLemmas
 pub mod RunLemmas
 pub mod RunPieces

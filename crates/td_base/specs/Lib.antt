@@ -1,3 +1,4 @@
+pub mod Lists
 pub mod Value
 pub mod Order
 pub mod Atom

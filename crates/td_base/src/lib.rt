@@ -1,7 +1,8 @@
 //! The values that every crate of treedoc speaks of: sites, dots, identities of atoms, atoms, runs of atoms, lists of bytes.
 //!
 //! Each is in its range by construction, is compared as its contract says, and is seen by contracts as a number, a record
-//! of numbers or a list. Begin at `dot`, and at `specs/Value.antt` for what contracts see.
+//! of numbers or a list. Begin at `dot`, and at `specs/Value.antt` for what contracts see. What the definitions of all crates
+//! say of lists is in `specs/Lists.antt`.
 #![tactic(auto)]
 
 mod atom;

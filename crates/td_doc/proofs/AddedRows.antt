@@ -4,16 +4,17 @@ use Rattle.std.specs.Prelude.{IsNone, IsSome, is_some, Option, Some, None}
 use Rattle.std.specs.Option.{option_map}
 use Rattle.td_base.specs.declared.bit.Bit.{Bit}
 use Rattle.td_base.specs.Value.{DotValue, AtomIdValue}
+use Rattle.td_base.specs.Lists.{In}
+use Rattle.td_base.proofs.Lists.{map_In}
 use Rattle.td_path.specs.declared.slot.Slot.{Slot}
 use Rattle.td_path.specs.declared.slot.Slot.TheVariants.{Root, At}
 use Rattle.td_path.specs.declared.slot_path.SlotPath.{SlotPath}
 use Rattle.td_path.specs.declared.slot_path.SlotPath.TheVariants.{Whole, Below}
-use Rattle.td_doc.specs.Document.{DocRow, find_row, In, IsDocument}
+use Rattle.td_doc.specs.Document.{DocRow, find_row, IsDocument}
 use Rattle.td_doc.specs.Slots.{rows_below, is_within}
 use Rattle.td_doc.specs.Array.{NamedAtom, named, array, run_atoms}
 use Rattle.td_doc.specs.Insertion.{put_rows, put_array_below, insert_atom, insert_run}
 use Rattle.td_doc.specs.Answers.{IsRooted, IsFresh}
-use Rattle.td_doc.proofs.Successive.{map_In}
 use Rattle.td_doc.proofs.PutRows.{puts_in}
 use Rattle.td_doc.proofs.ArrayRows.{array_names}
 use Rattle.td_doc.proofs.Placement.{put_array, atom_is_array}

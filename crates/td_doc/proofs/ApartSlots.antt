@@ -1,12 +1,15 @@
 -- Slots that do not overlap have no row in common, and a flatten of one leaves the rows of the other.
-use Rattle.std.proofs.Common.{◌≡◌, ◌⊎◌, List, [], ◌++◌, Bool, true, false, ◌&&◌, ◌||◌, map, filter, refl, sym, ap, ◌∙◌, subst, inl, inr, ⊎_elim, true≢false}
+use Rattle.std.proofs.Common.{◌≡◌, List, [], ◌++◌, Bool, true, false, ◌&&◌, ◌||◌, map, filter, refl, sym, ap, ◌∙◌, subst, inr, ⊎_elim, true≢false}
 use Rattle.std.specs.Prelude.{is_some, Option, Some, None}
 use Rattle.std.specs.Option.{option_map}
 use Rattle.std.specs.Ordering.{is_eq}
 use Rattle.std.proofs.lemmas.Cmp.{tied_itself}
+use Rattle.std.proofs.lemmas.Bool.{or_left, or_right, or_cases, or_parts}
 use Rattle.td_base.specs.declared.bit.Bit.{Bit}
 use Rattle.td_base.specs.Order.{id_cmp, bit_cmp}
 use Rattle.td_base.specs.Value.{AtomIdValue}
+use Rattle.td_base.specs.Lists.{In}
+use Rattle.td_base.proofs.Lists.{In-filter}
 use Rattle.td_path.specs.Infix.{Pairs, path_cmp}
 use Rattle.td_path.specs.SlotPaths.{goes_on, slot_contains, slot_contains_slot, slots_overlap}
 use Rattle.td_path.specs.declared.slot.Slot.{Slot}
@@ -14,26 +17,17 @@ use Rattle.td_path.specs.declared.slot.Slot.TheVariants.{Root, At}
 use Rattle.td_path.specs.declared.slot_path.SlotPath.{SlotPath}
 use Rattle.td_path.specs.declared.slot_path.SlotPath.TheVariants.{Whole, Below}
 use Rattle.td_path.proofs.InfixOrder.{id_total, equal_paths, is_eq_true, both_true}
-use Rattle.td_path.proofs.SlotOverlap.{or_left, or_right, or_swap, apart_where_no_overlap}
-use Rattle.td_doc.specs.Document.{DocRow, last_id, find_row, live_rows, In, IsDocument}
+use Rattle.td_path.proofs.SlotOverlap.{or_swap, apart_where_no_overlap}
+use Rattle.td_doc.specs.Document.{DocRow, last_id, find_row, live_rows, IsDocument}
 use Rattle.td_doc.specs.Slots.{slot_path, rows_below, rows_in_slot, is_within, same_slot, is_root, contains_slot, overlaps}
 use Rattle.td_doc.specs.Array.{named, array}
 use Rattle.td_doc.specs.Flatten.{rows_beside, flatten_below, flatten}
-use Rattle.td_doc.proofs.Successive.{In-filter}
 use Rattle.td_doc.proofs.PutRows.{puts_in}
 use Rattle.td_doc.proofs.ArrayRows.{nobody}
 use Rattle.td_doc.proofs.Rules.{found, in_found, unfound}
 use Rattle.td_doc.proofs.SlotRows.{split, split_flatten, contained_in, filter_none, filter_parts, false_of}
 use Rattle.td_doc.proofs.Flattened.{stays_beside, flatten_document}
 use Rattle.td_doc.proofs.SubtreeRows.{was, find_in, within_is, row_of}
-
-or_true : (a b : Bool) → (a || b) ≡ true → (a ≡ true) ⊎ (b ≡ true)
-or_true true b h = inl refl
-or_true false b h = inr h
-
-or_false : (a b : Bool) → (a || b) ≡ false → (a ≡ false) × (b ≡ false)
-or_false true b h = absurd (true≢false h)
-or_false false b h = (refl, h)
 
 none_some : (s : SlotPath) → None ≡ Some s → ⊥
 none_some s h = cc
@@ -59,7 +53,7 @@ module _ (rows : List DocRow) (d : IsDocument rows) where
       (ap (λ (o : Option DocRow). is_some (find_row y (rows_below rows (option_map (λ (q : DocRow). Below q.path bit) o)))) e
       ∙ ap (λ (z : AtomIdValue). is_some (find_row z (rows_below rows (Some (Below r.path bit))))) (sym b.1)
       ∙ within_is rows (Below r.path bit) s d.apart b.0 ∙ k))
-      (or_true _ _ h)
+      (or_cases _ _ h)
 
   contains_at : (x : AtomIdValue) (bit : Bit) (t : Slot) (a b : SlotPath) (o : Option DocRow) → find_row x rows ≡ o → option_map (λ (q : DocRow). Below q.path bit) o ≡ Some a → slot_path rows t ≡ Some b → slot_contains_slot a b ≡ true → contains_slot rows (At x bit) t ≡ true
   contains_at x bit t a b None e f g h = absurd (none_some a f)
@@ -80,7 +74,7 @@ module _ (rows : List DocRow) (d : IsDocument rows) where
   overlap_path : (s t : Slot) (a b : SlotPath) → slot_path rows s ≡ Some a → slot_path rows t ≡ Some b → slots_overlap a b ≡ true → overlaps rows s t ≡ true
   overlap_path s t a b e f h =
       ⊎_elim (λ (k : slot_contains_slot a b ≡ true). or_left (contains_slot rows s t) _ (contains_path s t a b e f k))
-      (λ (k : slot_contains_slot b a ≡ true). or_right (contains_slot rows s t) _ (contains_path t s b a f e k)) (or_true _ _ h)
+      (λ (k : slot_contains_slot b a ≡ true). or_right (contains_slot rows s t) _ (contains_path t s b a f e k)) (or_cases _ _ h)
 
   pub apart_paths : (s t : Slot) (a b : SlotPath) → slot_path rows s ≡ Some a → slot_path rows t ≡ Some b → overlaps rows s t ≡ false → (p : Pairs) → slot_contains a p ≡ true → slot_contains b p ≡ false
   apart_paths s t a b e f out p h = apart_where_no_overlap a b p (false_of (slots_overlap a b) (λ k. true≢false (sym (overlap_path s t a b e f k) ∙ out))) h
@@ -123,7 +117,7 @@ module _ (rows : List DocRow) (d : IsDocument rows) where
     slot_kept : (t : Slot) → overlaps rows s t ≡ false → slot_path flat t ≡ slot_path rows t
     slot_kept Root out = refl
     slot_kept (At y side) out =
-        ap (option_map (λ (q : DocRow). Below q.path side)) (atom_at y (find_row y rows) refl (or_false (same_slot s (At y side) || is_root s) (is_within rows y s) (or_false (contains_slot rows s (At y side)) (contains_slot rows (At y side) s) out).0).1)
+        ap (option_map (λ (q : DocRow). Below q.path side)) (atom_at y (find_row y rows) refl (or_parts (same_slot s (At y side) || is_root s) (is_within rows y s) (or_parts (contains_slot rows s (At y side)) (contains_slot rows (At y side) s) out).0).1)
 
     rows_kept_at : (t : Slot) (p : Option SlotPath) → slot_path rows t ≡ p → overlaps rows s t ≡ false → rows_below flat p ≡ rows_below rows p
     rows_kept_at t None f out = refl

@@ -4,13 +4,14 @@ use Rattle.std.proofs.lemmas.List.{map-append, drop_at, append-nil}
 use Rattle.td_base.specs.declared.bit.Bit.{Bit}
 use Rattle.td_base.specs.declared.bit.Bit.TheVariants.{Left, Right}
 use Rattle.td_base.specs.Value.{AtomIdValue}
+use Rattle.td_base.specs.Lists.{In}
 use Rattle.td_path.specs.Infix.{Pair, Pairs}
 use Rattle.td_path.specs.SlotPaths.{path_in}
 use Rattle.td_path.specs.Shape.{Bits, shape_upto, shape}
 use Rattle.td_path.specs.declared.slot_path.SlotPath.{SlotPath}
 use Rattle.td_path.specs.declared.slot_path.SlotPath.TheVariants.{Whole, Below}
 use Rattle.td_path.proofs.ArrayShape.{below, after, shape_node}
-use Rattle.td_doc.specs.Document.{DocRow, In}
+use Rattle.td_doc.specs.Document.{DocRow}
 use Rattle.td_doc.specs.Array.{NamedAtom, row_in, around, array_upto, array}
 use Rattle.td_doc.specs.Subtrees.{slot_depth, bits_in}
 use Rattle.td_doc.proofs.ArrayRows.{Starts, array_starts}

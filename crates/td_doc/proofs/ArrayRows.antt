@@ -5,15 +5,16 @@ use Rattle.td_base.specs.declared.bit.Bit.{Bit}
 use Rattle.td_base.specs.declared.bit.Bit.TheVariants.{Left, Right}
 use Rattle.td_base.specs.Value.{AtomIdValue}
 use Rattle.std.specs.declared.cmp.Ordering.TheVariants.{Less}
+use Rattle.td_base.specs.Lists.{In, Successive}
+use Rattle.td_base.proofs.Lists.{In-append, In-front, In-back, all_of, successive_append}
 use Rattle.td_path.specs.Infix.{Pair, Pairs, path_cmp}
 use Rattle.td_path.specs.SlotPaths.{goes_on, slot_contains, path_in}
 use Rattle.td_path.specs.declared.slot_path.SlotPath.{SlotPath}
 use Rattle.td_path.specs.declared.slot_path.SlotPath.TheVariants.{Whole, Below}
 use Rattle.td_path.proofs.InfixOrder.{path_total, left_before, right_after, goes_on_from}
-use Rattle.td_doc.specs.Document.{DocRow, is_empty_list, live_rows, In, Successive, IsPath}
+use Rattle.td_doc.specs.Document.{DocRow, is_empty_list, live_rows, IsPath}
 use Rattle.td_doc.specs.Array.{NamedAtom, named, row_in, around, array_upto, array}
 use Rattle.td_doc.proofs.PathEnds.{last_id-append}
-use Rattle.td_doc.proofs.Successive.{In-append, In-front, In-back, all_of, successive_append}
 use Rattle.td_doc.proofs.PutRows.{Before}
 
 -- a path that begins with that of an atom right in the slot

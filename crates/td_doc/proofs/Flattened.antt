@@ -3,8 +3,11 @@ use Rattle.std.proofs.Common.{◌≡◌, ◌≢◌, ℕ, List, [], ◌∷◌, �
 use Rattle.std.specs.List.{concat}
 use Rattle.std.specs.Option.{option_map}
 use Rattle.std.proofs.lemmas.List.{append-nil, map-append}
+use Rattle.std.proofs.lemmas.Bool.{not-true}
 use Rattle.td_base.specs.declared.bit.Bit.{Bit}
 use Rattle.td_base.specs.Value.{DotValue, AtomIdValue}
+use Rattle.td_base.specs.Lists.{In, Successive}
+use Rattle.td_base.proofs.Lists.{In-filter, filter_In, map_In, all_in, successive_filter, successive_map}
 use Rattle.td_path.specs.Infix.{Pair, Pairs}
 use Rattle.td_path.specs.SlotPaths.{goes_on, slot_contains}
 use Rattle.td_path.specs.declared.slot.Slot.{Slot}
@@ -12,12 +15,11 @@ use Rattle.td_path.specs.declared.slot.Slot.TheVariants.{Root, At}
 use Rattle.td_path.specs.declared.slot_path.SlotPath.{SlotPath}
 use Rattle.td_path.specs.declared.slot_path.SlotPath.TheVariants.{Whole, Below}
 use Rattle.td_path.proofs.InfixOrder.{goes_on_from, goes_on_parts}
-use Rattle.td_doc.specs.Document.{DocRow, row_id, find_row, is_empty_list, is_live, live_rows, text_of, In, Successive, IsDocument}
+use Rattle.td_doc.specs.Document.{DocRow, row_id, find_row, is_empty_list, is_live, live_rows, text_of, IsDocument}
 use Rattle.td_doc.specs.Slots.{slot_path, rows_below, rows_in_slot}
 use Rattle.td_doc.specs.Array.{NamedAtom, named, array}
 use Rattle.td_doc.specs.Flatten.{rows_beside, flatten_below, flatten}
 use Rattle.td_doc.specs.Stretches.{IsReplaced, is_in, kept_rows}
-use Rattle.td_doc.proofs.Successive.{In-filter, filter_In, map_In, all_in, successive_filter, successive_map}
 use Rattle.td_doc.proofs.PutRows.{Before, Differ}
 use Rattle.td_doc.proofs.ArrayRows.{array_names, array_bare, array_live}
 use Rattle.td_doc.proofs.Rules.{HangsIn, hangs_whole, found, array_document}
@@ -38,12 +40,8 @@ not_in_own_slots p bit h = let g = goes_on_parts p bit p h in too_long p (bit, g
     too_long : (p : Pairs) (q : Pair) (rest : Pairs) → p ≡ p ++ q ∷ rest → ⊥
     too_long p q rest e = let same : length p ≡ length (p ++ q ∷ rest) = ap length e in absurd (omega (arith, same, length-append p (q ∷ rest)))
 
-not_false : (b : Bool) → not b ≡ true → b ≡ false
-not_false true h = absurd (true≢false (sym h))
-not_false false h = refl
-
 pub beside : (slot : SlotPath) (rows : List DocRow) (r : DocRow) → In r (rows_beside slot rows) → In r rows × (slot_contains slot r.path ≡ false)
-beside slot rows r i = let f = In-filter (λ (x : DocRow). not (slot_contains slot x.path)) r rows i in (f.0, not_false (slot_contains slot r.path) f.1)
+beside slot rows r i = let f = In-filter (λ (x : DocRow). not (slot_contains slot x.path)) r rows i in (f.0, not-true (slot_contains slot r.path) f.1)
 
 pub stays_beside : (slot : SlotPath) (rows : List DocRow) (r : DocRow) → In r rows → slot_contains slot r.path ≡ false → In r (rows_beside slot rows)
 stays_beside slot rows r i h = filter_In (λ (x : DocRow). not (slot_contains slot x.path)) r rows i (ap not h)

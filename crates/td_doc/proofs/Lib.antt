@@ -1,6 +1,5 @@
 pub mod PathEnds
 pub mod RowLists
-pub mod Successive
 pub mod PutRows
 pub mod ArrayRows
 pub mod Placement

@@ -5,9 +5,12 @@ use Rattle.std.specs.Option.{option_map}
 use Rattle.std.specs.declared.cmp.Ordering.TheVariants.{Less}
 use Rattle.std.specs.Ordering.{is_eq}
 use Rattle.std.proofs.lemmas.Cmp.{tied_itself}
+use Rattle.std.proofs.lemmas.Bool.{cases_Bool}
 use Rattle.td_base.specs.declared.bit.Bit.{Bit}
 use Rattle.td_base.specs.declared.bit.Bit.TheVariants.{Left, Right}
 use Rattle.td_base.specs.Value.{DotValue, AtomIdValue}
+use Rattle.td_base.specs.Lists.{In, Successive}
+use Rattle.td_base.proofs.Lists.{In-append, In-back, across, all_in, successive_back}
 use Rattle.td_path.specs.Infix.{Pairs, path_cmp}
 use Rattle.td_path.specs.SlotPaths.{goes_on}
 use Rattle.td_path.specs.declared.slot.Slot.{Slot}
@@ -15,14 +18,13 @@ use Rattle.td_path.specs.declared.slot.Slot.TheVariants.{At}
 use Rattle.td_path.specs.declared.slot_path.SlotPath.{SlotPath}
 use Rattle.td_path.specs.declared.slot_path.SlotPath.TheVariants.{Whole, Below}
 use Rattle.td_path.proofs.InfixOrder.{path_total, id_total, equal_ids, is_eq_true, left_before, right_after, between_left, between_right, goes_on_parts}
-use Rattle.td_doc.specs.Document.{DocRow, row_id, has_id, find_row, is_empty_list, In, Successive, IsDocument}
+use Rattle.td_doc.specs.Document.{DocRow, row_id, has_id, find_row, is_empty_list, IsDocument}
 use Rattle.td_doc.specs.Slots.{slot_path, rows_below, is_empty_slot}
 use Rattle.td_doc.specs.Allocation.{first_id, next_id, slot_before, alloc}
 use Rattle.td_doc.specs.Array.{NamedAtom, row_in, array, run_atoms}
 use Rattle.td_doc.specs.Insertion.{put_rows, put_below, put_array_below, insert_atom, insert_run, IsNew, ComesBetween}
 use Rattle.td_doc.specs.Stretches.{RunBetween}
 use Rattle.td_doc.proofs.PathEnds.{last_id-append}
-use Rattle.td_doc.proofs.Successive.{In-append, In-back, across, all_in, successive_back}
 use Rattle.td_doc.proofs.PutRows.{Before, Differ, not_before_itself, not_both_before, three_ways, put_between, put_before}
 use Rattle.td_doc.proofs.ArrayRows.{array_starts, array_ascends, array_names, array_live, array_of_one, starts_contained}
 use Rattle.td_doc.proofs.SlotRows.{filter_none, false_of}
@@ -32,15 +34,11 @@ use Rattle.td_doc.proofs.SlotRows.{filter_none, false_of}
 pub self_id : (r : DocRow) → has_id (row_id r) r ≡ true
 self_id r = ap is_eq (tied_itself id_total (row_id r))
 
-bool_cases : (b : Bool) → (b ≡ true) ⊎ (b ≡ false)
-bool_cases true = inl refl
-bool_cases false = inr refl
-
 pub has_id-true : (x : AtomIdValue) (r : DocRow) → has_id x r ≡ true → row_id r ≡ x
 has_id-true x r h = equal_ids (row_id r) x (is_eq_true _ h)
 
 pub has_id-false : (x : AtomIdValue) (r : DocRow) → row_id r ≢ x → has_id x r ≡ false
-has_id-false x r n = ⊎_elim (λ (h : has_id x r ≡ true). absurd (n (has_id-true x r h))) (λ (h : has_id x r ≡ false). h) (bool_cases (has_id x r))
+has_id-false x r n = ⊎_elim (λ (h : has_id x r ≡ true). absurd (n (has_id-true x r h))) (λ (h : has_id x r ≡ false). h) (cases_Bool (has_id x r))
 
 find_first : (x : AtomIdValue) (r : DocRow) (rows : List DocRow) → has_id x r ≡ true → find_row x (r ∷ rows) ≡ Some r
 find_first x r rows h = ap (λ b. cond b (Some r) (find_row x rows)) h
@@ -282,7 +280,7 @@ array_after front r back d atoms =
     (λ (e : is_empty_slot (front ++ r ∷ back) (At (row_id r) Right) ≡ false).
     let some = some_in (λ (q : DocRow). goes_on r.path Right q.path) (front ++ r ∷ back) (sym (right_slot front r back d atoms) ∙ e) in
     placed_left_of front r back d atoms some.one (on_right_in_back front r back d atoms some.one some.inside some.passes) some.passes e)
-    (bool_cases (is_empty_slot (front ++ r ∷ back) (At (row_id r) Right)))
+    (cases_Bool (is_empty_slot (front ++ r ∷ back) (At (row_id r) Right)))
 
 -- what is placed at the start stands first
 pub array_first : (rows : List DocRow) → Successive Before rows → (atoms : List NamedAtom) → ArrayBetween atoms [] rows (put_array (alloc rows None) atoms rows)
@@ -313,7 +311,7 @@ alloc_empty_after front r back d =
     (λ (e : is_empty_slot (front ++ r ∷ back) (At (row_id r) Right) ≡ false).
     let some = some_in (λ (q : DocRow). goes_on r.path Right q.path) (front ++ r ∷ back) (sym (right_slot front r back d []) ∙ e) in
     alloc_empty_in_back front r back d some.one (on_right_in_back front r back d [] some.one some.inside some.passes) some.passes e)
-    (bool_cases (is_empty_slot (front ++ r ∷ back) (At (row_id r) Right)))
+    (cases_Bool (is_empty_slot (front ++ r ∷ back) (At (row_id r) Right)))
 
 alloc_empty_first : (rows : List DocRow) → Successive Before rows → is_empty_slot rows (alloc rows None) ≡ true
 alloc_empty_first [] up = refl

@@ -5,11 +5,12 @@ use Rattle.std.specs.declared.cmp.Ordering.{Ordering}
 use Rattle.std.specs.declared.cmp.Ordering.TheVariants.{Less, Equal, Greater}
 use Rattle.std.specs.Ordering.{is_lt, ordering_reverse}
 use Rattle.std.proofs.lemmas.Cmp.{tied_itself}
+use Rattle.td_base.specs.Lists.{In, Successive}
+use Rattle.td_base.proofs.Lists.{In-append, all_in, all_of}
 use Rattle.td_path.specs.Infix.{Pairs, path_cmp}
 use Rattle.td_path.proofs.InfixOrder.{path_total, equal_paths}
-use Rattle.td_doc.specs.Document.{DocRow, row_id, In, Successive}
+use Rattle.td_doc.specs.Document.{DocRow, row_id}
 use Rattle.td_doc.specs.Insertion.{put_row, put_rows}
-use Rattle.td_doc.proofs.Successive.{In-append, all_in, all_of}
 
 abbrev pub Before : DocRow → DocRow → Type 0
 Before r s = path_cmp r.path s.path ≡ Less

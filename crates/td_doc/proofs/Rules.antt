@@ -8,18 +8,19 @@ use Rattle.std.proofs.lemmas.List.{append-nil}
 use Rattle.std.specs.declared.cmp.Ordering.TheVariants.{Less}
 use Rattle.td_base.specs.Value.{DotValue, AtomIdValue}
 use Rattle.td_base.specs.Order.{dot_cmp}
+use Rattle.td_base.specs.Lists.{In, Successive}
+use Rattle.td_base.proofs.Lists.{In-map, map_successive, all_in, all_of}
 use Rattle.td_path.specs.Infix.{Pair, Pairs}
 use Rattle.td_path.specs.declared.slot.Slot.{Slot}
 use Rattle.td_path.specs.declared.slot.Slot.TheVariants.{Root, At}
 use Rattle.td_path.specs.declared.slot_path.SlotPath.{SlotPath}
 use Rattle.td_path.specs.declared.slot_path.SlotPath.TheVariants.{Whole, Below}
-use Rattle.td_doc.specs.Document.{DocRow, last_id, row_id, has_id, find_row, In, Successive, IsPath, IsDocument}
+use Rattle.td_doc.specs.Document.{DocRow, last_id, row_id, has_id, find_row, IsPath, IsDocument}
 use Rattle.td_doc.specs.Slots.{slot_path, is_empty_slot}
 use Rattle.td_doc.specs.Allocation.{first_id, next_id, slot_before, alloc}
 use Rattle.td_doc.specs.Array.{NamedAtom, named, array, run_atoms_from, run_atoms}
 use Rattle.td_doc.specs.Insertion.{put_rows, put_array_below, insert_atom, insert_run}
 use Rattle.td_doc.specs.Answers.{IsRow, IsRooted, IsFresh}
-use Rattle.td_doc.proofs.Successive.{In-map, map_successive, all_in, all_of}
 use Rattle.td_doc.proofs.PutRows.{Before, Differ, IsOther, in_puts, puts_in, ascending_puts, apart_puts}
 use Rattle.td_doc.proofs.ArrayRows.{IsSlotPath, IsAbove, array_ascends, array_names, array_bare, array_paths, array_fronts}
 use Rattle.td_doc.proofs.Placement.{self_id, has_id-true, has_id-false, put_array, atom_is_array}

@@ -6,8 +6,8 @@ use Rattle.std.specs.Option.{option_map, option_and_then}
 use Rattle.std.proofs.lemmas.Option.{slice_get-map, slice_get_within, slice_get-get_or, get_or_from_slice_get}
 use Rattle.std.proofs.lemmas.List.{take_more, append-nil}
 use Rattle.std.proofs.lemmas.List.Folds.{concat-append}
+use Rattle.td_base.proofs.Lists.{across}
 use Rattle.td_doc.specs.Document.{DocRow, row_id, find_row, live_rows, live_atoms, live_id_at, IsDocument}
-use Rattle.td_doc.proofs.Successive.{across}
 use Rattle.td_doc.proofs.PutRows.{Differ}
 use Rattle.td_doc.proofs.Placement.{find_at}
 use Rattle.td_doc.proofs.Typing.{LiveAt, live_split, live_row}

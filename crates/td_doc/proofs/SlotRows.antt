@@ -4,19 +4,20 @@ use Rattle.std.proofs.lemmas.List.{append-nil}
 use Rattle.std.proofs.lemmas.List.Elements.{filter-append}
 use Rattle.std.specs.declared.cmp.Ordering.TheVariants.{Less}
 use Rattle.td_base.specs.declared.bit.Bit.TheVariants.{Left, Right}
+use Rattle.td_base.specs.Lists.{In, Successive}
+use Rattle.td_base.proofs.Lists.{In-front, In-back, all_in}
 use Rattle.td_path.specs.Infix.{Pairs, path_cmp}
 use Rattle.td_path.specs.SlotPaths.{goes_on, slot_contains, path_in}
 use Rattle.td_path.specs.declared.slot.Slot.{Slot}
 use Rattle.td_path.specs.declared.slot_path.SlotPath.{SlotPath}
 use Rattle.td_path.specs.declared.slot_path.SlotPath.TheVariants.{Whole, Below}
 use Rattle.td_path.proofs.InfixOrder.{path_total, left_before, right_after, between_left, between_right, goes_on_parts}
-use Rattle.td_doc.specs.Document.{DocRow, live_rows, In, Successive, IsDocument}
+use Rattle.td_doc.specs.Document.{DocRow, live_rows, IsDocument}
 use Rattle.td_doc.specs.Slots.{slot_path, rows_below, rows_in_slot}
 use Rattle.td_doc.specs.Array.{NamedAtom, named, array}
 use Rattle.td_doc.specs.Insertion.{put_rows}
 use Rattle.td_doc.specs.Flatten.{rows_beside, flatten_below, flatten}
 use Rattle.td_doc.specs.Stretches.{IsStretch, IsReplaced}
-use Rattle.td_doc.proofs.Successive.{In-front, In-back, all_in}
 use Rattle.td_doc.proofs.PutRows.{Before, not_before_itself, not_both_before, three_ways, put_between}
 use Rattle.td_doc.proofs.ArrayRows.{nobody, starts_contained, starts_here, array_starts, array_ascends}
 

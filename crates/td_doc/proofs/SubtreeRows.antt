@@ -8,6 +8,8 @@ use Rattle.td_base.specs.declared.bit.Bit.{Bit}
 use Rattle.td_base.specs.declared.bit.Bit.TheVariants.{Left, Right}
 use Rattle.td_base.specs.Order.{bit_cmp}
 use Rattle.td_base.specs.Value.{AtomIdValue}
+use Rattle.td_base.specs.Lists.{In, Successive}
+use Rattle.td_base.proofs.Lists.{In-front, In-back, In-filter, filter_In, In-map, map_In, all_in}
 use Rattle.td_path.specs.Infix.{Pair, Pairs, pair_cmp, same_pair, path_cmp}
 use Rattle.td_path.specs.SlotPaths.{goes_on, slot_contains}
 use Rattle.td_path.specs.declared.slot.Slot.{Slot}
@@ -16,14 +18,13 @@ use Rattle.td_path.specs.declared.slot_path.SlotPath.{SlotPath}
 use Rattle.td_path.specs.declared.slot_path.SlotPath.TheVariants.{Whole, Below}
 use Rattle.td_path.proofs.InfixOrder.{first_pairs, same_pairs, equal_pairs, is_eq_true, both_true}
 use Rattle.td_path.proofs.SlotOverlap.{none_empty}
-use Rattle.td_doc.specs.Document.{DocRow, row_id, find_row, is_live, live_rows, In, Successive, IsDocument}
+use Rattle.td_doc.specs.Document.{DocRow, row_id, find_row, is_live, live_rows, IsDocument}
 use Rattle.td_doc.specs.Slots.{slot_path, rows_below, is_within}
 use Rattle.td_doc.specs.Array.{NamedAtom, named, array}
 use Rattle.td_doc.specs.Flatten.{rows_beside, flatten_below, flatten}
 use Rattle.td_doc.specs.Answers.{IsRow}
 use Rattle.td_doc.specs.Stretches.{IsStretch}
 use Rattle.td_doc.specs.Subtrees.{begins, rows_at, rows_under, is_under, is_slot_under}
-use Rattle.td_doc.proofs.Successive.{In-front, In-back, In-filter, filter_In, In-map, map_In, all_in}
 use Rattle.td_doc.proofs.PutRows.{Before, Differ, in_puts, puts_in}
 use Rattle.td_doc.proofs.ArrayRows.{array_names}
 use Rattle.td_doc.proofs.Rules.{found, in_found}

@@ -8,13 +8,14 @@ use Rattle.std.proofs.lemmas.Option.{slice_get-get_or}
 use Rattle.std.proofs.lemmas.List.{map-append, take_at, drop_at}
 use Rattle.std.proofs.lemmas.List.Elements.{filter-append}
 use Rattle.td_base.specs.Value.{DotValue, AtomIdValue}
-use Rattle.td_doc.specs.Document.{DocRow, row_id, is_live, is_empty_list, live_rows, live_atoms, live_id_at, In, IsDocument}
+use Rattle.td_base.specs.Lists.{In}
+use Rattle.td_base.proofs.Lists.{In-back}
+use Rattle.td_doc.specs.Document.{DocRow, row_id, is_live, is_empty_list, live_rows, live_atoms, live_id_at, IsDocument}
 use Rattle.td_doc.specs.Allocation.{alloc, anchor}
 use Rattle.td_doc.specs.Insertion.{insert_atom, insert_run, IsNew, ComesBetween}
 use Rattle.td_doc.specs.Array.{NamedAtom, named, run_atoms_from, run_atoms}
 use Rattle.td_doc.specs.Stretches.{RunBetween}
 use Rattle.td_doc.specs.Answers.{IsRow}
-use Rattle.td_doc.proofs.Successive.{In-back}
 use Rattle.td_doc.proofs.Rules.{in_found}
 use Rattle.td_doc.proofs.Placement.{placed_after, placed_first, run_after, run_first}
 

@@ -1,10 +1,11 @@
 -- Rows and documents (Preguiça et al. 2009): a Treedoc document as the list of its rows in infix order.
-use Rattle.std.specs.Prelude.{◌≡◌, ◌≢◌, ◌⊎◌, ℕ, List, [], ◌∷◌, ◌++◌, Bool, true, false, filter, find, map, slice_get, Option}
+use Rattle.std.specs.Prelude.{◌≡◌, ◌≢◌, ℕ, List, [], ◌∷◌, ◌++◌, Bool, true, false, filter, find, map, slice_get, Option}
 use Rattle.std.specs.declared.cmp.Ordering.TheVariants.{Less}
-use Rattle.std.specs.List.{AllByRecursion, concat}
+use Rattle.std.specs.List.{concat}
 use Rattle.std.specs.Option.{option_map}
 use Rattle.std.specs.Ordering.{is_eq}
 use Rattle.td_base.specs.declared.bit.Bit.TheVariants.{Right}
+use Rattle.td_base.specs.Lists.{In, Successive}
 use Rattle.td_base.specs.Value.{DotValue, AtomIdValue}
 use Rattle.td_base.specs.Order.{dot_cmp, id_cmp}
 use Rattle.td_path.specs.Infix.{Pair, Pairs, path_cmp}
@@ -52,15 +53,6 @@ has_id x r = is_eq (id_cmp (row_id r) x)
 
 abbrev pub find_row : AtomIdValue → List DocRow → Option DocRow
 find_row x rows = find (has_id x) rows
-
--- R holds of each element and each that follows it
-abbrev pub Successive : {X : Type 0} → (X → X → Type 0) → List X → Type 0
-Successive R [] = Unit {0}
-Successive R (x ∷ xs) = AllByRecursion (R x) xs × Successive R xs
-
-abbrev pub In : {X : Type 0} → X → List X → Type 0
-In x [] = ⊥
-In x (y ∷ ys) = (x ≡ y) ⊎ In x ys
 
 -- a path has a pair, and its first pair has the bit Right
 abbrev pub IsPath : Pairs → Type 0

@@ -1,9 +1,10 @@
 -- Rows that stand next to each other, and what stands in their place afterwards.
 use Rattle.std.specs.Prelude.{◌≡◌, ◌⊎◌, List, [], ◌∷◌, ◌++◌, Bool, false, ◌||◌, not, map, filter, Option, Some, None}
+use Rattle.td_base.specs.Lists.{In}
 use Rattle.td_path.specs.SlotPaths.{slot_contains}
 use Rattle.td_path.specs.declared.slot.Slot.{Slot}
 use Rattle.td_path.specs.declared.slot_path.SlotPath.{SlotPath}
-use Rattle.td_doc.specs.Document.{DocRow, is_live, live_rows, In}
+use Rattle.td_doc.specs.Document.{DocRow, is_live, live_rows}
 use Rattle.td_doc.specs.Slots.{slot_path}
 use Rattle.td_doc.specs.Array.{NamedAtom, named}
 

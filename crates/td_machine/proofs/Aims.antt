@@ -6,24 +6,26 @@ use Rattle.std.specs.List.{find}
 use Rattle.std.specs.Option.{is_some, option_map}
 use Rattle.td_base.specs.Value.{DotValue, AtomIdValue}
 use Rattle.td_base.specs.declared.bit.Bit.{Bit}
+use Rattle.td_base.specs.Lists.{In}
+use Rattle.td_base.proofs.Lists.{In-filter}
 use Rattle.td_path.specs.declared.slot.Slot.{Slot}
 use Rattle.td_path.specs.declared.slot.Slot.TheVariants.{Root, At}
 use Rattle.td_op.specs.declared.body.Body.TheVariants.{Insert as InsertIn, Delete as DeleteOf, Propose as ProposeOf, Commit, Abort}
 use Rattle.td_op.specs.declared.request.Request.{Request}
 use Rattle.td_op.specs.declared.request.Request.TheVariants.{Insert, InsertAfter, Paste, PasteAfter, Delete, DeleteAtom, Propose, ProposeAt, Cancel}
 use Rattle.td_op.specs.declared.reply.Reply.TheVariants.{Position, Gone, NotOpen}
-use Rattle.td_doc.specs.Document.{DocRow, In, is_live, row_id, live_rows, live_id_at, find_row}
+use Rattle.td_doc.specs.Document.{DocRow, is_live, row_id, live_rows, live_id_at, find_row}
 use Rattle.td_doc.specs.Allocation.{alloc, anchor}
 use Rattle.td_doc.specs.Answers.{IsRow, IsRooted}
 use Rattle.td_doc.proofs.Rules.{in_found, alloc_rooted}
 use Rattle.td_doc.proofs.Typing.{anchor_row}
-use Rattle.td_machine.specs.Input.{IsRequest}
+use Rattle.td_op.specs.Input.{IsRequest}
 use Rattle.td_machine.specs.Hold.{held_slot, held_row, held_over}
 use Rattle.td_machine.specs.Vote.{is_rooted}
 use Rattle.td_machine.specs.Decision.{Ballot, is_on, is_open}
 use Rattle.td_machine.specs.Machine.{Machine}
 use Rattle.td_machine.specs.Request.{Aim, Refuse, Do, GiveUp, aim, place, place_at, place_after, remove, ask, ask_of, at_live, give_up, is_live_found, is_live_id, len}
-use Rattle.td_machine.proofs.Basics.{either, in_filter}
+use Rattle.td_machine.proofs.Basics.{either}
 
 pub record IsProposal (held : Option DotValue) (room : ℕ) (slot : Slot) (m : Machine) : Type 0 where
   pub two : room ≡ 2
@@ -106,7 +108,7 @@ live_found rows index x e = at (slice_get (live_rows rows) index) refl e
 
     at : (o : Option DocRow) → slice_get (live_rows rows) index ≡ o → option_map row_id o ≡ Some x → is_some (find_row x rows) ≡ true
     at None k f = absurd cc
-    at (Some r) k f = subst (λ (y : AtomIdValue). is_some (find_row y rows) ≡ true) (same r f) (in_found r rows (in_filter is_live r rows (get_in (live_rows rows) index r k)).0)
+    at (Some r) k f = subst (λ (y : AtomIdValue). is_some (find_row y rows) ≡ true) (same r f) (in_found r rows (In-filter is_live r rows (get_in (live_rows rows) index r k)).0)
 
 asked_at : (bit : Bit) (o : Option AtomIdValue) (m : Machine) → ((x : AtomIdValue) → o ≡ Some x → is_some (find_row x m.doc) ≡ true) → FitsAim m (at_live (λ (x : AtomIdValue). ask (At x bit)) o m)
 asked_at bit None m h = tt

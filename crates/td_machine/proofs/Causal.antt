@@ -1,8 +1,10 @@
 -- The log of a machine is causal, and its vector counts it: each part of a step keeps that.
 use Rattle.std.proofs.Common.{◌≡◌, ◌<◌, ◌≤◌, ◌+◌, ◌-◌, ℕ, List, [], ◌∷◌, true, false, not, nat_eq, length, refl, sym, ap, ◌∙◌, subst, ⊎_elim, arith}
-use Rattle.std.proofs.lemmas.Bool.{leb-true, leb-false, le-leb, and_parts}
+use Rattle.std.proofs.lemmas.Bool.{leb-true, leb-false, le-leb, and_parts, not-true}
 use Rattle.std.proofs.lemmas.List.{length-set, length-replicate}
 use Rattle.td_base.specs.Value.{DotValue}
+use Rattle.td_base.specs.Lists.{In}
+use Rattle.td_base.proofs.Lists.{In-filter}
 use Rattle.td_clock.specs.Vector.{vector_get, vector_bump, vector_covers}
 use Rattle.td_clock.proofs.VectorLemmas.{covers_itself, covered_dots}
 use Rattle.td_op.specs.declared.body.Body.{Body}
@@ -10,8 +12,8 @@ use Rattle.td_op.specs.declared.input.Input.{Input}
 use Rattle.td_op.specs.declared.input.Input.TheVariants.{Take}
 use Rattle.td_op.specs.declared.message.Message.TheVariants.{Op as AnOp}
 use Rattle.td_op.specs.Op.{OpValue, IsOp}
-use Rattle.td_doc.specs.Document.{In}
-use Rattle.td_machine.specs.Input.{IsInput, IsOpValue}
+use Rattle.td_op.specs.Message.{IsOpValue}
+use Rattle.td_op.specs.Input.{IsInput}
 use Rattle.td_machine.specs.Ready.{is_had, is_ready, has_dot}
 use Rattle.td_machine.specs.Counts.{counts, IsNext, IsCausal}
 use Rattle.td_machine.specs.Machine.{Machine, start, next_op}
@@ -19,7 +21,6 @@ use Rattle.td_machine.specs.Making.{done, make}
 use Rattle.td_machine.specs.Taking.{keep_waiting, forget}
 use Rattle.td_machine.specs.Step.{step}
 use Rattle.td_machine.specs.History.{History, after, IsLegalFrom}
-use Rattle.td_machine.proofs.Basics.{not_true, in_filter}
 use Rattle.td_machine.proofs.Walk.{IsForeign, IsKept, closed, walk}
 
 -- an operation that waits: of another site, and of this size
@@ -74,7 +75,7 @@ make_counted body m s =
 pub ready_next : (x : OpValue) (m : Machine) → IsCounted m → IsOffered m.site m.size x → is_ready m.have x ≡ true → IsNext m.have x
 ready_next x m s o ready =
     let parts = and_parts (not (is_had m.have x)) (vector_covers m.have x.deps) ready in
-    let late : vector_get m.have x.dot.site < x.dot.seq = leb-false x.dot.seq (vector_get m.have x.dot.site) (not_true (is_had m.have x) parts.0) in
+    let late : vector_get m.have x.dot.site < x.dot.seq = leb-false x.dot.seq (vector_get m.have x.dot.site) (not-true (is_had m.have x) parts.0) in
     let known : DotValue = record { site = x.dot.site; seq = vector_get x.deps x.dot.site } in
     let had : vector_get x.deps x.dot.site ≤ vector_get m.have x.dot.site =
     leb-true (vector_get x.deps x.dot.site) (vector_get m.have x.dot.site) (covered_dots m.have x.deps parts.1 known (le-leb (vector_get x.deps x.dot.site) (vector_get x.deps x.dot.site) (omega arith))) in
@@ -110,7 +111,7 @@ forget_counted x m s =
       within = s.within;
       is = s.is;
       causal = s.causal;
-      offered = λ y i. s.offered y (in_filter (λ (z : OpValue). not (has_dot x.dot z)) y m.waiting i).0;
+      offered = λ y i. s.offered y (In-filter (λ (z : OpValue). not (has_dot x.dot z)) y m.waiting i).0;
     }
 
 pub counting : (site size : ℕ) → IsKept (At site size) (IsOffered site size)
@@ -131,7 +132,7 @@ valid_op input x e v = subst (λ (i : Input). IsInput i) e v
 
 -- what is offered and waits, and what waited
 pub foreign_offered : (site size : ℕ) (m : Machine) (x : OpValue) → At site size m → IsOpValue x → IsForeign m x → IsOffered site size x
-foreign_offered site size m x s v f = record { some = v.dot.site.some; other = subst (λ (k : ℕ). nat_eq x.dot.site k ≡ false) s.here f.other; sized = f.sized ∙ s.sized; op = v.op }
+foreign_offered site size m x s v f = record { some = v.dot.site.least; other = subst (λ (k : ℕ). nat_eq x.dot.site k ≡ false) s.here f.other; sized = f.sized ∙ s.sized; op = v.op }
 
 pub waiting_offered : (site size : ℕ) (m : Machine) → At site size m → (x : OpValue) → In x m.waiting → IsOffered site size x
 waiting_offered site size m s x i =

@@ -5,10 +5,10 @@ use Rattle.std.proofs.lemmas.List.{get_or-replicate}
 use Rattle.std.proofs.Math.ListN.{get_or-eq_default}
 use Rattle.std.specs.Prelude.{IsTrue}
 use Rattle.td_base.specs.Value.{DotValue}
+use Rattle.td_base.specs.Lists.{In}
 use Rattle.td_clock.specs.Vector.{vector_get, vector_has, vector_bump}
 use Rattle.td_clock.proofs.VectorLemmas.{covered_dots}
 use Rattle.td_op.specs.Op.{OpValue}
-use Rattle.td_doc.specs.Document.{In}
 use Rattle.td_machine.specs.Counts.{counts, ops_of, IsNext, IsCausal}
 use Rattle.td_machine.proofs.Vectors.{bump_same, bump_other}
 use Rattle.td_machine.proofs.Causal.{length_counts}

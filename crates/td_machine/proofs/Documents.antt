@@ -5,6 +5,8 @@ use Rattle.std.specs.Prelude.{IsTrue}
 use Rattle.std.specs.Option.{option_map, is_some}
 use Rattle.td_path.specs.declared.slot_path.SlotPath.TheVariants.{Below}
 use Rattle.td_base.specs.Value.{DotValue, AtomIdValue}
+use Rattle.td_base.specs.Lists.{In}
+use Rattle.td_base.proofs.Lists.{map_In, In-map, In-filter}
 use Rattle.td_clock.specs.Vector.{vector_get, vector_has, vector_bump}
 use Rattle.td_clock.proofs.VectorLemmas.{covered_dots}
 use Rattle.td_path.specs.declared.slot.Slot.{Slot}
@@ -13,7 +15,7 @@ use Rattle.td_op.specs.declared.body.Body.{Body}
 use Rattle.td_op.specs.declared.body.Body.TheVariants.{Insert, Delete, Propose, Commit, Abort}
 use Rattle.td_op.specs.declared.input.Input.{Input}
 use Rattle.td_op.specs.Op.{OpValue}
-use Rattle.td_doc.specs.Document.{DocRow, row_id, In, IsDocument, find_row, has_id, is_live}
+use Rattle.td_doc.specs.Document.{DocRow, row_id, IsDocument, find_row, has_id, is_live}
 use Rattle.td_doc.specs.Array.{NamedAtom, named, run_atoms_from, run_atoms}
 use Rattle.td_doc.specs.Insertion.{insert_run, put_array_below}
 use Rattle.td_doc.specs.Deletion.{delete, mark_deleted, add_dot}
@@ -24,15 +26,13 @@ use Rattle.td_doc.specs.Answers.{IsFresh}
 use Rattle.td_doc.proofs.Rules.{run_keeps, run_adds}
 use Rattle.td_doc.proofs.Deleted.{delete_document}
 use Rattle.td_doc.proofs.Flattened.{flatten_document, flatten_names}
-use Rattle.td_doc.proofs.Successive.{map_In, In-map}
-use Rattle.td_machine.specs.Input.{IsInput}
+use Rattle.td_op.specs.Input.{IsInput}
 use Rattle.td_machine.specs.Log.{proposed_slot}
 use Rattle.td_machine.specs.Counts.{IsNext}
 use Rattle.td_machine.specs.Machine.{Machine, start, next_op}
 use Rattle.td_machine.specs.Making.{effect, flatten_found}
 use Rattle.td_machine.specs.Step.{step}
 use Rattle.td_machine.specs.History.{History, after, IsLegalFrom}
-use Rattle.td_machine.proofs.Basics.{in_filter}
 use Rattle.td_machine.proofs.Walk.{IsKept, closed, walk}
 use Rattle.td_machine.proofs.Causal.{IsOffered, At, counting, own_next, ready_next, offered_here, start_at, valid_op, foreign_offered, waiting_offered}
 use Rattle.td_machine.proofs.Vectors.{bump_same, bump_covers}
@@ -85,7 +85,7 @@ flatten_obeys : (Has : DotValue → Type 0) (slot : Slot) (rows : List DocRow) �
 flatten_obeys Has slot rows o = (
   flatten_document rows slot o.0,
   (λ r i. let q = map_In named (named r) (kept_rows rows slot) (subst (In (named r)) (flatten_names rows slot o.0.ascending) (In-map named r (flatten slot rows) i)) in
-      subst (λ (a : NamedAtom). Has a.id.dot) (sym q.2) (o.1 q.0 (in_filter (λ (z : DocRow). is_live z || not (is_in (slot_path rows slot) z)) q.0 rows q.1).0)),
+      subst (λ (a : NamedAtom). Has a.id.dot) (sym q.2) (o.1 q.0 (In-filter (λ (z : DocRow). is_live z || not (is_in (slot_path rows slot) z)) q.0 rows q.1).0)),
 )
 
 found_obeys : (Has : DotValue → Type 0) (o : Option Slot) (rows : List DocRow) → Obeys Has rows → Obeys Has (flatten_found o rows)

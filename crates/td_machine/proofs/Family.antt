@@ -3,6 +3,8 @@ use Rattle.std.proofs.Common.{◌≡◌, ◌⊎◌, ◌<◌, ◌≤◌, ◌+◌,
 use Rattle.std.proofs.lemmas.Bool.{eq-eqb, leb-true, le-leb}
 use Rattle.std.specs.Prelude.{IsTrue}
 use Rattle.td_base.specs.Value.{DotValue, AtomIdValue}
+use Rattle.td_base.specs.Lists.{In}
+use Rattle.td_base.proofs.Lists.{In-append, In-filter}
 use Rattle.td_path.specs.declared.slot.Slot.{Slot}
 use Rattle.td_clock.specs.Vector.{vector_get, vector_has, vector_bump, vector_covers}
 use Rattle.td_clock.proofs.VectorLemmas.{covers_itself, covers_along, covered_dots, sum_grows}
@@ -16,15 +18,15 @@ use Rattle.td_op.specs.declared.body.Body.TheVariants.{Insert}
 use Rattle.td_op.specs.declared.vote.Vote.{Vote}
 use Rattle.td_op.specs.Op.{OpValue, IsOp}
 use Rattle.td_op.specs.Past.{in_past, op_sum}
-use Rattle.td_doc.specs.Document.{In}
-use Rattle.td_machine.specs.Input.{IsInput, IsOpValue}
+use Rattle.td_op.specs.Message.{IsOpValue}
+use Rattle.td_op.specs.Input.{IsInput}
 use Rattle.td_machine.specs.Ready.{has_dot}
 use Rattle.td_machine.specs.Naming.{Inserts, named_atom}
 use Rattle.td_machine.specs.Counts.{counts, ops_of, IsNext, IsCausal}
 use Rattle.td_machine.specs.Machine.{Machine, start, next_op}
 use Rattle.td_machine.specs.Step.{step}
 use Rattle.td_machine.specs.History.{History, after, Family, IsLegalFrom, IsConsistent, MayCome, IsOpOf, history, machine, machine_after, log_of}
-use Rattle.td_machine.proofs.Basics.{in_append, in_behind, in_filter, split_of, Split}
+use Rattle.td_machine.proofs.Basics.{in_behind, split_of, Split}
 use Rattle.td_machine.proofs.Vectors.{bump_covers}
 use Rattle.td_machine.proofs.Walk.{IsKept, closed, walk}
 use Rattle.td_machine.proofs.Causal.{IsOffered, At, counting, start_at, length_counts, valid_op, foreign_offered, waiting_offered}
@@ -50,12 +52,12 @@ home site size =
       makes = λ body m s. record {
         at = c.makes body m s.at;
         own = ((λ e. s.at.counted.is ∙ ap (λ (k : ℕ). counts k m.log) s.at.sized), s.own);
-        sent = λ x i. made_sent body m s x (in_append (AnOp x) m.sent (AnOp (next_op m body) ∷ []) i);
+        sent = λ x i. made_sent body m s x (In-append (AnOp x) m.sent (AnOp (next_op m body) ∷ []) i);
       };
       holds = λ p slot m s. record { at = c.holds p slot m s.at; own = s.own; sent = s.sent };
       opens = λ p m s. record { at = c.opens p m s.at; own = s.own; sent = s.sent };
       revises = λ p change m s. record { at = c.revises p change m s.at; own = s.own; sent = s.sent };
-      votes = λ v m s. record { at = c.votes v m s.at; own = s.own; sent = λ x i. vote_sent v m s x (in_append (AnOp x) m.sent (AVote v ∷ []) i) };
+      votes = λ v m s. record { at = c.votes v m s.at; own = s.own; sent = λ x i. vote_sent v m s x (In-append (AnOp x) m.sent (AVote v ∷ []) i) };
       keeps = λ x m o s. record { at = c.keeps x m o s.at; own = s.own; sent = s.sent };
       forgets = λ x m s. record { at = c.forgets x m s.at; own = s.own; sent = s.sent };
       does = λ x m o ready s. record {
@@ -204,7 +206,7 @@ module _ (family : Family) (c : IsConsistent family) where
 
       forgot : (m : Machine) → Knows site m → (x y : OpValue) → In y m.log ⊎ In y (filter (λ (z : OpValue). not (has_dot x.dot z)) m.waiting) → Made y ⊎ (y.dot.site ≡ site)
       forgot m s x y (inl i) = s.made y (inl i)
-      forgot m s x y (inr i) = s.made y (inr (in_filter (λ (z : OpValue). not (has_dot x.dot z)) y m.waiting i).0)
+      forgot m s x y (inr i) = s.made y (inr (In-filter (λ (z : OpValue). not (has_dot x.dot z)) y m.waiting i).0)
 
       did : (m : Machine) → Knows site m → (x : OpValue) → Passes site x → (y : OpValue) → In y (x ∷ m.log) ⊎ In y m.waiting → Made y ⊎ (y.dot.site ≡ site)
       did m s x o y (inl (inl e)) = subst (λ (z : OpValue). Made z ⊎ (z.dot.site ≡ site)) (sym e) o.1
@@ -216,7 +218,7 @@ module _ (family : Family) (c : IsConsistent family) where
   came site m x s v sized may =
       let own : x.dot.site ≤ length x.deps = v.op.own in
       let size : m.size ≡ n = s.sized in
-      let l : Legal x.dot.site = (v.dot.site.some, omega (arith, own, sized, size)) in
+      let l : Legal x.dot.site = (v.dot.site.least, omega (arith, own, sized, size)) in
       (l, ((home_of x.dot.site l).sent x may.sent).0)
 
   step_knows : (site : ℕ) (m : Machine) (input : Input) → IsInput input → ((message : Message) → input ≡ Take message → MayCome family site m message) → Knows site m → Knows site (step m input).machine

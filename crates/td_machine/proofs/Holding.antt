@@ -1,10 +1,12 @@
 -- The holds of a machine never overlap, and the atom of a held slot is a row.
 use Rattle.std.proofs.Common.{◌≡◌, ◌≢◌, ◌⊎◌, ◌<◌, ◌≤◌, ◌+◌, ◌||◌, ◌&&◌, ℕ, List, [], ◌∷◌, Bool, true, false, not, cond, map, filter, Option, Some, None, refl, sym, ap, ◌∙◌, subst, inl, inr, ⊎_elim, true≢false, arith}
-use Rattle.std.proofs.lemmas.Bool.{and_parts, leb-true, le-leb}
+use Rattle.std.proofs.lemmas.Bool.{and_parts, leb-true, le-leb, not-true}
 use Rattle.std.specs.Prelude.{IsTrue}
 use Rattle.std.specs.List.{find, list_all, list_any}
 use Rattle.td_base.specs.Value.{DotValue, AtomIdValue}
 use Rattle.td_base.specs.Order.{dot_cmp}
+use Rattle.td_base.specs.Lists.{In, Successive}
+use Rattle.td_base.proofs.Lists.{In-filter, all_in, all_of, any_found, any_none, successive_filter}
 use Rattle.td_clock.specs.Vector.{vector_get, vector_has, vector_bump}
 use Rattle.td_clock.proofs.VectorLemmas.{covered_dots}
 use Rattle.td_path.proofs.InfixOrder.{equal_dots, is_eq_true}
@@ -15,14 +17,13 @@ use Rattle.td_op.specs.declared.body.Body.TheVariants.{Insert, Delete, Propose, 
 use Rattle.td_op.specs.declared.input.Input.{Input}
 use Rattle.td_op.specs.declared.reply.Why.TheVariants.{Proposal, Vote as NoHold}
 use Rattle.td_op.specs.Op.{OpValue}
-use Rattle.td_doc.specs.Document.{DocRow, In, IsDocument, Successive}
+use Rattle.td_doc.specs.Document.{DocRow, IsDocument}
 use Rattle.td_doc.specs.Slots.{overlaps, is_known}
 use Rattle.td_doc.specs.Insertion.{insert_run}
 use Rattle.td_doc.specs.Deletion.{delete}
 use Rattle.td_doc.specs.Flatten.{flatten}
-use Rattle.td_doc.proofs.Successive.{In-filter, all_in, all_of, successive_filter}
 use Rattle.td_doc.proofs.ApartSlots.{overlaps_mutual}
-use Rattle.td_machine.specs.Input.{IsInput}
+use Rattle.td_op.specs.Input.{IsInput}
 use Rattle.td_machine.specs.Ready.{same_dot, is_ready}
 use Rattle.td_machine.specs.Log.{Committed, proposed, proposed_slot, commits, is_undecided_of}
 use Rattle.td_machine.specs.Hold.{Hold, least_dot, held_by, is_of, is_held, release}
@@ -34,7 +35,6 @@ use Rattle.td_machine.specs.Making.{effect, flatten_found, holds_after, ballots_
 use Rattle.td_machine.specs.Taking.{body_misfit, vote_on, answer}
 use Rattle.td_machine.specs.Step.{step}
 use Rattle.td_machine.specs.History.{History, after, IsLegalFrom}
-use Rattle.td_machine.proofs.Basics.{not_true}
 use Rattle.td_machine.proofs.Vectors.{bump_same, bump_covers}
 use Rattle.td_machine.proofs.Ballots.{same_dot_itself, counted_open}
 use Rattle.td_machine.proofs.Aims.{IsOpenAt}
@@ -54,30 +54,6 @@ other_dot d e h = at (same_dot d e) refl
     at : (b : Bool) → same_dot d e ≡ b → same_dot d e ≡ false
     at true k = absurd (h (same_dot_true d e k))
     at false k = k
-
-any_found : {X : Type 0} (test : X → Bool) (xs : List X) → list_any test xs ≡ true → (x : X) × In x xs × (test x ≡ true)
-any_found test [] h = absurd (true≢false (sym h))
-any_found {X} test (x ∷ xs) h = at (test x) refl h (any_found test xs)
-  where
-    at : (b : Bool) → test x ≡ b → (b || list_any test xs) ≡ true → (list_any test xs ≡ true → (y : X) × In y xs × (test y ≡ true)) → (y : X) × In y (x ∷ xs) × (test y ≡ true)
-    at true e k ih = (x, inl refl, e)
-    at false e k ih = let r = ih k in (r.0, inr r.1, r.2)
-
-any_from : {X : Type 0} (test : X → Bool) (x : X) (xs : List X) → In x xs → test x ≡ true → list_any test xs ≡ true
-any_from test x [] i e = absurd i
-any_from test x (y ∷ xs) (inl k) e = ap (λ (b : Bool). b || list_any test xs) (sym (ap test k) ∙ e)
-any_from test x (y ∷ xs) (inr i) e = at (test y) (any_from test x xs i e)
-  where
-    at : (b : Bool) → list_any test xs ≡ true → (b || list_any test xs) ≡ true
-    at true h = refl
-    at false h = h
-
-any_none : {X : Type 0} (test : X → Bool) (x : X) (xs : List X) → list_any test xs ≡ false → In x xs → test x ≡ false
-any_none test x xs h i = at (test x) refl
-  where
-    at : (b : Bool) → test x ≡ b → test x ≡ false
-    at true e = absurd (true≢false (sym (any_from test x xs i e) ∙ h))
-    at false e = e
 
 -- no hold passes where no least one is found
 held_none : (test : Slot → Bool) (holds : List Hold) → held_by test holds ≡ None → (h : Hold) → In h holds → test h.slot ≡ false
@@ -146,7 +122,7 @@ kept_holding x rows after have log holds some ballots open_ones d e next s up ap
 -- ---- a decision
 
 released : (p : DotValue) (holds : List Hold) (h : Hold) → In h (release p holds) → In h holds × (is_of p h ≡ false)
-released p holds h i = let k = In-filter (λ (g : Hold). not (is_of p g)) h holds i in (k.0, not_true (is_of p h) k.1)
+released p holds h i = let k = In-filter (λ (g : Hold). not (is_of p g)) h holds i in (k.0, not-true (is_of p h) k.1)
 
 release_keeps : (p q : DotValue) (holds : List Hold) → is_held q holds ≡ true → same_dot q p ≡ false → is_held q (release p holds) ≡ true
 release_keeps p q [] h n = absurd (true≢false (sym h))
@@ -376,10 +352,10 @@ answer_holding x slot true m next e v s =
     let doc : (done x m).doc ≡ m.doc = proposal_doc slot x.body m.log x.dot m.doc e in
     let holds : (done x m).holds ≡ m.holds = proposal_holds slot x.body m.holds e in
     let parts = first_and_third (is_rooted m.doc slot) (is_known m.doc slot x.deps) (not (list_any (λ (h : Hold). overlaps m.doc h.slot slot) m.holds)) (list_all (λ (c : Committed). vector_has x.deps c.dot || is_apart m.doc slot c) (commits m.log)) v in
-    let none : list_any (λ (h : Hold). overlaps m.doc h.slot slot) m.holds ≡ false = not_true (list_any (λ (h : Hold). overlaps m.doc h.slot slot) m.holds) parts.1 in
+    let none : list_any (λ (h : Hold). overlaps m.doc h.slot slot) m.holds ≡ false = not-true (list_any (λ (h : Hold). overlaps m.doc h.slot slot) m.holds) parts.1 in
     let h = hold_more x.dot slot (done x m).doc (done x m).have (done x m).log (done x m).holds (done x m).ballots s
     (subst (λ (r : List DocRow). is_rooted r slot ≡ true) (sym doc) parts.0)
-    (λ h i. subst (λ (r : List DocRow). overlaps r h.slot slot ≡ false) (sym doc) (any_none (λ (k : Hold). overlaps m.doc k.slot slot) h m.holds none (subst (λ (hs : List Hold). In h hs) holds i)))
+    (λ h i. subst (λ (r : List DocRow). overlaps r h.slot slot ≡ false) (sym doc) (any_none (λ (k : Hold). overlaps m.doc k.slot slot) m.holds h none (subst (λ (hs : List Hold). In h hs) holds i)))
     (newest_slot x m.log ∙ e) (had_now x m.have next) in
     record { rooted = h.rooted; apart = h.apart; known = h.known; had = h.had; held = h.held }
 

@@ -4,13 +4,15 @@ use Rattle.std.proofs.lemmas.Bool.{eq-eqb}
 use Rattle.std.specs.Prelude.{IfSome}
 use Rattle.std.specs.Option.{is_some}
 use Rattle.td_base.specs.Value.{DotValue, AtomIdValue}
+use Rattle.td_base.specs.Lists.{In}
+use Rattle.td_base.proofs.Lists.{map_In, In-map, In-filter}
 use Rattle.td_path.specs.declared.slot.Slot.{Slot}
 use Rattle.td_path.specs.declared.slot.Slot.TheVariants.{Root, At as AtSlot}
 use Rattle.td_op.specs.declared.body.Body.{Body}
 use Rattle.td_op.specs.declared.body.Body.TheVariants.{Insert, Delete, Propose, Commit, Abort}
 use Rattle.td_op.specs.declared.input.Input.{Input}
 use Rattle.td_op.specs.Op.{OpValue, IsOp, body_site}
-use Rattle.td_doc.specs.Document.{DocRow, row_id, In, find_row, has_id, is_live, IsDocument}
+use Rattle.td_doc.specs.Document.{DocRow, row_id, find_row, has_id, is_live, IsDocument}
 use Rattle.td_doc.specs.Array.{NamedAtom, named, run_atoms, run_atoms_from}
 use Rattle.td_doc.specs.Insertion.{insert_run}
 use Rattle.td_doc.specs.Deletion.{delete, mark_deleted, add_dot}
@@ -19,8 +21,8 @@ use Rattle.td_doc.specs.Stretches.{kept_rows, is_in}
 use Rattle.td_doc.specs.Slots.{slot_path}
 use Rattle.td_doc.proofs.Rules.{found, run_adds}
 use Rattle.td_doc.proofs.Flattened.{flatten_names}
-use Rattle.td_doc.proofs.Successive.{map_In, In-map}
-use Rattle.td_machine.specs.Input.{IsInput, IsOpValue, IsBody}
+use Rattle.td_op.specs.Message.{IsOpValue, IsBody}
+use Rattle.td_op.specs.Input.{IsInput}
 use Rattle.td_machine.specs.Ready.{is_ready, has_dot}
 use Rattle.td_machine.specs.Log.{proposed_slot}
 use Rattle.td_machine.specs.Naming.{Inserts, slot_atom, named_atom}
@@ -32,7 +34,7 @@ use Rattle.td_machine.specs.Making.{effect, flatten_found, ballots_after, done, 
 use Rattle.td_machine.specs.Taking.{answer}
 use Rattle.td_machine.specs.Step.{step}
 use Rattle.td_machine.specs.History.{History, after, IsLegalFrom}
-use Rattle.td_machine.proofs.Basics.{in_filter, split_of, Split}
+use Rattle.td_machine.proofs.Basics.{split_of, Split}
 use Rattle.td_machine.proofs.Aims.{IsOpenAt}
 use Rattle.td_machine.proofs.Walk.{IsEdit, IsFreeSlot, proposed_here, decision_of, IsClosed, closed, walk}
 use Rattle.td_machine.proofs.Causal.{IsOffered, IsCounted, length_counts, length_have, own_next, valid_op, foreign_offered, waiting_offered}
@@ -59,7 +61,7 @@ module _ (P : AtomIdValue → Type 0) where
   after_flatten : (slot : Slot) (rows : List DocRow) → IsDocument rows → All_rows rows → All_rows (flatten slot rows)
   after_flatten slot rows d h r i =
       let q = map_In named (named r) (kept_rows rows slot) (subst (In (named r)) (flatten_names rows slot d.ascending) (In-map named r (flatten slot rows) i)) in
-      subst (λ (a : NamedAtom). P a.id) (sym q.2) (h q.0 (in_filter (λ (z : DocRow). is_live z || not (is_in (slot_path rows slot) z)) q.0 rows q.1).0)
+      subst (λ (a : NamedAtom). P a.id) (sym q.2) (h q.0 (In-filter (λ (z : DocRow). is_live z || not (is_in (slot_path rows slot) z)) q.0 rows q.1).0)
 
   after_found : (o : Option Slot) (rows : List DocRow) → IsDocument rows → All_rows rows → All_rows (flatten_found o rows)
   after_found None rows d h = h
@@ -290,7 +292,7 @@ naming site size =
         atoms = s.atoms;
         own = s.own;
         sound = s.sound;
-        waits = λ y i. s.waits y (in_filter (λ (z : OpValue). not (has_dot x.dot z)) y m.waiting i).0;
+        waits = λ y i. s.waits y (In-filter (λ (z : OpValue). not (has_dot x.dot z)) y m.waiting i).0;
         ballots = s.ballots;
       };
     }

@@ -3,9 +3,10 @@ use Rattle.std.proofs.Common.{◌≡◌, ◌<◌, ◌≤◌, ◌+◌, ◌++◌, 
 use Rattle.std.specs.Prelude.{IsTrue}
 use Rattle.td_base.specs.Value.{DotValue}
 use Rattle.td_base.specs.declared.dot.TheConstants.{MAX_SEQ}
+use Rattle.td_base.specs.Lists.{In, Successive}
 use Rattle.td_clock.specs.Vector.{vector_get, vector_has}
 use Rattle.td_op.specs.Op.{OpValue}
-use Rattle.td_doc.specs.Document.{In, IsDocument, Successive}
+use Rattle.td_doc.specs.Document.{IsDocument}
 use Rattle.td_doc.specs.Slots.{overlaps}
 use Rattle.td_machine.specs.Hold.{Hold}
 use Rattle.td_machine.specs.Vote.{is_rooted}

@@ -8,7 +8,7 @@ use Rattle.td_op.specs.declared.body.Body.{Body}
 use Rattle.td_op.specs.declared.body.Body.TheVariants.{Insert, Delete, Propose, Commit, Abort}
 use Rattle.td_op.specs.declared.input.Input.{Input}
 use Rattle.td_op.specs.Op.{OpValue}
-use Rattle.td_machine.specs.Input.{IsInput}
+use Rattle.td_op.specs.Input.{IsInput}
 use Rattle.td_machine.specs.Decision.{Ballot, counted, count_open, revise}
 use Rattle.td_machine.specs.Machine.{Machine, start, made, undecided}
 use Rattle.td_machine.specs.Making.{ballots_after, done, make}

@@ -1,26 +1,27 @@
 -- Rows that stay with their paths, and the slots at them.
 use Rattle.std.proofs.Common.{◌≡◌, ◌||◌, ℕ, List, Bool, true, false, cond, map, Option, Some, None, refl, sym, ap, ◌∙◌, inr, true≢false}
 use Rattle.std.specs.Option.{option_map, is_some}
+use Rattle.std.proofs.lemmas.Bool.{or_parts}
 use Rattle.td_base.specs.declared.bit.Bit.{Bit}
 use Rattle.td_base.specs.Value.{DotValue, AtomIdValue}
+use Rattle.td_base.specs.Lists.{In}
+use Rattle.td_base.proofs.Lists.{In-map}
 use Rattle.td_path.specs.SlotPaths.{slot_contains, goes_on}
 use Rattle.td_path.specs.declared.slot.Slot.{Slot}
 use Rattle.td_path.specs.declared.slot.Slot.TheVariants.{Root, At}
 use Rattle.td_path.specs.declared.slot_path.SlotPath.{SlotPath}
 use Rattle.td_path.specs.declared.slot_path.SlotPath.TheVariants.{Whole, Below}
-use Rattle.td_doc.specs.Document.{DocRow, row_id, In, IsDocument, find_row, live_rows, has_id}
+use Rattle.td_doc.specs.Document.{DocRow, row_id, IsDocument, find_row, live_rows, has_id}
 use Rattle.td_doc.specs.Slots.{slot_path, rows_below, is_within, same_slot, is_root, is_atom_within, contains_slot, overlaps}
 use Rattle.td_doc.specs.Array.{named, array, run_atoms}
 use Rattle.td_doc.specs.Insertion.{put_array_below, insert_run}
 use Rattle.td_doc.specs.Deletion.{delete, mark_deleted, add_dot}
 use Rattle.td_doc.specs.Flatten.{rows_beside, flatten_below, flatten}
-use Rattle.td_doc.proofs.Successive.{In-map}
 use Rattle.td_doc.proofs.PutRows.{puts_in}
 use Rattle.td_doc.proofs.Rules.{found}
 use Rattle.td_doc.proofs.Flattened.{stays_beside, flatten_document}
 use Rattle.td_doc.proofs.SubtreeRows.{find_in, within_is}
 use Rattle.td_machine.specs.Vote.{is_rooted}
-use Rattle.td_machine.proofs.Basics.{or_false}
 
 -- the row x is there afterwards, with its path
 abbrev pub Stays : List DocRow → List DocRow → AtomIdValue → Type 0
@@ -111,8 +112,8 @@ overlap_same rows after d e s t h k f g = λ i. (same_slot s t || is_root s || a
 pub apart_stays : (rows : List DocRow) → IsDocument rows → (s t : Slot) → overlaps rows s t ≡ false → SlotStays rows (flatten s rows) t
 apart_stays rows d s Root o = tt
 apart_stays rows d s (At y side) o =
-    let one = (or_false (contains_slot rows s (At y side)) (contains_slot rows (At y side) s) o).0 in
-    flatten_stays s rows d y (or_false (same_slot s (At y side) || is_root s) (is_atom_within rows s (At y side)) (left_first (same_slot s (At y side)) (is_root s) (is_atom_within rows s (At y side)) one)).1
+    let one = (or_parts (contains_slot rows s (At y side)) (contains_slot rows (At y side) s) o).0 in
+    flatten_stays s rows d y (or_parts (same_slot s (At y side) || is_root s) (is_atom_within rows s (At y side)) (left_first (same_slot s (At y side)) (is_root s) (is_atom_within rows s (At y side)) one)).1
   where
     left_first : (a b c : Bool) → (a || b || c) ≡ false → ((a || b) || c) ≡ false
     left_first true b c h = h

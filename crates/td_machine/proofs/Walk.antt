@@ -1,12 +1,14 @@
 -- The cases of a step, once for all: what each thing that it does keeps, the step keeps.
 use Rattle.std.proofs.Common.{◌≡◌, ◌⊎◌, ◌<◌, ◌≤◌, ◌+◌, ℕ, List, [], ◌∷◌, Bool, true, false, cond, not, ◌||◌, nat_eq, nat_lt, length, filter, Option, Some, None, refl, sym, ap, ◌∙◌, inl, inr, ⊎_elim, arith}
-use Rattle.std.proofs.lemmas.Bool.{or_parts, eqb-true, ltb-false}
+use Rattle.std.proofs.lemmas.Bool.{or_parts, eqb-true, ltb-false, not-false}
 use Rattle.std.specs.List.{find, list_any}
 use Rattle.std.specs.Option.{is_some}
 use Rattle.std.specs.Ordering.{is_lt}
 use Rattle.td_base.specs.Value.{DotValue}
 use Rattle.td_base.specs.Order.{dot_cmp}
 use Rattle.td_base.specs.declared.dot.TheConstants.{MAX_SEQ}
+use Rattle.td_base.specs.Lists.{In}
+use Rattle.td_base.proofs.Lists.{In-filter}
 use Rattle.td_clock.specs.Vector.{vector_get}
 use Rattle.td_path.specs.declared.slot.Slot.{Slot}
 use Rattle.td_op.specs.declared.body.Body.{Body}
@@ -19,8 +21,8 @@ use Rattle.td_op.specs.declared.reply.Reply.TheVariants.{Made, Limit, New, Later
 use Rattle.td_op.specs.declared.reply.Why.{Why}
 use Rattle.td_op.specs.declared.reply.Why.TheVariants.{Size, Own, Address}
 use Rattle.td_op.specs.Op.{OpValue}
-use Rattle.td_doc.specs.Document.{In, find_row}
-use Rattle.td_machine.specs.Input.{IsInput}
+use Rattle.td_doc.specs.Document.{find_row}
+use Rattle.td_op.specs.Input.{IsInput}
 use Rattle.td_machine.specs.Ready.{is_had, is_ready, smaller_dot, least_op, next_ready, waits}
 use Rattle.td_machine.specs.Log.{proposed}
 use Rattle.td_machine.specs.Hold.{held_slot, held_row, held_over}
@@ -31,7 +33,7 @@ use Rattle.td_machine.specs.Making.{done, make, send, decide, hold, open_ballot}
 use Rattle.td_machine.specs.Taking.{Stepped, stepped, body_misfit, misfit, answer, vote_on, taken, keep_waiting, fit_step, op_step, count, ballot_step, vote_step, forget, waited, next_of}
 use Rattle.td_machine.specs.Request.{Aim, Refuse, Do, GiveUp, aim, judge, perform}
 use Rattle.td_machine.specs.Step.{step}
-use Rattle.td_machine.proofs.Basics.{not_false, either, in_filter}
+use Rattle.td_machine.proofs.Basics.{either}
 use Rattle.td_machine.proofs.Aims.{IsAllocated, IsOpenAt, FitsAim, aimed}
 use Rattle.td_machine.proofs.Ballots.{same_dot_itself, counted_open, found_counted}
 
@@ -151,10 +153,10 @@ module _ (P : Machine → Type 0) (Passes : OpValue → Type 0) (c : IsClosed P 
       (λ (other : is_own ≡ false).
       let passed : Passes x = pass (record {
         other = (or_parts (nat_eq x.dot.site m.site) (nat_lt (made m) (vector_get x.deps m.site)) other).0;
-        sized = eqb-true (length x.deps) m.size (not_false (nat_eq (length x.deps) m.size) size);
+        sized = eqb-true (length x.deps) m.size (not-false (nat_eq (length x.deps) m.size) size);
       }) in
       either After is_late late fit (λ f. c.keeps x m passed h)
-      (λ (f : is_late ≡ false). fitted (misfit x m) x m refl passed (not_false (is_ready m.have x) f) h))))
+      (λ (f : is_late ≡ false). fitted (misfit x m) x m refl passed (not-false (is_ready m.have x) f) h))))
 
   vote_counted : (v : Vote) (b : Ballot) (m : Machine) → find (is_on v.proposal) m.ballots ≡ Some b → is_counted v.voter b ≡ false → P m → P (count v b m)
   vote_counted v b m f e h =
@@ -198,7 +200,7 @@ module _ (P : Machine → Type 0) (Passes : OpValue → Type 0) (c : IsClosed P 
   nexted : (o : Option OpValue) (m : Machine) → ((x : OpValue) → In x m.waiting → Passes x) → next_ready m.have m.waiting ≡ o → P m → After (next_of o m)
   nexted None m pass e h = h
   nexted (Some x) m pass e h =
-      let found = in_filter (is_ready m.have) x m.waiting (least_in (filter (is_ready m.have) m.waiting) x e) in
+      let found = In-filter (is_ready m.have) x m.waiting (least_in (filter (is_ready m.have) m.waiting) x e) in
       waited_on (misfit x m) x (forget x m) (misfit_same x m) (pass x found.0) found.1 (c.forgets x m h)
 
   pub walk : (m : Machine) (input : Input) → IsInput input → P m → ((x : OpValue) → input ≡ Take (AnOp x) → IsForeign m x → Passes x) → ((x : OpValue) → In x m.waiting → Passes x)

@@ -1,14 +1,14 @@
 -- Histories, and the families of histories that messages between sites can have made.
 use Rattle.std.specs.Prelude.{◌≡◌, ◌≢◌, ◌<◌, ◌≤◌, ◌-◌, ◌++◌, ℕ, zero, suc, List, [], ◌∷◌, length}
 use Rattle.td_base.specs.declared.site.TheConstants.{MAX_SITE}
+use Rattle.td_base.specs.Lists.{In}
 use Rattle.td_clock.specs.Vector.{vector_get}
 use Rattle.td_op.specs.declared.entry.Entry.{Entry}
 use Rattle.td_op.specs.declared.input.Input.TheVariants.{Take}
 use Rattle.td_op.specs.declared.message.Message.{Message}
 use Rattle.td_op.specs.declared.message.Message.TheVariants.{Op, Vote}
 use Rattle.td_op.specs.Op.{OpValue}
-use Rattle.td_doc.specs.Document.{In}
-use Rattle.td_machine.specs.Input.{IsInput}
+use Rattle.td_op.specs.Input.{IsInput}
 use Rattle.td_machine.specs.Machine.{Machine, start, made}
 use Rattle.td_machine.specs.Step.{step}
 

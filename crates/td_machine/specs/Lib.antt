@@ -1,4 +1,3 @@
-pub mod Input
 pub mod Ready
 pub mod Log
 pub mod Counts

@@ -1,10 +1,11 @@
 -- Which slots an edit touches.
 use Rattle.std.specs.Prelude.{◌≡◌, ◌++◌, List, ◌∷◌}
+use Rattle.td_base.specs.Lists.{In}
 use Rattle.td_path.specs.declared.slot.Slot.{Slot}
 use Rattle.td_op.specs.declared.body.Body.{Body}
 use Rattle.td_op.specs.declared.body.Body.TheVariants.{Insert, Delete, Propose, Commit, Abort}
 use Rattle.td_op.specs.Op.{OpValue}
-use Rattle.td_doc.specs.Document.{DocRow, row_id, In}
+use Rattle.td_doc.specs.Document.{DocRow, row_id}
 use Rattle.td_doc.specs.Slots.{rows_in_slot}
 use Rattle.td_machine.specs.History.{Family, History, history, machine_after}
 

@@ -2,13 +2,14 @@
 ghost use Rattle.std.specs.Prelude.{◌≡◌, ◌<◌, ◌≤◌, ◌+◌, ◌++◌, ◌∷◌, ℕ, List, true, false, length, IsTrue, Some};
 ghost use Rattle.td_base.specs.Value.{DotValue, AtomIdValue};
 ghost use Rattle.td_base.specs.declared.dot.TheConstants.{MAX_SEQ};
+ghost use Rattle.td_base.specs.Lists.{In, Successive};
 ghost use Rattle.td_clock.specs.Vector.{vector_get, vector_has, vector_covers};
 ghost use Rattle.td_op.specs.declared.input.Input.{Input};
 ghost use Rattle.td_path.specs.declared.slot.Slot.{Slot};
 ghost use Rattle.td_op.specs.declared.body.Body.TheVariants.{Insert};
 ghost use Rattle.td_op.specs.Op.{OpValue, IsOp};
 ghost use Rattle.td_op.specs.Past.{in_past, op_sum};
-ghost use Rattle.td_doc.specs.Document.{In, IsDocument, Successive};
+ghost use Rattle.td_doc.specs.Document.{IsDocument};
 ghost use Rattle.td_doc.specs.Slots.{overlaps};
 ghost use Rattle.td_machine.specs.Counts.{ops_of};
 ghost use Rattle.td_machine.specs.Naming.{Inserts, named_atom};

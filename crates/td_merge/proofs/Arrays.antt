@@ -4,6 +4,8 @@ use Rattle.std.proofs.lemmas.List.{map-append}
 use Rattle.td_base.specs.declared.bit.Bit.{Bit}
 use Rattle.td_base.specs.declared.bit.Bit.TheVariants.{Left, Right}
 use Rattle.td_base.specs.Value.{DotValue}
+use Rattle.td_base.specs.Lists.{In}
+use Rattle.td_base.proofs.Lists.{In-append, In-front, In-back, map_In, In-map}
 use Rattle.td_path.specs.Infix.{Pair, Pairs}
 use Rattle.td_path.specs.declared.slot_path.SlotPath.{SlotPath}
 use Rattle.td_path.specs.declared.slot_path.SlotPath.TheVariants.{Whole, Below}
@@ -11,9 +13,6 @@ use Rattle.td_doc.specs.Document.{DocRow, row_id}
 use Rattle.td_doc.specs.Array.{NamedAtom, named, around, array_upto, run_atoms_from}
 use Rattle.td_doc.proofs.ArrayRows.{array_named}
 use Rattle.td_order.specs.Insertions.{ids_from}
-use Rattle.td_order.specs.Lists.{In}
-use Rattle.td_order.proofs.ListLemmas.{In-append, In-left, In-right}
-use Rattle.td_merge.proofs.Lists.{In-mapped, mapped-In}
 
 -- the row as far below the path as it was below the root
 abbrev pub shift : Pairs → DocRow → DocRow
@@ -44,20 +43,20 @@ array_shift (suc n) p s l = around_shift (array_upto n) (λ q t k. array_shift n
 
 -- a row of an array, seen from the slot
 pub array_base : (n : ℕ) (p : Pairs) (s : Bit) (l : List NamedAtom) (r : DocRow) → In r (array_upto n (Below p s) l) → (r0 : DocRow) × In r0 (array_upto n (Below [] s) l) × (r ≡ shift p r0)
-array_base n p s l r i = In-mapped (shift p) r (array_upto n (Below [] s) l) (subst (λ z. In r z) (array_shift n p s l) i)
+array_base n p s l r i = map_In (shift p) r (array_upto n (Below [] s) l) (subst (λ z. In r z) (array_shift n p s l) i)
 
 pub array_there : (n : ℕ) (p : Pairs) (s : Bit) (l : List NamedAtom) (r0 : DocRow) → In r0 (array_upto n (Below [] s) l) → In (shift p r0) (array_upto n (Below p s) l)
-array_there n p s l r0 i = subst (λ z. In (shift p r0) z) (sym (array_shift n p s l)) (mapped-In (shift p) r0 (array_upto n (Below [] s) l) i)
+array_there n p s l r0 i = subst (λ z. In (shift p r0) z) (sym (array_shift n p s l)) (In-map (shift p) r0 (array_upto n (Below [] s) l) i)
 
 -- each pair of a row's path in an array names an atom of it
 abbrev PairsOf : List NamedAtom → Pairs → Type 0
 PairsOf l p = (t : Pair) → In t p → (a : NamedAtom) × In a l × (t.1 ≡ a.id)
 
 take_in : {X : Type 0} (x : X) (k : ℕ) (xs : List X) → In x (take k xs) → In x xs
-take_in x k xs i = subst (λ z. In x z) (take-append-drop k xs) (In-left x (take k xs) (drop k xs) i)
+take_in x k xs i = subst (λ z. In x z) (take-append-drop k xs) (In-front x (take k xs) (drop k xs) i)
 
 drop_in : {X : Type 0} (x : X) (k : ℕ) (xs : List X) → In x (drop k xs) → In x xs
-drop_in x k xs i = subst (λ z. In x z) (take-append-drop k xs) (In-right x (take k xs) (drop k xs) i)
+drop_in x k xs i = subst (λ z. In x z) (take-append-drop k xs) (In-back x (take k xs) (drop k xs) i)
 
 base_pairs_around : (n : ℕ) → ((s : Bit) (l : List NamedAtom) (r : DocRow) → In r (array_upto n (Below [] s) l) → PairsOf l r.path) → (s : Bit) (l before after : List NamedAtom) → ((a : NamedAtom) → In a before → In a l) → ((a : NamedAtom) → In a after → In a l) → (r : DocRow) → In r (around (array_upto n) (Below [] s) before after) → PairsOf l r.path
 base_pairs_around n ih s l before [] w v r i = absurd i

@@ -5,6 +5,7 @@ use Rattle.std.specs.List.{cons_option}
 use Rattle.std.specs.Ordering.{is_lt}
 use Rattle.td_base.specs.declared.bit.Bit.{Bit}
 use Rattle.td_base.specs.Value.{DotValue, AtomIdValue}
+use Rattle.td_base.specs.Lists.{In}
 use Rattle.td_path.specs.Infix.{path_cmp}
 use Rattle.td_path.specs.SlotPaths.{slot_contains}
 use Rattle.td_path.specs.declared.slot.Slot.{Slot}
@@ -14,7 +15,7 @@ use Rattle.td_path.specs.declared.slot_path.SlotPath.TheVariants.{Below}
 use Rattle.td_op.specs.declared.body.Body.{Body}
 use Rattle.td_op.specs.declared.body.Body.TheVariants.{Insert, Delete, Propose, Commit, Abort}
 use Rattle.td_op.specs.Op.{OpValue}
-use Rattle.td_doc.specs.Document.{DocRow, row_id, has_id, find_row, is_empty_list, In as InRows}
+use Rattle.td_doc.specs.Document.{DocRow, row_id, has_id, find_row, is_empty_list}
 use Rattle.td_doc.specs.Slots.{slot_path, rows_below, is_empty_slot}
 use Rattle.td_doc.specs.Array.{NamedAtom, run_atoms, array}
 use Rattle.td_doc.specs.Insertion.{put_row, put_rows, put_array_below, insert_run}
@@ -59,7 +60,7 @@ puts_bare : (new rows : List DocRow) → put_rows (map bare new) (map bare rows)
 puts_bare [] rows = refl
 puts_bare (n ∷ new) rows = ap (put_rows (map bare new)) (put_bare n rows) ∙ puts_bare new (put_row n rows)
 
-all_bare : (rows : List DocRow) → ((r : DocRow) → InRows r rows → r.deletes ≡ []) → map bare rows ≡ rows
+all_bare : (rows : List DocRow) → ((r : DocRow) → In r rows → r.deletes ≡ []) → map bare rows ≡ rows
 all_bare [] h = refl
 all_bare (r ∷ rows) h = λ i. record { path = r.path; atom = r.atom; deletes = sym (h r (inl refl)) i } ∷ all_bare rows (λ q k. h q (inr k)) i
 

@@ -1,20 +1,20 @@
 -- Where the rows of a new insertion go in a document is where its atoms go in the order.
 use Rattle.std.proofs.Common.{◌≡◌, ◌⊎◌, ◌<◌, ◌≤◌, ℕ, List, [], ◌∷◌, ◌++◌, true, false, refl, sym, ap, ◌∙◌, subst, inl, inr, ⊎_elim, arith, append_assoc, append-nil}
+use Rattle.std.proofs.lemmas.Bool.{cases_Bool}
 use Rattle.td_base.specs.declared.bit.Bit.{Bit}
 use Rattle.td_base.specs.declared.bit.Bit.TheVariants.{Left, Right}
 use Rattle.td_base.specs.Value.{AtomIdValue}
+use Rattle.td_base.specs.Lists.{In}
 use Rattle.td_path.specs.Infix.{Pair, Pairs}
 use Rattle.td_path.specs.declared.slot.Slot.TheVariants.{Root, At}
 use Rattle.td_doc.specs.Document.{DocRow, row_id, last_id}
 use Rattle.td_order.specs.declared.insertion.Insertion.{Insertion}
 use Rattle.td_order.specs.Insertions.{dot_lt}
-use Rattle.td_order.specs.Lists.{In}
 use Rattle.td_order.specs.Under.{under}
 use Rattle.td_order.specs.Place.{precedes}
 use Rattle.td_order.proofs.Lex.{Tri, below, same, above, lex_append, lex_cancel, lex_between}
-use Rattle.td_order.proofs.ListLemmas.{bool_cases}
 use Rattle.td_order.proofs.Keys.{Key, StepLt, KeyLt, key_strict, step_strict, step, id_of, rank_first, dot_first}
-use Rattle.td_order.proofs.Fits.{slot_key, OlderRank, Names, AllFit, fits_at, rooted_at, same_insert, key_end, Found, find, UnderKey, under_key, slot_key_same}
+use Rattle.td_order.proofs.Fits.{slot_key, OlderRank, Names, AllFit, fits_at, rooted_at, same_insert, key_end, Found, find, UnderKey, under_key, Mate, mate}
 use Rattle.td_order.proofs.Placing.{IdLt, id_trans}
 use Rattle.td_order.proofs.PlaceRises.{dot_other, pinned, one_or_two, zero_or_one, one_two, zero_one, cons_nil, step_same, step_dot}
 use Rattle.td_merge.proofs.Paths.{PathLt, RowLt, path_trans, path_not, above_left, above_right, path_append, first_less, PathCase, sooner, later, here, deeper, path_case}
@@ -93,28 +93,8 @@ module _ (K : AtomIdValue → ℕ → Key) (rank : Insertion → ℕ) (all : Lis
       rows_back h = subst (λ z. PathLt n.path z) (sym e) (subst (λ z. PathLt z (path ++ (t ∷ rest))) (sym w.path)
           (path_append path (w.top ∷ w.rest) (t ∷ rest) (first_less w.top t w.rest rest (sym sides) (subst (λ z. dot_lt z t.1.dot ≡ true) (sym w.dot) (subst (λ z. dot_lt a.dot z ≡ true) (sym c.top) h)))))
 
-  -- an insertion of the slot that a key goes through
-  record Passed (y : AtomIdValue) (w0 : List ℕ) : Type 0 where
-    ins : Insertion
-    offset : ℕ
-    side : ℕ
-    inside : In ins all
-    slot : ins.slot ≡ a.slot
-    is : w0 ≡ step (rank ins) ins.dot offset side
-    above : under all ins.dot y.dot ≡ true
-
-  passed : (y : AtomIdValue) → Names all y → (w0 : List ℕ) (w : Key) → K y 1 ≡ slot_key K a.slot ++ (w0 ∷ w) → Passed y w0
-  passed y n w0 w e =
-      let r = find K rank all g y n 1 (slot_key K a.slot) w0 w e in
-      record {
-        ins = r.ins;
-        offset = r.offset;
-        side = r.side;
-        inside = r.inside;
-        is = r.is;
-        above = r.above;
-        slot = slot_key_same K rank all g r.ins.slot a.slot (rooted_at K rank all g r.ins r.inside) (rooted_at K rank all g a ia) (sym r.at);
-      }
+  passed : (y : AtomIdValue) → Names all y → (w0 : List ℕ) (w : Key) → K y 1 ≡ slot_key K a.slot ++ (w0 ∷ w) → Mate rank all a.slot y w0
+  passed = mate K rank all g a.slot (rooted_at K rank all g a ia)
 
   never_same : (path : Pairs) (side : Bit) (n r : DocRow) → New path side n → In r doc → K (row_id r) 1 ≡ K (row_id n) 1 → ⊥
   never_same path side n r w i e =
@@ -142,7 +122,7 @@ module _ (K : AtomIdValue → ℕ → Key) (rank : Insertion → ℕ) (all : Lis
     right_row = subst (λ z. PathLt x.path z) (sym w.path) (above_right x.path w.top w.rest w.side)
 
     -- of two insertions in one slot the older is farther from its atom, and the other has its rows in the slot
-    right_of : (r : DocRow) → In r doc → Lt (row_id r) (row_id n) → (w1 : List ℕ) (w2 : Key) → K (row_id r) 1 ≡ slot_key K a.slot ++ (w1 ∷ w2) → (c : Passed (row_id r) w1) → (t : Pair) × (rest : Pairs) × (r.path ≡ x.path ++ (t ∷ rest))
+    right_of : (r : DocRow) → In r doc → Lt (row_id r) (row_id n) → (w1 : List ℕ) (w2 : Key) → K (row_id r) 1 ≡ slot_key K a.slot ++ (w1 ∷ w2) → (c : Mate rank all a.slot (row_id r) w1) → (t : Pair) × (rest : Pairs) × (r.path ≡ x.path ++ (t ∷ rest))
     right_of r i k w1 w2 e3 c =
         ⊎_elim
         (λ (o : precedes c.ins a ≡ true).
@@ -151,7 +131,7 @@ module _ (K : AtomIdValue → ℕ → Key) (rank : Insertion → ℕ) (all : Lis
         absurd (key_strict.irrefl (K (row_id r) 1) (id_trans K rank (row_id r) (row_id n) (row_id r) k
         (lt_keys (row_id n) (row_id r) _ _ (new_key x.path Right n w) e4 (lex_append StepLt step_strict (slot_key K a.slot) _ _ (rank_first (rank a) (rank c.ins) a.dot c.ins.dot w.offset c.offset 1 c.side [] w2 far))))))
         (λ o. outside r i c.ins c.inside c.slot o c.above)
-        (bool_cases (precedes c.ins a))
+        (cases_Bool (precedes c.ins a))
 
     -- an atom between x and the new ones is of a row in the slot
     right_at : (r : DocRow) → In r doc → Lt (row_id x) (row_id r) → Lt (row_id r) (row_id n) → (w0 : List ℕ) (v : Key) → K (row_id r) 1 ≡ right_end.0 ++ (w0 ∷ v) → (m : Found K rank all (row_id r) 1 right_end.0 w0 v) → (t : Pair) × (rest : Pairs) × (r.path ≡ x.path ++ (t ∷ rest))
@@ -250,7 +230,7 @@ module _ (K : AtomIdValue → ℕ → Key) (rank : Insertion → ℕ) (all : Lis
     left_row = subst (λ z. PathLt z x.path) (sym w.path) (above_left x.path w.top w.rest w.side)
 
     -- of two insertions in one slot the older is farther from its atom, and the other has its rows in the slot
-    left_of : (r : DocRow) → In r doc → Lt (row_id n) (row_id r) → (w1 : List ℕ) (w2 : Key) → K (row_id r) 1 ≡ slot_key K a.slot ++ (w1 ∷ w2) → (c : Passed (row_id r) w1) → (t : Pair) × (rest : Pairs) × (r.path ≡ x.path ++ (t ∷ rest))
+    left_of : (r : DocRow) → In r doc → Lt (row_id n) (row_id r) → (w1 : List ℕ) (w2 : Key) → K (row_id r) 1 ≡ slot_key K a.slot ++ (w1 ∷ w2) → (c : Mate rank all a.slot (row_id r) w1) → (t : Pair) × (rest : Pairs) × (r.path ≡ x.path ++ (t ∷ rest))
     left_of r i h w1 w2 e3 c =
         ⊎_elim
         (λ (o : precedes c.ins a ≡ true).
@@ -259,7 +239,7 @@ module _ (K : AtomIdValue → ℕ → Key) (rank : Insertion → ℕ) (all : Lis
         absurd (key_strict.irrefl (K (row_id r) 1) (id_trans K rank (row_id r) (row_id n) (row_id r)
         (lt_keys (row_id r) (row_id n) _ _ e4 (new_key x.path Left n w) (lex_append StepLt step_strict (slot_key K a.slot) _ _ (rank_first (rank c.ins) (rank a) c.ins.dot a.dot c.offset w.offset c.side 1 w2 [] far))) h)))
         (λ o. outside r i c.ins c.inside c.slot o c.above)
-        (bool_cases (precedes c.ins a))
+        (cases_Bool (precedes c.ins a))
 
     -- an atom between x and the new ones is of a row in the slot
     left_at : (r : DocRow) → In r doc → Lt (row_id n) (row_id r) → Lt (row_id r) (row_id x) → (w0 : List ℕ) (v : Key) → K (row_id r) 1 ≡ left_end.0 ++ (w0 ∷ v) → (m : Found K rank all (row_id r) 1 left_end.0 w0 v) → (t : Pair) × (rest : Pairs) × (r.path ≡ x.path ++ (t ∷ rest))

@@ -5,6 +5,8 @@ use Rattle.std.specs.Option.{option_map}
 use Rattle.td_base.specs.declared.bit.Bit.{Bit}
 use Rattle.td_base.specs.declared.bit.Bit.TheVariants.{Right}
 use Rattle.td_base.specs.Value.{AtomIdValue}
+use Rattle.td_base.specs.Lists.{In, Successive}
+use Rattle.td_base.proofs.Lists.{filter_In}
 use Rattle.td_path.specs.Infix.{Pair, Pairs}
 use Rattle.td_path.specs.SlotPaths.{goes_on, slot_contains}
 use Rattle.td_path.specs.declared.slot.Slot.TheVariants.{Root, At}
@@ -14,9 +16,7 @@ use Rattle.td_doc.specs.Document.{DocRow, row_id, last_id, find_row, is_empty_li
 use Rattle.td_doc.specs.Slots.{slot_path, rows_below, is_empty_slot}
 use Rattle.td_doc.proofs.Rules.{found, in_found}
 use Rattle.td_doc.proofs.PutRows.{Differ}
-use Rattle.td_order.specs.Lists.{In, Successive}
-use Rattle.td_order.proofs.ListLemmas.{filter-In}
-use Rattle.td_merge.proofs.Lists.{to_rows, of_rows, rises_of, rises_tri}
+use Rattle.td_merge.proofs.Lists.{rises_tri}
 use Rattle.td_merge.proofs.Paths.{PathLt, RowLt, path_not, no_pairs, last_more}
 
 abbrev pub nobody : AtomIdValue
@@ -28,7 +28,7 @@ id_at q p t e = ap (last_id nobody) e ∙ last_more nobody p t []
 
 module _ (doc : List DocRow) (d : IsDocument doc) where
   pub doc_rises : Successive RowLt doc
-  doc_rises = rises_of RowLt doc d.ascending
+  doc_rises = d.ascending
 
   -- rows with one path are one
   pub by_path : (x y : DocRow) → In x doc → In y doc → x.path ≡ y.path → x ≡ y
@@ -42,11 +42,11 @@ module _ (doc : List DocRow) (d : IsDocument doc) where
   by_id x y i j e =
       ⊎_elim (λ k. k)
       (λ (k : Differ x y ⊎ Differ y x). absurd (⊎_elim (λ m. m e) (λ m. m (sym e)) k))
-      (rises_tri Differ doc (rises_of Differ doc d.apart) x y i j)
+      (rises_tri Differ doc d.apart x y i j)
 
   -- a row's path begins on the right of the root
   pub first_pair : (r : DocRow) → In r doc → (t : Pair) × (rest : Pairs) × (r.path ≡ t ∷ rest) × (t.0 ≡ Right)
-  first_pair r i = cases r.path refl (d.paths r (to_rows r doc i))
+  first_pair r i = cases r.path refl (d.paths r i)
     where
       cases : (p : Pairs) → r.path ≡ p → IsPath p → (t : Pair) × (rest : Pairs) × (r.path ≡ t ∷ rest) × (t.0 ≡ Right)
       cases [] e h = absurd h
@@ -56,21 +56,20 @@ module _ (doc : List DocRow) (d : IsDocument doc) where
   pub on_the_way : (r : DocRow) → In r doc → (p : Pairs) (t : Pair) (rest : Pairs) → r.path ≡ p ++ t ∷ rest → (q : DocRow) × In q doc × (q.path ≡ p ++ t ∷ [])
   on_the_way r i p t [] e = (r, i, e)
   on_the_way r i p t (next ∷ rest) e =
-      let q = d.rooted r (p ++ t ∷ []) next rest (to_rows r doc i) (e ∙ sym (append_assoc p (t ∷ []) (next ∷ rest))) (no_pairs p t []) in
-      (q.0, of_rows q.0 doc q.1, q.2)
+      d.rooted r (p ++ t ∷ []) next rest i (e ∙ sym (append_assoc p (t ∷ []) (next ∷ rest))) (no_pairs p t [])
 
   -- the path of the slot of a row
   pub row_slot : (x : DocRow) → In x doc → (s : Bit) → slot_path doc (At (row_id x) s) ≡ Some (Below x.path s)
-  row_slot x i s = at (find_row (row_id x) doc) refl (in_found x doc (to_rows x doc i))
+  row_slot x i s = at (find_row (row_id x) doc) refl (in_found x doc i)
     where
       at : (o : Option DocRow) → find_row (row_id x) doc ≡ o → IsSome o → slot_path doc (At (row_id x) s) ≡ Some (Below x.path s)
       at None f h = absurd (true≢false (sym h))
       at (Some q) f h =
           let w = found (row_id x) q doc f in
-          ap (option_map (λ (r : DocRow). Below r.path s)) f ∙ ap (λ (z : DocRow). Some (Below z.path s)) (by_id q x (of_rows q doc w.0) i w.1)
+          ap (option_map (λ (r : DocRow). Below r.path s)) f ∙ ap (λ (z : DocRow). Some (Below z.path s)) (by_id q x w.0 i w.1)
 
   none_passes : (test : DocRow → Bool) (rows : List DocRow) → is_empty_list (filter test rows) ≡ true → (r : DocRow) → In r rows → test r ≡ true → ⊥
-  none_passes test rows h r i e = empty (filter test rows) h (filter-In test r rows i e)
+  none_passes test rows h r i e = empty (filter test rows) h (filter_In test r rows i e)
     where
       empty : (rs : List DocRow) → is_empty_list rs ≡ true → In r rs → ⊥
       empty [] k j = j

@@ -2,7 +2,10 @@
 use Rattle.std.proofs.Common.{◌≡◌, ℕ, List, [], ◌∷◌, Bool, true, false, ◌&&◌, not, refl, sym, subst, inl, inr, true≢false}
 use Rattle.std.specs.Prelude.{IsTrue}
 use Rattle.std.specs.List.{list_all}
+use Rattle.std.proofs.lemmas.Bool.{and_parts}
 use Rattle.td_base.specs.Value.{DotValue, AtomIdValue}
+use Rattle.td_base.specs.Lists.{In}
+use Rattle.td_base.proofs.Lists.{any_found, any_from}
 use Rattle.td_clock.specs.Vector.{vector_has}
 use Rattle.td_op.specs.declared.body.Body.TheVariants.{Delete, Commit}
 use Rattle.td_op.specs.Op.{OpValue}
@@ -10,10 +13,8 @@ use Rattle.td_op.specs.Past.{in_past}
 use Rattle.td_doc.specs.Slots.{is_empty_slot}
 use Rattle.td_order.specs.declared.insertion.Insertion.{Insertion}
 use Rattle.td_order.specs.Insertions.{IsAtomOf, IsInsertionOf, insertions, same_dot}
-use Rattle.td_order.specs.Lists.{In}
 use Rattle.td_order.specs.LineUp.{DotsDiffer, has_dot}
 use Rattle.td_order.specs.Causal.{IsWellRooted}
-use Rattle.td_order.proofs.ListLemmas.{and_true, any_found, any_from}
 use Rattle.td_order.proofs.PassedTests.{same_dot_true, same_dot_refl}
 use Rattle.td_order.proofs.InsertionLemmas.{of_insertion}
 use Rattle.td_order.proofs.SetOfOps.{one_op}
@@ -49,8 +50,8 @@ log_test ops (x ∷ log) = (not (has_dot x.dot log) && has_all ops x.deps log) &
 log_from : (ops log : List OpValue) → DotsDiffer ops → Within log ops → log_test ops log ≡ true → IsCausalLog ops log
 log_from ops [] d w h = tt
 log_from ops (x ∷ log) d w h =
-    let p = and_true (not (has_dot x.dot log) && has_all ops x.deps log) (log_test ops log) h in
-    let q = and_true (not (has_dot x.dot log)) (has_all ops x.deps log) p.0 in
+    let p = and_parts (not (has_dot x.dot log) && has_all ops x.deps log) (log_test ops log) h in
+    let q = and_parts (not (has_dot x.dot log)) (has_all ops x.deps log) p.0 in
     let rest : Within log ops = λ y i. w y (inr i) in (
       record {
         inside = w x (inl refl);
@@ -66,9 +67,9 @@ free_test ops a log =
 
 free_from : (ops : List OpValue) (a : Insertion) (log : List OpValue) → DotsDiffer ops → Within log ops → free_test ops a log ≡ true → WasFree ops a
 free_from ops a log d w h =
-    let p = and_true (log_test ops log && has_all ops a.deps log) (list_all (λ (y : OpValue). vector_has a.deps y.dot) log && is_empty_slot (doc_of log) a.slot) h in
-    let q = and_true (log_test ops log) (has_all ops a.deps log) p.0 in
-    let r = and_true (list_all (λ (y : OpValue). vector_has a.deps y.dot) log) (is_empty_slot (doc_of log) a.slot) p.1 in
+    let p = and_parts (log_test ops log && has_all ops a.deps log) (list_all (λ (y : OpValue). vector_has a.deps y.dot) log && is_empty_slot (doc_of log) a.slot) h in
+    let q = and_parts (log_test ops log) (has_all ops a.deps log) p.0 in
+    let r = and_parts (list_all (λ (y : OpValue). vector_has a.deps y.dot) log) (is_empty_slot (doc_of log) a.slot) p.1 in
     record {
       log = log;
       causal = log_from ops log d w q.0;

@@ -1,7 +1,7 @@
 -- Lists: what a filter keeps and a search finds.
 use Rattle.std.specs.Prelude.{find}
 use Rattle.std.proofs.Common.{◌≡◌, List, [], ◌∷◌, Bool, true, false, cond, map, filter, Some, refl, sym, ap, ◌∙◌, inl, inr, ⊎_elim, true≢false}
-use Rattle.td_order.specs.Lists.{In}
+use Rattle.td_base.specs.Lists.{In}
 
 -- a filter, and what it keeps, through a map
 

@@ -1,15 +1,15 @@
 -- Insertions that were made in empty slots: none is in the past of another one in its slot.
 use Rattle.std.proofs.Common.{◌≡◌, List, ◌∷◌, ◌++◌, true, false, sym, ◌∙◌, subst, ⊎_elim}
+use Rattle.std.proofs.lemmas.Bool.{cases_Bool}
 use Rattle.td_base.specs.declared.bit.Bit.{Bit}
 use Rattle.td_base.specs.Value.{AtomIdValue}
+use Rattle.td_base.specs.Lists.{In}
 use Rattle.td_path.specs.Infix.{Pair, Pairs}
 use Rattle.td_path.specs.declared.slot.Slot.TheVariants.{Root, At}
 use Rattle.td_doc.specs.Document.{DocRow, row_id}
 use Rattle.td_order.specs.declared.insertion.Insertion.{Insertion}
-use Rattle.td_order.specs.Lists.{In}
 use Rattle.td_order.specs.Under.{under}
 use Rattle.td_order.specs.Place.{precedes}
-use Rattle.td_order.proofs.ListLemmas.{bool_cases}
 use Rattle.td_order.proofs.Keys.{id_of}
 use Rattle.td_order.proofs.Family.{IsRooted, AllFollow}
 use Rattle.td_order.proofs.Fits.{first_id}
@@ -40,4 +40,4 @@ module _ (all : List Insertion) (F : AllFollow all) where
       cases q j (in_slot x k s at t rest e w h) = f.below x k s (sym same ∙ at) q j t rest e w
 
   pub none_after : ((a : Insertion) → In a all → IsFree a) → (c d : Insertion) → In c all → In d all → c.slot ≡ d.slot → precedes c d ≡ false
-  none_after free c d i j s = ⊎_elim (λ (p : precedes c d ≡ true). absurd (not_after c d i (free d j) s p)) (λ k. k) (bool_cases (precedes c d))
+  none_after free c d i j s = ⊎_elim (λ (p : precedes c d ≡ true). absurd (not_after c d i (free d j) s p)) (λ k. k) (cases_Bool (precedes c d))

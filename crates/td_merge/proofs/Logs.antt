@@ -2,9 +2,12 @@
 use Rattle.std.proofs.Common.{◌≡◌, ◌≢◌, ◌⊎◌, List, [], ◌∷◌, ◌++◌, true, ◌||◌, Option, Some, None, length, refl, sym, ap, ◌∙◌, subst, inl, inr, ⊎_elim, true≢false}
 use Rattle.std.specs.Prelude.{IsSome}
 use Rattle.std.specs.Option.{option_map}
+use Rattle.std.proofs.lemmas.Bool.{or_cases}
 use Rattle.td_base.specs.declared.bit.Bit.{Bit}
 use Rattle.td_base.specs.declared.bit.Bit.TheVariants.{Right}
 use Rattle.td_base.specs.Value.{DotValue, AtomIdValue}
+use Rattle.td_base.proofs.Lists.{all_of}
+use Rattle.td_base.specs.Lists.{In}
 use Rattle.td_path.specs.Infix.{Pair, Pairs}
 use Rattle.td_path.specs.declared.slot.Slot.{Slot}
 use Rattle.td_path.specs.declared.slot.Slot.TheVariants.{Root, At}
@@ -13,16 +16,12 @@ use Rattle.td_doc.specs.Document.{DocRow, row_id, find_row, IsDocument}
 use Rattle.td_doc.specs.Array.{NamedAtom, run_atoms, array_upto}
 use Rattle.td_doc.specs.Insertion.{put_rows, put_array_below, insert_run}
 use Rattle.td_doc.specs.Answers.{IsRooted as IsRootedIn}
-use Rattle.td_doc.proofs.Successive.{all_of}
 use Rattle.td_doc.proofs.Rules.{found, in_found, run_keeps}
 use Rattle.td_order.specs.declared.insertion.Insertion.{Insertion}
 use Rattle.td_order.specs.Insertions.{same_dot, ids_of}
-use Rattle.td_order.specs.Lists.{In}
 use Rattle.td_order.specs.Under.{under, names_under}
-use Rattle.td_order.proofs.ListLemmas.{or_true}
 use Rattle.td_order.proofs.PassedTests.{same_dot_true}
 use Rattle.td_order.proofs.Family.{Names, IsRooted, AllFollow}
-use Rattle.td_merge.proofs.Lists.{to_rows, of_rows}
 use Rattle.td_merge.proofs.Paths.{in_split}
 use Rattle.td_merge.proofs.Arrays.{shift, array_at_root}
 use Rattle.td_merge.proofs.Under.{dot_in, under_at}
@@ -67,7 +66,7 @@ module _ (all : List Insertion) (F : AllFollow all) where
       ⊎_elim
       (λ (e : c ≡ o).
       let v : (same_dot o.dot b || names_under (under all b) o.slot) ≡ true = sym (under_at all F o h.0.inside b) ∙ subst (λ (z : Insertion). under all b z.dot ≡ true) e u in
-      ⊎_elim (λ k. n o (inl refl) (same_dot_true o.dot b k)) (λ k. at_slot o.slot h.0.rooted k (λ d j w. not_under os h.1 b (λ z q. n z (inr q)) d j w)) (or_true _ _ v))
+      ⊎_elim (λ k. n o (inl refl) (same_dot_true o.dot b k)) (λ k. at_slot o.slot h.0.rooted k (λ d j w. not_under os h.1 b (λ z q. n z (inr q)) d j w)) (or_cases _ _ v))
       (λ k. not_under os h.1 b (λ z q. n z (inr q)) c k u)
       i
     where
@@ -138,13 +137,13 @@ module _ (all : List Insertion) (F : AllFollow all) where
         is = ap (λ z. insert_run z a.dot a.run (rows_left os)) e
             ∙ (ap (λ o. put_array_below (option_map (λ (r : DocRow). Below r.path s) o) (atoms_of a) (rows_left os)) f
             ∙ ap (λ z. put_rows (array_upto (length (atoms_of a)) (Below q.path (side_of z)) (atoms_of a)) (rows_left os)) (sym e));
-        how = inr (q, of_rows q (rows_left os) w.0, e ∙ ((λ i. At (sym w.1 i) s) ∙ ap (λ z. At (row_id q) (side_of z)) (sym e)), refl);
+        how = inr (q, w.0, e ∙ ((λ i. At (sym w.1 i) s) ∙ ap (λ z. At (row_id q) (side_of z)) (sym e)), refl);
       }
 
   -- the atom of a slot is a row
   pub slot_row : (os : List Insertion) → HasRows os (rows_left os) → (s : Slot) → IsRooted os s → IsRootedIn (rows_left os) s
   slot_row os b Root h = tt
-  slot_row os b (At x s) h = let q = b.row x h in subst (λ z. IsSome (find_row z (rows_left os))) (sym q.2) (in_found q.0 (rows_left os) (to_rows q.0 (rows_left os) q.1))
+  slot_row os b (At x s) h = let q = b.row x h in subst (λ z. IsSome (find_row z (rows_left os))) (sym q.2) (in_found q.0 (rows_left os) q.1)
 
   pub anchor : (a : Insertion) (os : List Insertion) → Comes a os → HasRows os (rows_left os) → Anchor a os
   anchor a os c b = cases a.slot refl c.rooted
@@ -163,5 +162,5 @@ module _ (all : List Insertion) (F : AllFollow all) where
   pub next_document : (a : Insertion) (os : List Insertion) → Comes a os → HasRows os (rows_left os) → IsDocument (rows_left (a ∷ os))
   next_document a os c b =
       run_keeps (rows_left os) a.slot a.dot a.run b.document
-      (all_of (λ (r : DocRow). (row_id r).dot ≢ a.dot) (rows_left os) (λ r i e. let k = b.named r (of_rows r (rows_left os) i) in c.fresh k.0 k.1 (sym (dot_in k.0 (row_id r) k.2) ∙ e)))
+      (all_of (λ (r : DocRow). (row_id r).dot ≢ a.dot) (rows_left os) (λ r i e. let k = b.named r i in c.fresh k.0 k.1 (sym (dot_in k.0 (row_id r) k.2) ∙ e)))
       (slot_row os b a.slot c.rooted)

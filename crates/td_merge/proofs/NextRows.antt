@@ -2,6 +2,8 @@
 use Rattle.std.proofs.Common.{◌≡◌, ◌⊎◌, ℕ, List, [], ◌∷◌, ◌++◌, true, map, length, refl, sym, ap, ◌∙◌, subst, inl, inr, ⊎_elim, true≢false, arith, append_assoc, append-nil}
 use Rattle.td_base.specs.declared.bit.Bit.{Bit}
 use Rattle.td_base.specs.Value.{AtomIdValue}
+use Rattle.td_base.specs.Lists.{In}
+use Rattle.td_base.proofs.Lists.{map_In, In-map}
 use Rattle.td_path.specs.Infix.{Pair, Pairs}
 use Rattle.td_path.specs.declared.slot.Slot.TheVariants.{Root, At}
 use Rattle.td_path.specs.declared.slot_path.SlotPath.TheVariants.{Below}
@@ -12,10 +14,8 @@ use Rattle.td_doc.proofs.PutRows.{in_puts, puts_in}
 use Rattle.td_doc.proofs.ArrayRows.{array_starts}
 use Rattle.td_order.specs.declared.insertion.Insertion.{Insertion}
 use Rattle.td_order.specs.Insertions.{ids_of}
-use Rattle.td_order.specs.Lists.{In}
 use Rattle.td_order.specs.Under.{under}
 use Rattle.td_order.proofs.Family.{Names, AllFollow}
-use Rattle.td_merge.proofs.Lists.{to_rows, of_rows, In-mapped, mapped-In}
 use Rattle.td_merge.proofs.Paths.{IsBelow, fork, head_pair, cancel, no_pairs, In-pair}
 use Rattle.td_merge.proofs.Arrays.{shift, array_base, array_there, base_pairs, array_ids, named_ids, named_dot}
 use Rattle.td_merge.proofs.Under.{dot_in, under_itself, under_slot_atom, under_root}
@@ -40,13 +40,13 @@ module _ (all : List Insertion) (F : AllFollow all) where
     both = put_rows news old
 
     split : (r : DocRow) → In r both → In r news ⊎ In r old
-    split r i = ⊎_elim (λ k. inl (of_rows r news k)) (λ k. inr (of_rows r old k)) (in_puts news old r (to_rows r both i))
+    split r i = ⊎_elim (λ k. inl k) (λ k. inr k) (in_puts news old r i)
 
     ids : map row_id news ≡ ids_of a
     ids = array_ids size (Below n.path side) (atoms_of a) (omega arith) ∙ named_ids a.dot 0 a.run
 
     pub new_id : (r : DocRow) → In r news → In (row_id r) (ids_of a)
-    new_id r i = subst (λ l. In (row_id r) l) ids (mapped-In row_id r news i)
+    new_id r i = subst (λ l. In (row_id r) l) ids (In-map row_id r news i)
 
     new_dot : (r : DocRow) → In r news → (row_id r).dot ≡ a.dot
     new_dot r i = dot_in a (row_id r) (new_id r i)
@@ -65,7 +65,7 @@ module _ (all : List Insertion) (F : AllFollow all) where
     pub new_row : (r : DocRow) → In r news → NewRow r
     new_row r i =
         let k = array_base size n.path side (atoms_of a) r i in
-        let s = array_starts size (Below [] side) (atoms_of a) k.0 (to_rows k.0 (rows_of a) k.1) in
+        let s = array_starts size (Below [] side) (atoms_of a) k.0 k.1 in
         record {
           base = k.0;
           inside = k.1;
@@ -184,10 +184,10 @@ module _ (all : List Insertion) (F : AllFollow all) where
         (split r i)
 
     in_new : (r : DocRow) → In r news → In r both
-    in_new r i = of_rows r both (puts_in news old r (inl (to_rows r news i)))
+    in_new r i = puts_in news old r (inl i)
 
     in_old : (r : DocRow) → In r old → In r both
-    in_old r i = of_rows r both (puts_in news old r (inr (to_rows r old i)))
+    in_old r i = puts_in news old r (inr i)
 
     both_named : (r : DocRow) → In r both → Names (a ∷ os) (row_id r)
     both_named r i = ⊎_elim (λ u. (a, inl refl, new_id r u)) (λ u. let k = b.named r u in (k.0, inr k.1, k.2)) (split r i)
@@ -195,7 +195,7 @@ module _ (all : List Insertion) (F : AllFollow all) where
     both_row : (y : AtomIdValue) → Names (a ∷ os) y → (r : DocRow) × In r both × (y ≡ row_id r)
     both_row y k =
         ⊎_elim
-        (λ (e : k.0 ≡ a). let m = In-mapped row_id y news (subst (λ l. In y l) (sym ids) (subst (λ (z : Insertion). In y (ids_of z)) e k.2)) in (m.0, in_new m.0 m.1, m.2))
+        (λ (e : k.0 ≡ a). let m = map_In row_id y news (subst (λ l. In y l) (sym ids) (subst (λ (z : Insertion). In y (ids_of z)) e k.2)) in (m.0, in_new m.0 m.1, m.2))
         (λ j. let m = b.row y (k.0, j, k.2) in (m.0, in_old m.0 m.1, m.2))
         k.1
 

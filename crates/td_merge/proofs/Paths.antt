@@ -8,13 +8,13 @@ use Rattle.td_base.specs.declared.bit.Bit.{Bit}
 use Rattle.td_base.specs.declared.bit.Bit.TheVariants.{Left, Right}
 use Rattle.td_base.specs.Value.{AtomIdValue}
 use Rattle.td_base.specs.Order.{dot_cmp, id_cmp, bit_cmp}
+use Rattle.td_base.specs.Lists.{In}
+use Rattle.td_base.proofs.Lists.{In-back}
 use Rattle.td_path.specs.Infix.{Pair, Pairs, pair_cmp, path_cmp}
 use Rattle.td_path.proofs.InfixOrder.{path_total, bit_total, equal_pairs, same_pairs, left_before, right_after}
 use Rattle.td_doc.specs.Document.{DocRow, last_id}
 use Rattle.td_doc.proofs.PutRows.{not_before_itself, less_of}
 use Rattle.td_order.specs.Insertions.{dot_lt}
-use Rattle.td_order.specs.Lists.{In}
-use Rattle.td_order.proofs.ListLemmas.{In-right}
 
 abbrev pub PathLt : Pairs → Pairs → Type 0
 PathLt p q = path_cmp p q ≡ Less
@@ -95,7 +95,7 @@ cancel [] u v e = e
 cancel (x ∷ p) u v e = cancel p u v (tail_pairs x x _ _ e)
 
 pub In-pair : (p : Pairs) (t : Pair) (rest : Pairs) → In t (p ++ t ∷ rest)
-In-pair p t rest = In-right t p (t ∷ rest) (inl refl)
+In-pair p t rest = In-back t p (t ∷ rest) (inl refl)
 
 -- the path is that of a node, or of one below it
 abbrev pub IsBelow : Pairs → Pairs → Type 0

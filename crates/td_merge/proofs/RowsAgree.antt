@@ -1,8 +1,11 @@
 -- With insertions alone, rows stand in a document as their atoms stand in the order.
-use Rattle.std.proofs.Common.{◌≡◌, ◌⊎◌, ◌<◌, ℕ, suc, List, [], ◌∷◌, ◌++◌, true, false, map, length, refl, sym, ap, ◌∙◌, subst, inl, inr, ⊎_elim, true≢false, arith}
+use Rattle.std.proofs.Common.{◌≡◌, ◌⊎◌, ℕ, List, [], ◌∷◌, ◌++◌, true, false, map, length, refl, sym, ap, ◌∙◌, subst, inl, inr, ⊎_elim, true≢false, arith}
+use Rattle.std.proofs.lemmas.Bool.{cases_Bool}
 use Rattle.td_base.specs.declared.bit.Bit.{Bit}
 use Rattle.td_base.specs.declared.bit.Bit.TheVariants.{Left, Right}
 use Rattle.td_base.specs.Value.{DotValue, AtomIdValue}
+use Rattle.td_base.specs.Lists.{In, Successive}
+use Rattle.td_base.proofs.Lists.{map_In, In-map, map_successive, successive_map, all_of, all_in}
 use Rattle.td_path.specs.Infix.{Pair, Pairs}
 use Rattle.td_path.specs.declared.slot.Slot.TheVariants.{Root, At}
 use Rattle.td_path.specs.declared.slot_path.SlotPath.TheVariants.{Below}
@@ -12,20 +15,18 @@ use Rattle.td_doc.specs.Insertion.{put_rows}
 use Rattle.td_doc.proofs.PutRows.{in_puts}
 use Rattle.td_doc.proofs.ArrayRows.{array_ascends}
 use Rattle.td_order.specs.declared.insertion.Insertion.{Insertion}
-use Rattle.td_order.specs.Insertions.{ids_from, ids_of, same_dot}
-use Rattle.td_order.specs.Lists.{In, Successive}
+use Rattle.td_order.specs.Insertions.{ids_of, same_dot}
 use Rattle.td_order.specs.Under.{under}
 use Rattle.td_order.specs.Place.{precedes}
 use Rattle.td_order.specs.Order.{placed}
-use Rattle.td_order.proofs.Lex.{lex_append}
-use Rattle.td_order.proofs.ListLemmas.{bool_cases}
-use Rattle.td_order.proofs.Keys.{Key, StepLt, KeyLt, key_strict, step_strict, step, id_of, same_dot_true, same_dot_refl}
+use Rattle.td_order.proofs.Keys.{Key, key_strict, same_dot_true, same_dot_refl}
 use Rattle.td_order.proofs.Family.{Names, AllFollow}
-use Rattle.td_order.proofs.Fits.{slot_key, OlderRank, AllFit, fits_at, ids_dot}
-use Rattle.td_order.proofs.Placing.{IdLt, id_trans, In-placed, placed-In}
+use Rattle.td_order.proofs.Fits.{OlderRank, AllFit, fits_at, ids_dot}
+use Rattle.td_order.proofs.Placing.{IdLt, id_trans, In-placed, placed-In, ids_rise_from}
 use Rattle.td_order.proofs.PlaceRises.{placed_rises}
 use Rattle.td_order.proofs.Ranks.{key_in, key_fits}
-use Rattle.td_merge.proofs.Lists.{to_rows, of_rows, rises_of, In-mapped, mapped-In, rises_map, map_rises, both_rise, one_list}
+use Rattle.td_merge.proofs.Lists.{both_rise}
+use Rattle.td_order.proofs.Sublists.{one_rising}
 use Rattle.td_merge.proofs.Paths.{RowLt, path_not, path_trans}
 use Rattle.td_merge.proofs.Arrays.{array_ids, named_ids}
 use Rattle.td_merge.proofs.Under.{dot_in, same_insertion}
@@ -45,7 +46,7 @@ has_dot (o ∷ os) d =
     (λ n. ⊎_elim (λ (k : (c : Insertion) × In c os × (c.dot ≡ d)). inl (k.0, inr k.1, k.2))
     (λ (k : (c : Insertion) → In c os → c.dot ≡ d → ⊥). inr (λ c i e. ⊎_elim (λ (q : c ≡ o). true≢false (sym (subst (λ z. same_dot o.dot z ≡ true) (sym (ap (λ (z : Insertion). z.dot) q) ∙ e) (same_dot_refl o.dot)) ∙ n)) (λ q. k c q e) i))
     (has_dot os d))
-    (bool_cases (same_dot o.dot d))
+    (cases_Bool (same_dot o.dot d))
 
 at_same : (x y : AtomIdValue) (s t : Bit) → At x s ≡ At y t → x ≡ y
 at_same x y s t e = cc
@@ -88,19 +89,6 @@ module _ (all : List Insertion) (F : AllFollow all) (free : (a : Insertion) → 
   abbrev Agree : List DocRow → Type 0
   Agree doc = (r q : DocRow) → In r doc → In q doc → RowLt r q → Lt (row_id r) (row_id q)
 
-  keys_up : (a : Insertion) → In a all → (k : ℕ) (run : List (List ℕ)) → Successive Lt (ids_from a.dot k run)
-  keys_up a i k [] = tt
-  keys_up a i k (x ∷ run) = (
-    (λ y j.
-        let o = ids_dot a.dot (suc k) run y j in
-        let lt : k < o.0 = omega (arith, o.2) in
-        let less : KeyLt (slot_key K a.slot ++ (step (rank a) a.dot k 1 ∷ [])) (slot_key K a.slot ++ (step (rank a) a.dot o.0 1 ∷ [])) =
-        lex_append StepLt step_strict (slot_key K a.slot) _ _ (inl (inr (refl, inr (refl, inr (refl, inl lt))))) in
-        subst (λ (w : AtomIdValue). Lt (id_of a.dot k) w) (sym o.1)
-        (subst (λ (v : Key). KeyLt v (K (id_of a.dot o.0) 1)) (sym (fits_at K rank all g a i k 1)) (subst (λ (v : Key). KeyLt (slot_key K a.slot ++ (step (rank a) a.dot k 1 ∷ [])) v) (sym (fits_at K rank all g a i o.0 1)) less))),
-    keys_up a i (suc k) run,
-  )
-
   module _ (a : Insertion) (os : List Insertion) (tk : IsTaken all F (a ∷ os)) (ih : Agree (rows_left os)) where
     b : HasRows all F os (rows_left os)
     b = log_rows all F os tk.1
@@ -130,10 +118,10 @@ module _ (all : List Insertion) (F : AllFollow all) (free : (a : Insertion) → 
     beyond r i u = let k = b.named r i in not_under all F os tk.1 a.dot tk.0.fresh k.0 k.1 (subst (λ z. under all a.dot z ≡ true) (dot_in k.0 (row_id r) k.2) u)
 
     split : (r : DocRow) → In r (put_rows news old) → In r news ⊎ In r old
-    split r i = ⊎_elim (λ k. inl (of_rows r news k)) (λ k. inr (of_rows r old k)) (in_puts news old r (to_rows r (put_rows news old) i))
+    split r i = ⊎_elim (λ k. inl k) (λ k. inr k) (in_puts news old r i)
 
     news_rise : Successive RowLt news
-    news_rise = rises_of RowLt news (array_ascends (length (atoms_of a)) (Below n.path side) (atoms_of a))
+    news_rise = array_ascends (length (atoms_of a)) (Below n.path side) (atoms_of a)
 
     abbrev IsIn : Pair → DocRow → Type 0
     IsIn t r = Inside K rank all g a tk.0.inside older equal old named_all beyond ih t r
@@ -210,7 +198,7 @@ module _ (all : List Insertion) (F : AllFollow all) (free : (a : Insertion) → 
     news_agree : (r q : DocRow) → In r news → In q news → RowLt r q → Lt (row_id r) (row_id q)
     news_agree r q i j h =
         both_rise RowLt (λ (x y : DocRow). Lt (row_id x) (row_id y)) (λ z k. path_not z.path k) (λ x y z k m. path_trans x.path y.path z.path k m) news
-        news_rise (rises_map Lt row_id news (subst (λ l. Successive Lt l) (sym new_ids) (keys_up a tk.0.inside 0 a.run))) r q i j h
+        news_rise (map_successive Lt row_id news (subst (λ l. Successive Lt l) (sym new_ids) (ids_rise_from K rank a (fits_at K rank all g a tk.0.inside) 0 a.run))) r q i j h
 
     against : (x y : DocRow) → RowLt x y → RowLt y x → ⊥
     against x y h k = path_not x.path (path_trans x.path y.path x.path h k)
@@ -233,16 +221,16 @@ module _ (all : List Insertion) (F : AllFollow all) (free : (a : Insertion) → 
   agree_all (a ∷ os) h = agree_next a os h (agree_all os h.1)
 
   rows_up : (os : List Insertion) → IsTaken all F os → Successive Lt (map row_id (rows_left os))
-  rows_up os h = map_rises Lt row_id (rows_left os) (up (rows_left os) (λ r i. i) (doc_rises (rows_left os) (log_rows all F os h).document))
+  rows_up os h = successive_map Lt row_id (rows_left os) (up (rows_left os) (λ r i. i) (doc_rises (rows_left os) (log_rows all F os h).document))
     where
       up : (rs : List DocRow) → ((r : DocRow) → In r rs → In r (rows_left os)) → Successive RowLt rs → Successive (λ r q. Lt (row_id r) (row_id q)) rs
       up [] w h2 = tt
-      up (r ∷ rs) w h2 = ((λ q i. agree_all os h r q (w r (inl refl)) (w q (inr i)) (h2.0 q i)), up rs (λ q i. w q (inr i)) h2.1)
+      up (r ∷ rs) w h2 = (all_of (λ q. Lt (row_id r) (row_id q)) rs (λ q i. agree_all os h r q (w r (inl refl)) (w q (inr i)) (all_in (RowLt r) rs h2.0 q i)), up rs (λ q i. w q (inr i)) h2.1)
 
   -- where the log has all of the insertions, its rows are the atoms of the order
   pub rows_placed : (log : List Insertion) → IsTaken all F log → ((a : Insertion) → In a all → In a log) → map row_id (rows_left log) ≡ placed all
   rows_placed log h whole =
       let b = log_rows all F log h in
-      one_list Lt (λ x. key_strict.irrefl (K x 1)) (id_trans K rank) (map row_id (rows_left log)) (placed all) (rows_up log h) (placed_rises K rank all g)
-      (λ y i. let k = In-mapped row_id y (rows_left log) i in let m = b.named k.0 k.1 in placed-In all y (m.0, taken_in all F log h m.0 m.1, subst (λ z. In z (ids_of m.0)) (sym k.2) m.2))
-      (λ y i. let m = In-placed all y i in let k = b.row y (m.0, whole m.0 m.1, m.2) in subst (λ z. In z (map row_id (rows_left log))) (sym k.2) (mapped-In row_id k.0 (rows_left log) k.1))
+      one_rising Lt (λ x. key_strict.irrefl (K x 1)) (id_trans K rank) (map row_id (rows_left log)) (placed all) (rows_up log h) (placed_rises K rank all g)
+      (λ y i. let k = map_In row_id y (rows_left log) i in let m = b.named k.0 k.1 in placed-In all y (m.0, taken_in all F log h m.0 m.1, subst (λ z. In z (ids_of m.0)) (sym k.2) m.2))
+      (λ y i. let m = In-placed all y i in let k = b.row y (m.0, whole m.0 m.1, m.2) in subst (λ z. In z (map row_id (rows_left log))) (sym k.2) (In-map row_id k.0 (rows_left log) k.1))

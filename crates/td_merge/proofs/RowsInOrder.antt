@@ -1,6 +1,7 @@
 -- The rows that a causal log of operations without a commit leaves are the atoms of their order.
 use Rattle.std.specs.List.{cons_option}
 use Rattle.std.proofs.Common.{◌≡◌, List, [], ◌∷◌, true, map, Option, Some, None, refl, sym, ◌∙◌, subst, ⊎_elim}
+use Rattle.td_base.specs.Lists.{In}
 use Rattle.td_clock.specs.Vector.{vector_has}
 use Rattle.td_path.specs.declared.slot.Slot.{Slot}
 use Rattle.td_path.specs.declared.slot.Slot.TheVariants.{Root, At}
@@ -9,7 +10,6 @@ use Rattle.td_doc.specs.Document.{row_id}
 use Rattle.td_doc.specs.Slots.{is_empty_slot}
 use Rattle.td_order.specs.declared.insertion.Insertion.{Insertion}
 use Rattle.td_order.specs.Insertions.{IsInsertionOf, insertion_of, insertions}
-use Rattle.td_order.specs.Lists.{In}
 use Rattle.td_order.specs.LineUp.{line_up}
 use Rattle.td_order.specs.Place.{precedes}
 use Rattle.td_order.specs.Order.{order}

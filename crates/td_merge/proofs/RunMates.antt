@@ -2,6 +2,8 @@
 -- none of the run to which the slot's atom belongs.
 use Rattle.std.proofs.Common.{◌≡◌, List, [], ◌∷◌, ◌++◌, map, length, sym, ap, ◌∙◌, subst, arith, append_assoc}
 use Rattle.td_base.specs.declared.bit.Bit.{Bit}
+use Rattle.td_base.specs.Lists.{In}
+use Rattle.td_base.proofs.Lists.{map_In}
 use Rattle.td_path.specs.Infix.{Pair, Pairs}
 use Rattle.td_path.specs.declared.slot.Slot.TheVariants.{At}
 use Rattle.td_path.specs.declared.slot_path.SlotPath.TheVariants.{Below}
@@ -10,9 +12,7 @@ use Rattle.td_doc.specs.Array.{array_upto}
 use Rattle.td_doc.proofs.ArrayRows.{array_starts}
 use Rattle.td_order.specs.declared.insertion.Insertion.{Insertion}
 use Rattle.td_order.specs.Insertions.{ids_of}
-use Rattle.td_order.specs.Lists.{In}
 use Rattle.td_order.proofs.Family.{Names, IsRooted, AllFollow}
-use Rattle.td_merge.proofs.Lists.{to_rows, In-mapped}
 use Rattle.td_merge.proofs.Paths.{cancel, last_more}
 use Rattle.td_merge.proofs.Arrays.{shift, array_base, array_ids, named_ids}
 use Rattle.td_merge.proofs.Under.{dot_in, same_insertion}
@@ -23,7 +23,7 @@ use Rattle.td_merge.proofs.Free.{IsFree}
 
 shift_id : (p q : Pairs) (r0 : DocRow) (c : Insertion) → In r0 (rows_of c) → row_id (shift p r0) ≡ row_id (shift q r0)
 shift_id p q r0 c i =
-    let s = array_starts (length (atoms_of c)) (Below [] (side_of c.slot)) (atoms_of c) r0 (to_rows r0 (rows_of c) i) in
+    let s = array_starts (length (atoms_of c)) (Below [] (side_of c.slot)) (atoms_of c) r0 i in
     let first : Pair = (side_of c.slot, s.id) in
     ap (λ z. last_id nobody (p ++ z)) s.is ∙ (last_more nobody p first s.rest ∙ (sym (last_more nobody q first s.rest) ∙ ap (λ z. last_id nobody (q ++ z)) (sym s.is)))
 
@@ -35,7 +35,7 @@ module _ (all : List Insertion) (F : AllFollow all) where
       let p = (b.arrays c i).0 in
       let size = length (atoms_of c) in
       let ids : map row_id (array_upto size (Below p (side_of c.slot)) (atoms_of c)) ≡ ids_of c = array_ids size (Below p (side_of c.slot)) (atoms_of c) (omega arith) ∙ named_ids c.dot 0 c.run in
-      let z = In-mapped row_id (row_id y) (array_upto size (Below p (side_of c.slot)) (atoms_of c)) (subst (λ l. In (row_id y) l) (sym ids) k) in
+      let z = map_In row_id (row_id y) (array_upto size (Below p (side_of c.slot)) (atoms_of c)) (subst (λ l. In (row_id y) l) (sym ids) k) in
       let base = array_base size p (side_of c.slot) (atoms_of c) z.0 z.1 in
       let inside : In z.0 (rows_left log) = subst (λ q. In q (rows_left log)) (sym base.2) ((b.arrays c i).1 base.0 base.1) in
       (base.0, base.1, by_id (rows_left log) b.document y z.0 j inside z.2 ∙ base.2)

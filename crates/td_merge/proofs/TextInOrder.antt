@@ -3,6 +3,8 @@ use Rattle.std.specs.Prelude.{find, slice_get, option_and_then, unwrap_or}
 use Rattle.std.specs.List.{concat, cons_option}
 use Rattle.std.proofs.Common.{◌≡◌, ◌⊎◌, ◌+◌, ℕ, zero, suc, List, [], ◌∷◌, Bool, true, false, ◌||◌, cond, not, map, filter, Option, Some, None, length, refl, sym, ap, ◌∙◌, subst, inl, inr, ⊎_elim, true≢false, arith}
 use Rattle.td_base.specs.Value.{DotValue, AtomIdValue}
+use Rattle.td_base.specs.Lists.{In}
+use Rattle.td_base.proofs.Lists.{map_In, In-map, any_found, any_from}
 use Rattle.td_path.specs.declared.slot.Slot.{Slot}
 use Rattle.td_path.specs.declared.slot_path.SlotPath.{SlotPath}
 use Rattle.td_path.proofs.InfixOrder.{equal_ids, is_eq_true}
@@ -10,12 +12,11 @@ use Rattle.td_op.specs.declared.body.Body.{Body}
 use Rattle.td_op.specs.declared.body.Body.TheVariants.{Insert, Delete, Propose, Commit, Abort}
 use Rattle.td_op.specs.Op.{OpValue}
 use Rattle.td_op.specs.Past.{in_past}
-use Rattle.td_doc.specs.Document.{DocRow, row_id, has_id, is_live, is_empty_list, text_of, In as InRows}
+use Rattle.td_doc.specs.Document.{DocRow, row_id, has_id, is_live, is_empty_list, text_of}
 use Rattle.td_doc.specs.Slots.{slot_path}
 use Rattle.td_doc.specs.Array.{NamedAtom, named, array, run_atoms, run_atoms_from}
 use Rattle.td_doc.specs.Insertion.{put_array_below, insert_run}
 use Rattle.td_doc.specs.Deletion.{add_dot, mark_deleted, delete}
-use Rattle.td_doc.proofs.Successive.{map_In, In-map}
 use Rattle.td_doc.proofs.PutRows.{in_puts}
 use Rattle.td_doc.proofs.ArrayRows.{array_bare, array_names}
 use Rattle.td_doc.proofs.Placement.{self_id}
@@ -23,17 +24,14 @@ use Rattle.td_doc.proofs.Deleted.{delete_marks, delete_names}
 use Rattle.td_machine.specs.Making.{effect}
 use Rattle.td_order.specs.declared.insertion.Insertion.{Insertion}
 use Rattle.td_order.specs.Insertions.{IsInsertionOf, insertion_by, insertion_of, insertions, same_dot, same_id}
-use Rattle.td_order.specs.Lists.{In}
 use Rattle.td_order.specs.Order.{order}
 use Rattle.td_order.specs.Show.{atom_of, deletes, is_deleted, show}
 use Rattle.td_order.specs.Causal.{IsWellRooted}
-use Rattle.td_order.proofs.ListLemmas.{any_found, any_from}
 use Rattle.td_order.proofs.PassedTests.{same_dot_true, same_dot_refl, same_id_true, same_id_refl}
 use Rattle.td_order.proofs.InsertionLemmas.{from_op, In-insertions, insertions-In}
 use Rattle.td_order.proofs.LineUpLemmas.{both_tests}
 use Rattle.td_order.proofs.SetOfOps.{one_op}
 use Rattle.td_merge.specs.Log.{doc_of, IsCausalLog, NoCommit, DeletesAtoms, WasFree}
-use Rattle.td_merge.proofs.Lists.{to_rows, of_rows}
 use Rattle.td_merge.proofs.Filters.{filter_mapped, map_again, same_kept, find_one}
 use Rattle.td_merge.proofs.Arrays.{named_dot}
 use Rattle.td_merge.proofs.Under.{dot_in}
@@ -41,10 +39,10 @@ use Rattle.td_merge.proofs.RowsInOrder.{log_inside, rows_in_order}
 
 -- which rows are live
 
-not_live : (r : DocRow) (d : DotValue) → InRows d r.deletes → is_live r ≡ false
+not_live : (r : DocRow) (d : DotValue) → In d r.deletes → is_live r ≡ false
 not_live r d i = at r.deletes i
   where
-    at : (dots : List DotValue) → InRows d dots → is_empty_list dots ≡ false
+    at : (dots : List DotValue) → In d dots → is_empty_list dots ≡ false
     at [] k = absurd k
     at (e ∷ dots) k = refl
 
@@ -60,22 +58,22 @@ false_of true h = absurd (h refl)
 false_of false h = refl
 
 -- a row after an insertion is an old one, or a live one of the run
-below_live : (o : Option SlotPath) (atoms : List NamedAtom) (rows : List DocRow) (r : DocRow) → InRows r (put_array_below o atoms rows) → InRows r rows ⊎ ((r.deletes ≡ []) × InRows (named r) atoms)
+below_live : (o : Option SlotPath) (atoms : List NamedAtom) (rows : List DocRow) (r : DocRow) → In r (put_array_below o atoms rows) → In r rows ⊎ ((r.deletes ≡ []) × In (named r) atoms)
 below_live None atoms rows r i = inl i
 below_live (Some slot) atoms rows r i =
     ⊎_elim
-    (λ (k : InRows r (array slot atoms)). inr (array_bare (length atoms) slot atoms r k, subst (λ z. InRows (named r) z) (array_names slot atoms) (In-map named r (array slot atoms) k)))
+    (λ (k : In r (array slot atoms)). inr (array_bare (length atoms) slot atoms r k, subst (λ z. In (named r) z) (array_names slot atoms) (In-map named r (array slot atoms) k)))
     (λ k. inl k)
     (in_puts (array slot atoms) rows r i)
 
-inserted : (slot : Slot) (dot : DotValue) (run : List (List ℕ)) (rows : List DocRow) (r : DocRow) → InRows r (insert_run slot dot run rows) → InRows r rows ⊎ ((r.deletes ≡ []) × InRows (named r) (run_atoms dot run))
+inserted : (slot : Slot) (dot : DotValue) (run : List (List ℕ)) (rows : List DocRow) (r : DocRow) → In r (insert_run slot dot run rows) → In r rows ⊎ ((r.deletes ≡ []) × In (named r) (run_atoms dot run))
 inserted slot dot run rows r i = below_live (slot_path rows slot) (run_atoms dot run) rows r i
 
 has_id_true : (x : AtomIdValue) (r : DocRow) → has_id x r ≡ true → row_id r ≡ x
 has_id_true x r h = equal_ids (row_id r) x (is_eq_true _ h)
 
 -- the place of an atom in a run
-place_in : (dot : DotValue) (offset : ℕ) (run : List (List ℕ)) (n : NamedAtom) → InRows n (run_atoms_from dot offset run) → (k : ℕ) × (n.id.offset ≡ offset + k) × (slice_get run k ≡ Some n.atom)
+place_in : (dot : DotValue) (offset : ℕ) (run : List (List ℕ)) (n : NamedAtom) → In n (run_atoms_from dot offset run) → (k : ℕ) × (n.id.offset ≡ offset + k) × (slice_get run k ≡ Some n.atom)
 place_in dot offset [] n i = absurd i
 place_in dot offset (atom ∷ run) n i =
     ⊎_elim
@@ -83,7 +81,7 @@ place_in dot offset (atom ∷ run) n i =
     let here : n.id.offset ≡ offset = ap (λ (z : NamedAtom). z.id.offset) e in
     let sum : n.id.offset ≡ offset + 0 = omega (arith, here) in
     (zero, sum, ap (λ (z : NamedAtom). Some z.atom) (sym e)))
-    (λ (k : InRows n (run_atoms_from dot (suc offset) run)).
+    (λ (k : In n (run_atoms_from dot (suc offset) run)).
     let r = place_in dot (suc offset) run n k in
     let sum : n.id.offset ≡ offset + suc r.0 = omega (arith, r.1) in
     (suc r.0, sum, r.2))
@@ -110,20 +108,20 @@ module _ (ops : List OpValue) (W : IsWellRooted ops) (N : NoCommit ops) (D : Del
       h.0.new (subst (λ z. In z log) (one_op ops W.apart c.op x c.inside h.0.inside dots) there))
 
   abbrev Lives : List OpValue → List DocRow → Type 0
-  Lives log rows = (r : DocRow) → InRows r rows → is_live r ≡ not (is_deleted log (row_id r))
+  Lives log rows = (r : DocRow) → In r rows → is_live r ≡ not (is_deleted log (row_id r))
 
   abbrev LivesAfter : OpValue → List OpValue → List DocRow → Body → Type 0
-  LivesAfter x log rows body = (r : DocRow) → InRows r (effect log x.dot body rows) → is_live r ≡ not (deletes (row_id r) body || is_deleted log (row_id r))
+  LivesAfter x log rows body = (r : DocRow) → In r (effect log x.dot body rows) → is_live r ≡ not (deletes (row_id r) body || is_deleted log (row_id r))
 
   lives_inserted : (x : OpValue) (log : List OpValue) → IsCausalLog ops (x ∷ log) → (rows : List DocRow) → Lives log rows → (slot : Slot) (run : List (List ℕ)) → x.body ≡ Insert slot run → LivesAfter x log rows (Insert slot run)
   lives_inserted x log h rows ih slot run e r i =
-      ⊎_elim (λ (k : InRows r rows). ih r k)
-      (λ (k : (r.deletes ≡ []) × InRows (named r) (run_atoms x.dot run)).
+      ⊎_elim (λ (k : In r rows). ih r k)
+      (λ (k : (r.deletes ≡ []) × In (named r) (run_atoms x.dot run)).
       let a : Insertion = record { dot = x.dot; deps = x.deps; slot = slot; run = run } in
-      ap is_empty_list k.0 ∙ sym (ap not (not_deleted x a log (ap (insertion_by x.dot x.deps) e) h (row_id r) (named_dot x.dot 0 run (named r) (of_rows (named r) (run_atoms x.dot run) k.1)))))
+      ap is_empty_list k.0 ∙ sym (ap not (not_deleted x a log (ap (insertion_by x.dot x.deps) e) h (row_id r) (named_dot x.dot 0 run (named r) k.1))))
       (inserted slot x.dot run rows r i)
 
-  lives_deleted_at : (x : OpValue) (log : List OpValue) (rows : List DocRow) → Lives log rows → (t : AtomIdValue) (m r : DocRow) → InRows m rows → InRows r (delete t x.dot rows) → (b : Bool) → has_id t m ≡ b → r ≡ cond b (record { path = m.path; atom = m.atom; deletes = add_dot x.dot m.deletes }) m
+  lives_deleted_at : (x : OpValue) (log : List OpValue) (rows : List DocRow) → Lives log rows → (t : AtomIdValue) (m r : DocRow) → In m rows → In r (delete t x.dot rows) → (b : Bool) → has_id t m ≡ b → r ≡ cond b (record { path = m.path; atom = m.atom; deletes = add_dot x.dot m.deletes }) m
       → is_live r ≡ not (same_id t (row_id r) || is_deleted log (row_id r))
   lives_deleted_at x log rows ih t m r j i true h e =
       let named : row_id r ≡ t = ap row_id e ∙ has_id_true t m h in
@@ -151,34 +149,34 @@ module _ (ops : List OpValue) (W : IsWellRooted ops) (N : NoCommit ops) (D : Del
   record MadeBy (os : List Insertion) (r : DocRow) : Type 0 where
     insertion : Insertion
     inside : In insertion os
-    among : InRows (named r) (run_atoms insertion.dot insertion.run)
+    among : In (named r) (run_atoms insertion.dot insertion.run)
 
-  made_after : (x : OpValue) (log : List OpValue) (rows : List DocRow) → ((r : DocRow) → InRows r rows → MadeBy (insertions log) r) → (body : Body) → ((p : DotValue) → body ≡ Commit p → ⊥) → (r : DocRow) → InRows r (effect log x.dot body rows) → MadeBy (cons_option (insertion_by x.dot x.deps body) (insertions log)) r
+  made_after : (x : OpValue) (log : List OpValue) (rows : List DocRow) → ((r : DocRow) → In r rows → MadeBy (insertions log) r) → (body : Body) → ((p : DotValue) → body ≡ Commit p → ⊥) → (r : DocRow) → In r (effect log x.dot body rows) → MadeBy (cons_option (insertion_by x.dot x.deps body) (insertions log)) r
   made_after x log rows ih (Insert slot run) other r i =
-      ⊎_elim (λ (k : InRows r rows). let m = ih r k in record { insertion = m.insertion; inside = inr m.inside; among = m.among })
-      (λ (k : (r.deletes ≡ []) × InRows (named r) (run_atoms x.dot run)). record { insertion = record { dot = x.dot; deps = x.deps; slot = slot; run = run }; inside = inl refl; among = k.1 })
+      ⊎_elim (λ (k : In r rows). let m = ih r k in record { insertion = m.insertion; inside = inr m.inside; among = m.among })
+      (λ (k : (r.deletes ≡ []) × In (named r) (run_atoms x.dot run)). record { insertion = record { dot = x.dot; deps = x.deps; slot = slot; run = run }; inside = inl refl; among = k.1 })
       (inserted slot x.dot run rows r i)
   made_after x log rows ih (Delete t) other r i =
-      let k = map_In named (named r) rows (subst (λ z. InRows (named r) z) (delete_names t x.dot rows) (In-map named r (delete t x.dot rows) i)) in
+      let k = map_In named (named r) rows (subst (λ z. In (named r) z) (delete_names t x.dot rows) (In-map named r (delete t x.dot rows) i)) in
       let m = ih k.0 k.1 in
-      record { insertion = m.insertion; inside = m.inside; among = subst (λ z. InRows z (run_atoms m.insertion.dot m.insertion.run)) (sym k.2) m.among }
+      record { insertion = m.insertion; inside = m.inside; among = subst (λ z. In z (run_atoms m.insertion.dot m.insertion.run)) (sym k.2) m.among }
   made_after x log rows ih (Propose slot) other r i = ih r i
   made_after x log rows ih (Commit p) other r i = absurd (other p refl)
   made_after x log rows ih (Abort p) other r i = ih r i
 
-  made : (log : List OpValue) → IsCausalLog ops log → (r : DocRow) → InRows r (doc_of log) → MadeBy (insertions log) r
+  made : (log : List OpValue) → IsCausalLog ops log → (r : DocRow) → In r (doc_of log) → MadeBy (insertions log) r
   made [] h r i = absurd i
   made (x ∷ log) h r i = made_after x log (doc_of log) (made log h.1) x.body (λ p e. N x p h.0.inside e) r i
 
   -- which is the atom that the operations tell
-  atom_told : (log : List OpValue) → IsCausalLog ops log → (r : DocRow) → InRows r (doc_of log) → r.atom ≡ atom_of ops (row_id r)
+  atom_told : (log : List OpValue) → IsCausalLog ops log → (r : DocRow) → In r (doc_of log) → r.atom ≡ atom_of ops (row_id r)
   atom_told log h r i =
       let m = made log h r i in
       let a = m.insertion in
       let o = In-insertions log a m.inside in
       let at = place_in a.dot 0 a.run (named r) m.among in
       let place : (row_id r).offset ≡ at.0 = omega (arith, at.1) in
-      let dot : (row_id r).dot ≡ a.dot = named_dot a.dot 0 a.run (named r) (of_rows (named r) (run_atoms a.dot a.run) m.among) in
+      let dot : (row_id r).dot ≡ a.dot = named_dot a.dot 0 a.run (named r) m.among in
       let one : find (λ (c : Insertion). same_dot c.dot (row_id r).dot) (insertions ops) ≡ Some a =
       find_one (λ (c : Insertion). same_dot c.dot (row_id r).dot) (insertions ops) a (insertions-In ops o.0 a (log_inside ops log h o.0 o.1) o.2) (subst (λ d. same_dot a.dot d ≡ true) (sym dot) (same_dot_refl a.dot))
       (λ c j t.
@@ -198,8 +196,8 @@ module _ (ops : List OpValue) (W : IsWellRooted ops) (N : NoCommit ops) (D : Del
   text_told log h whole e =
       ap concat
       (same_kept (λ (r : DocRow). r.atom) (λ (r : DocRow). atom_of ops (row_id r)) is_live (λ (r : DocRow). not (is_deleted ops (row_id r))) (doc_of log)
-      (λ r i. atom_told log h r (to_rows r (doc_of log) i))
-      (λ r i. lives log h r (to_rows r (doc_of log) i) ∙ ap not (same_deleted log h whole (row_id r)))
+      (λ r i. atom_told log h r i)
+      (λ r i. lives log h r i ∙ ap not (same_deleted log h whole (row_id r)))
       ∙ (sym (map_again row_id (atom_of ops) (filter (λ (r : DocRow). not (is_deleted ops (row_id r))) (doc_of log)))
       ∙ (ap (map (atom_of ops)) (sym (filter_mapped row_id (λ (x : AtomIdValue). not (is_deleted ops x)) (doc_of log)))
       ∙ ap (λ ids. map (atom_of ops) (filter (λ (x : AtomIdValue). not (is_deleted ops x)) ids)) e)))

@@ -1,15 +1,15 @@
 -- What is under an insertion, in a family whose insertions follow one another.
 use Rattle.std.proofs.Common.{◌≡◌, List, [], ◌∷◌, true, false, cond, ◌||◌, refl, sym, ap, ◌∙◌, subst, inr, ⊎_elim}
+use Rattle.std.proofs.lemmas.Bool.{cases_Bool, or_left}
 use Rattle.td_base.specs.declared.bit.Bit.{Bit}
 use Rattle.td_base.specs.Value.{DotValue, AtomIdValue}
+use Rattle.td_base.specs.Lists.{In}
 use Rattle.td_path.specs.declared.slot.Slot.{Slot}
 use Rattle.td_path.specs.declared.slot.Slot.TheVariants.{Root, At}
 use Rattle.td_order.specs.declared.insertion.Insertion.{Insertion}
 use Rattle.td_order.specs.Insertions.{ids_of, same_dot}
-use Rattle.td_order.specs.Lists.{In}
 use Rattle.td_order.specs.Under.{under, names_under}
 use Rattle.td_order.specs.Place.{has_some}
-use Rattle.td_order.proofs.ListLemmas.{bool_cases, or_left}
 use Rattle.td_order.proofs.PassedTests.{same_dot_true, same_dot_refl}
 use Rattle.td_order.proofs.Family.{IsRooted, AllFollow}
 use Rattle.td_order.proofs.Fits.{ids_dot, under_tail}
@@ -59,7 +59,7 @@ under_itself os F b i = under_at os F b i b.dot ∙ or_left _ _ (same_dot_refl b
 
 other : (os : List Insertion) → AllFollow os → (a : Insertion) → In a os → (b : DotValue) → (a.dot ≡ b → ⊥) → (s : Slot) → a.slot ≡ s → under os b a.dot ≡ names_under (under os b) s
 other os F a i b n s e =
-    under_at os F a i b ∙ (ap (λ v. v || names_under (under os b) a.slot) (⊎_elim (λ t. absurd (n (same_dot_true a.dot b t))) (λ t. t) (bool_cases (same_dot a.dot b))) ∙ ap (λ z. names_under (under os b) z) e)
+    under_at os F a i b ∙ (ap (λ v. v || names_under (under os b) a.slot) (⊎_elim (λ t. absurd (n (same_dot_true a.dot b t))) (λ t. t) (cases_Bool (same_dot a.dot b))) ∙ ap (λ z. names_under (under os b) z) e)
 
 -- an insertion other than b is under b where its slot's atom is
 pub under_slot_atom : (os : List Insertion) → AllFollow os → (a : Insertion) → In a os → (b : DotValue) → (a.dot ≡ b → ⊥) → (x : AtomIdValue) (s : Bit) → a.slot ≡ At x s → under os b a.dot ≡ under os b x.dot

@@ -3,6 +3,7 @@ use Rattle.std.proofs.Common.{◌≡◌, ◌↔◌, ◌<◌, ◌≤◌, ℕ, Lis
 use Rattle.std.proofs.lemmas.Bool.{eq-eqb}
 use Rattle.std.specs.Prelude.{IsTrue}
 use Rattle.td_base.specs.Value.{DotValue}
+use Rattle.td_base.specs.Lists.{In}
 use Rattle.td_clock.specs.Vector.{vector_has}
 use Rattle.td_path.specs.declared.slot.Slot.{Slot}
 use Rattle.td_op.specs.declared.body.Body.{Body}
@@ -12,7 +13,7 @@ use Rattle.td_op.specs.Op.{OpValue}
 use Rattle.td_doc.specs.Document.{DocRow, row_id, text_of}
 use Rattle.td_doc.specs.Slots.{is_empty_slot}
 use Rattle.td_doc.proofs.Placement.{alloc_empty}
-use Rattle.td_machine.specs.Input.{IsInput}
+use Rattle.td_op.specs.Input.{IsInput}
 use Rattle.td_machine.specs.Counts.{IsCausal as IsCausalCount}
 use Rattle.td_machine.specs.Machine.{Machine, start, next_op}
 use Rattle.td_machine.specs.Making.{effect, done}
@@ -26,7 +27,6 @@ use Rattle.td_machine.proofs.Counting.{older_causal}
 use Rattle.td_machine.proofs.Documents.{HasDocument, documents, start_document}
 use Rattle.td_machine.proofs.Family.{not_older, log_causal, past_in_older, past_in_log, older_in_past, made_at}
 use Rattle.td_order.specs.declared.insertion.Insertion.{Insertion}
-use Rattle.td_order.specs.Lists.{In}
 use Rattle.td_order.specs.Insertions.{IsInsertionOf}
 use Rattle.td_order.specs.Order.{order}
 use Rattle.td_order.specs.Show.{show}

@@ -2,6 +2,8 @@
 use Rattle.std.proofs.Common.{◌≡◌, ◌≢◌, ◌<◌, ◌≤◌, ℕ, suc, List, [], ◌∷◌, length, Some, refl, sym, ap, ◌∙◌, subst, inl, inr, arith}
 use Rattle.std.specs.Prelude.{IsTrue}
 use Rattle.td_base.specs.Value.{DotValue, AtomIdValue}
+use Rattle.td_base.specs.Lists.{In, Successive}
+use Rattle.td_base.proofs.Lists.{all_of}
 use Rattle.td_clock.specs.Vector.{vector_has}
 use Rattle.td_path.specs.declared.slot.Slot.{Slot}
 use Rattle.td_path.specs.declared.slot.Slot.TheVariants.{Root, At}
@@ -14,7 +16,6 @@ use Rattle.td_machine.specs.Naming.{Inserts, named_atom}
 use Rattle.td_machine.specs.History.{Family, IsConsistent, IsOpOf, log_of}
 use Rattle.td_machine.proofs.Family.{not_older, valid_of, full_of, named_of_past, size_of, log_causal, past_covered, past_in_log}
 use Rattle.td_order.specs.declared.insertion.Insertion.{Insertion}
-use Rattle.td_order.specs.Lists.{In, Successive}
 use Rattle.td_order.specs.Insertions.{insertion_by, insertion_of, ids_from, IsInsertionOf, IsAtomOf}
 use Rattle.td_order.specs.LineUp.{DotsDiffer, line_up}
 use Rattle.td_order.proofs.OrderOfPart.{past_before}
@@ -24,7 +25,7 @@ use Rattle.td_merge.specs.Log.{DeletesAtoms}
 
 dots_differ : (n : ℕ) (log : List OpValue) → IsCausalLog n log → DotsDiffer log
 dots_differ n [] c = tt
-dots_differ n (x ∷ log) c = ((λ y i e. not_older n x y log c.0 c.1 i e), dots_differ n log c.1)
+dots_differ n (x ∷ log) c = (all_of (λ (y : OpValue). x.dot ≢ y.dot) log (λ y i e. not_older n x y log c.0 c.1 i e), dots_differ n log c.1)
 
 -- an insertion is its operation
 pub record IsInsertBy (a : Insertion) (x : OpValue) : Type 0 where

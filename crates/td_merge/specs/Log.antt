@@ -1,6 +1,7 @@
 -- Logs: the operations that a replica made or took, the newest first, and the document that they leave.
 use Rattle.std.specs.Prelude.{◌≡◌, ◌≢◌, ◌↔◌, List, [], ◌∷◌, IsTrue}
 use Rattle.td_base.specs.Value.{DotValue, AtomIdValue}
+use Rattle.td_base.specs.Lists.{In}
 use Rattle.td_clock.specs.Vector.{vector_has}
 use Rattle.td_op.specs.declared.body.Body.TheVariants.{Delete, Commit}
 use Rattle.td_op.specs.Op.{OpValue}
@@ -10,7 +11,6 @@ use Rattle.td_doc.specs.Slots.{is_empty_slot}
 use Rattle.td_machine.specs.Making.{effect}
 use Rattle.td_order.specs.declared.insertion.Insertion.{Insertion}
 use Rattle.td_order.specs.Insertions.{IsAtomOf}
-use Rattle.td_order.specs.Lists.{In}
 
 -- the document after these operations
 abbrev pub doc_of : List OpValue → List DocRow

@@ -1,10 +1,10 @@
 // What a consistent family gives to the laws of the order; each law is the contract of a function with an empty body.
 ghost use Rattle.std.specs.Prelude.{◌≡◌, ◌<◌, ◌≤◌, ◌↔◌, ℕ, length, map, IsTrue};
+ghost use Rattle.td_base.specs.Lists.{In, Successive};
 ghost use Rattle.td_op.specs.Op.{OpValue};
 ghost use Rattle.td_op.specs.Past.{in_past};
 ghost use Rattle.td_doc.specs.Document.{row_id, text_of};
 ghost use Rattle.td_machine.specs.History.{Family, IsConsistent, log_of, machine};
-ghost use Rattle.td_order.specs.Lists.{In, Successive};
 ghost use Rattle.td_order.specs.LineUp.{line_up};
 ghost use Rattle.td_order.specs.Order.{order};
 ghost use Rattle.td_order.specs.Show.{show};

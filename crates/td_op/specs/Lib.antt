@@ -1,3 +1,5 @@
 pub mod Op
+pub mod Message
+pub mod Input
 pub mod Past
 pub mod Change

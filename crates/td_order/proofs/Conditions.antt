@@ -1,8 +1,10 @@
 -- Tests for the conditions of a family, which compute at operations that are written out.
 use Rattle.std.proofs.Common.{◌≡◌, ◌≤◌, ◌+◌, ℕ, List, [], ◌∷◌, Bool, true, false, ◌&&◌, ◌||◌, not, length, nat_eq, nat_le, Option, Some, None, sym, subst, inl, inr, ⊎_elim, true≢false}
-use Rattle.std.proofs.lemmas.Bool.{leb-true, eqb-true}
+use Rattle.std.proofs.lemmas.Bool.{leb-true, eqb-true, and_parts, and_from, or_cases}
 use Rattle.std.specs.Prelude.{IfSome}
 use Rattle.std.specs.List.{list_all, list_any}
+use Rattle.td_base.specs.Lists.{In}
+use Rattle.td_base.proofs.Lists.{any_found, all_of}
 use Rattle.td_clock.specs.Vector.{vector_covers, vector_get}
 use Rattle.td_path.specs.declared.slot.Slot.{Slot}
 use Rattle.td_path.specs.declared.slot.Slot.TheVariants.{Root, At}
@@ -10,19 +12,19 @@ use Rattle.td_op.specs.Op.{OpValue, IsOp, body_site}
 use Rattle.td_op.specs.Past.{in_past}
 use Rattle.td_order.specs.declared.insertion.Insertion.{Insertion}
 use Rattle.td_order.specs.Insertions.{ids_of, insertions, same_dot, same_id, same_slot}
-use Rattle.td_order.specs.Lists.{In, IsSublist, done, kept, left_out}
+use Rattle.td_order.specs.Lists.{IsSublist, done, kept, left_out}
 use Rattle.td_order.specs.LineUp.{DotsDiffer}
 use Rattle.td_order.specs.Place.{precedes, has_some}
 use Rattle.td_order.specs.Causal.{HasEpochs, IsCausal, IsPart, IsRootedIn, IsWellRooted}
-use Rattle.td_order.proofs.ListLemmas.{and_true, and_both, or_true, any_found}
 use Rattle.td_order.proofs.PassedTests.{same_dot_true, same_dot_refl, same_id_true, same_slot_refl}
 use Rattle.td_order.proofs.InsertionLemmas.{of_insertion, to_insertion}
 use Rattle.td_order.proofs.SetOfOps.{one_op}
+use Rattle.td_order.proofs.LineUpLemmas.{OtherDot}
 
 pub each_passes : {X : Type 0} (test : X → Bool) (xs : List X) → list_all test xs ≡ true → (x : X) → In x xs → test x ≡ true
 each_passes test [] h x i = absurd i
 each_passes test (y ∷ ys) h x i =
-    let p = and_true (test y) (list_all test ys) h in
+    let p = and_parts (test y) (list_all test ys) h in
     ⊎_elim (λ (e : x ≡ y). subst (λ z. test z ≡ true) (sym e) p.0) (λ k. each_passes test ys p.1 x k) i
 
 -- where one thing passes, so does the other
@@ -46,8 +48,8 @@ valid_test x = nat_le x.dot.site (length x.deps) && (site_fits (body_site x.body
 
 valid_from : (x : OpValue) → valid_test x ≡ true → IsOp x
 valid_from x h =
-    let p = and_true _ _ h in
-    let q = and_true _ _ p.1 in
+    let p = and_parts _ _ h in
+    let q = and_parts _ _ p.1 in
     record { own = leb-true x.dot.site (length x.deps) p.0; named = fits_if (body_site x.body) (length x.deps) q.0; next = eqb-true (vector_get x.deps x.dot.site + 1) x.dot.seq q.1 }
 
 abbrev pub pairs_pass : {X : Type 0} → (X → X → Bool) → List X → Bool
@@ -64,11 +66,11 @@ causal_test ops = list_all valid_test ops && pairs_pass knows_test ops
 
 causal_from : (ops : List OpValue) → causal_test ops ≡ true → IsCausal ops
 causal_from ops h =
-    let p = and_true _ _ h in
+    let p = and_parts _ _ h in
     record {
       valid = λ x i. valid_from x (each_passes valid_test ops p.0 x i);
-      one_size = λ x y i j. eqb-true (length x.deps) (length y.deps) (and_true _ _ (pair_passes knows_test ops p.1 x y i j)).0;
-      knows = λ x y i j past. implied (in_past x y) (vector_covers y.deps x.deps) (and_true _ _ (pair_passes knows_test ops p.1 x y i j)).1 past;
+      one_size = λ x y i j. eqb-true (length x.deps) (length y.deps) (and_parts _ _ (pair_passes knows_test ops p.1 x y i j)).0;
+      knows = λ x y i j past. implied (in_past x y) (vector_covers y.deps x.deps) (and_parts _ _ (pair_passes knows_test ops p.1 x y i j)).1 past;
     }
 
 abbrev pub differ_test : List OpValue → Bool
@@ -82,8 +84,8 @@ not_both false h e = true≢false (sym e)
 pub differ_from : (ops : List OpValue) → differ_test ops ≡ true → DotsDiffer ops
 differ_from [] h = tt
 differ_from (x ∷ ops) h =
-    let p = and_true (list_all (λ (y : OpValue). not (same_dot x.dot y.dot)) ops) (differ_test ops) h in (
-      (λ y i e. not_both (same_dot x.dot y.dot) (each_passes (λ (z : OpValue). not (same_dot x.dot z.dot)) ops p.0 y i) (subst (λ d. same_dot x.dot d ≡ true) e (same_dot_refl x.dot))),
+    let p = and_parts (list_all (λ (y : OpValue). not (same_dot x.dot y.dot)) ops) (differ_test ops) h in (
+      all_of (OtherDot x) ops (λ y i e. not_both (same_dot x.dot y.dot) (each_passes (λ (z : OpValue). not (same_dot x.dot z.dot)) ops p.0 y i) (subst (λ d. same_dot x.dot d ≡ true) e (same_dot_refl x.dot))),
       differ_from ops p.1,
     )
 
@@ -95,7 +97,7 @@ rooted_from : (ops : List OpValue) (a : Insertion) (s : Slot) → rooted_test op
 rooted_from ops a Root h = tt
 rooted_from ops a (At x bit) h =
     let c = any_found (λ (c : Insertion). precedes c a && list_any (same_id x) (ids_of c)) (insertions ops) h in
-    let p = and_true _ _ c.2 in
+    let p = and_parts _ _ c.2 in
     let y = any_found (same_id x) (ids_of c.0) p.1 in
     (record { insertion = c.0; inside = to_insertion ops c.0 c.1; among = subst (λ z. In z (ids_of c.0)) (sym (same_id_true x y.0 y.2)) y.1 }, p.0)
 
@@ -110,13 +112,13 @@ not_empty xs h e = true≢false (sym (subst (λ ys. has_some ys ≡ true) e h))
 
 pub well_rooted_from : (ops : List OpValue) → roots_test ops ≡ true → IsWellRooted ops
 well_rooted_from ops h =
-    let p = and_true _ _ h in
-    let q = and_true _ _ p.1 in
+    let p = and_parts _ _ h in
+    let q = and_parts _ _ p.1 in
     record {
       apart = differ_from ops p.0;
       causal = causal_from ops q.0;
-      full = λ a i e. not_empty a.run (and_true _ _ (each_passes (insertion_test ops) (insertions ops) q.1 a (of_insertion ops a i))).0 e;
-      rooted = λ a i. rooted_from ops a a.slot (and_true _ _ (each_passes (insertion_test ops) (insertions ops) q.1 a (of_insertion ops a i))).1;
+      full = λ a i e. not_empty a.run (and_parts _ _ (each_passes (insertion_test ops) (insertions ops) q.1 a (of_insertion ops a i))).0 e;
+      rooted = λ a i. rooted_from ops a a.slot (and_parts _ _ (each_passes (insertion_test ops) (insertions ops) q.1 a (of_insertion ops a i))).1;
     }
 
 abbrev pub epoch_test : Insertion → Insertion → Insertion → Bool
@@ -127,11 +129,11 @@ epochs_test ops = list_all (λ (c : Insertion). pairs_pass (epoch_test c) (inser
 
 pub epochs_from : (ops : List OpValue) → epochs_test ops ≡ true → HasEpochs ops
 epochs_from ops h c d e i j k s t past =
-    or_true (precedes c e) (precedes e d)
+    or_cases (precedes c e) (precedes e d)
     (implied (same_slot c.slot d.slot && (same_slot e.slot d.slot && precedes c d)) (precedes c e || precedes e d)
     (pair_passes (epoch_test c) (insertions ops)
     (each_passes (λ (z : Insertion). pairs_pass (epoch_test z) (insertions ops)) (insertions ops) h c (of_insertion ops c i)) d e (of_insertion ops d j) (of_insertion ops e k))
-    (and_both _ _ (same_slot_refl c.slot d.slot s) (and_both _ _ (same_slot_refl e.slot d.slot t) past)))
+    (and_from _ _ (same_slot_refl c.slot d.slot s) (and_from _ _ (same_slot_refl e.slot d.slot t) past)))
 
 in_whole : {X : Type 0} (part all : List X) → IsSublist part all → (x : X) → In x part → In x all
 in_whole part all done x i = i

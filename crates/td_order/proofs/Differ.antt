@@ -4,12 +4,13 @@ use Rattle.std.specs.Prelude.{◌↔◌}
 use Rattle.std.specs.List.{list_any}
 use Rattle.std.proofs.lemmas.List.{drop_more, drop_all, length-drop}
 use Rattle.std.proofs.Math.Seq.{take-length}
+use Rattle.td_base.specs.Lists.{In}
+use Rattle.td_base.proofs.Lists.{any_found, any_none, all_in, all_of}
 use Rattle.td_op.specs.Op.{OpValue}
 use Rattle.td_order.specs.Insertions.{same_dot}
-use Rattle.td_order.specs.Lists.{In}
 use Rattle.td_order.specs.LineUp.{DotsDiffer}
-use Rattle.td_order.proofs.ListLemmas.{any_found, any_none}
 use Rattle.td_order.proofs.PassedTests.{same_dot_true, same_dot_refl}
+use Rattle.td_order.proofs.LineUpLemmas.{OtherDot}
 
 pub to_end : {X : Type 0} (k : ℕ) (xs : List X) → take (length xs - k) (drop k xs) ≡ drop k xs
 to_end k xs = ap (λ n. take n (drop k xs)) (sym (length-drop k xs)) ∙ take-length (drop k xs)
@@ -28,7 +29,7 @@ module _ (ops : List OpValue) (i : ℕ) (o : OpValue) (item : o ≡ get_or ops i
 
   pub differ_next : list_any (λ (p : OpValue). same_dot p.dot o.dot) (drop (i + 1) ops) ≡ false → Same ops (i + 1)
   differ_next none = (
-    (λ d. same.0 (subst (λ (l : List OpValue). DotsDiffer l) (sym rest) (other_dots none, d))),
+    (λ d. same.0 (subst (λ (l : List OpValue). DotsDiffer l) (sym rest) (all_of (OtherDot o) (drop (i + 1) ops) (other_dots none), d))),
     (λ d. let r : DotsDiffer (o ∷ drop (i + 1) ops) = subst (λ (l : List OpValue). DotsDiffer l) rest (same.1 d) in r.1),
   )
 
@@ -36,7 +37,7 @@ module _ (ops : List OpValue) (i : ℕ) (o : OpValue) (item : o ≡ get_or ops i
   differ_not some d =
       let r : DotsDiffer (o ∷ drop (i + 1) ops) = subst (λ (l : List OpValue). DotsDiffer l) rest (same.1 d) in
       let f = any_found (λ (p : OpValue). same_dot p.dot o.dot) (drop (i + 1) ops) some in
-      r.0 f.0 f.1 (sym (same_dot_true f.0.dot o.dot f.2))
+      all_in (OtherDot o) (drop (i + 1) ops) r.0 f.0 f.1 (sym (same_dot_true f.0.dot o.dot f.2))
 
 pub differ_all : (ops : List OpValue) (i : ℕ) → length ops ≤ i → Same ops i → DotsDiffer ops
 differ_all ops i h same = same.0 (subst (λ (l : List OpValue). DotsDiffer l) (sym (drop_all i ops h)) tt)

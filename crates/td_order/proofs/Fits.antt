@@ -1,10 +1,11 @@
 -- Keys that fit a list of insertions: how a key is made up of the insertions above an atom.
 use Rattle.std.proofs.Common.{◌≡◌, ◌<◌, ◌≤◌, ℕ, suc, List, [], ◌∷◌, ◌++◌, true, false, cond, ◌||◌, refl, sym, ap, ◌∙◌, subst, inl, inr, ⊎_elim, true≢false, arith, append_assoc}
-use Rattle.td_order.proofs.ListLemmas.{In, bool_cases, or_true, or_left, or_right}
+use Rattle.std.proofs.lemmas.Bool.{cases_Bool, or_cases, or_left, or_right}
 use Rattle.td_order.proofs.Keys.{Key, step, id_of, same_dot_true, same_dot_refl}
 use Rattle.td_base.specs.Value.{DotValue, AtomIdValue}
 use Rattle.td_base.specs.declared.bit.Bit.{Bit}
 use Rattle.td_base.specs.declared.bit.Bit.TheVariants.{Left, Right}
+use Rattle.td_base.specs.Lists.{In}
 use Rattle.td_path.specs.declared.slot.Slot.{Slot}
 use Rattle.td_path.specs.declared.slot.Slot.TheVariants.{Root, At}
 use Rattle.td_order.specs.declared.insertion.Insertion.{Insertion}
@@ -76,7 +77,7 @@ under_head a os b y e h = ap (λ v. cond v (same_dot y b || names_under (under o
 pub under_tail : (a : Insertion) (os : List Insertion) (b y : DotValue) → (a.dot ≡ y → ⊥) → under (a ∷ os) b y ≡ under os b y
 under_tail a os b y n =
     ap (λ v. cond v (same_dot y b || names_under (under os b) a.slot) (under os b y))
-    (⊎_elim (λ t. absurd (n (same_dot_true a.dot y t))) (λ f. f) (bool_cases (same_dot a.dot y)))
+    (⊎_elim (λ t. absurd (n (same_dot_true a.dot y t))) (λ f. f) (cases_Bool (same_dot a.dot y)))
 
 module _ (K : AtomIdValue → ℕ → Key) (rank : Insertion → ℕ) where
   pub fits_at : (os : List Insertion) → AllFit K rank os → (b : Insertion) → In b os → (offset side : ℕ) → K (id_of b.dot offset) side ≡ slot_key K b.slot ++ (step (rank b) b.dot offset side ∷ [])
@@ -255,7 +256,7 @@ module _ (K : AtomIdValue → ℕ → Key) (rank : Insertion → ℕ) where
         rest = r.rest ++ (step (rank a) a.dot o.0 t ∷ []);
         key = k ∙ (ap (λ z. z ++ (step (rank a) a.dot o.0 t ∷ [])) r.key ∙ append_assoc (slot_key K r.ins.slot) (step (rank r.ins) r.ins.dot r.offset r.side ∷ r.rest) (step (rank a) a.dot o.0 t ∷ []));
       })
-      (or_true _ _ h))
+      (or_cases _ _ h))
       (λ (k : In n.0 os).
       let r = under_key os f.1 d y (n.0, k, n.2) (sym (under_tail a os d y.dot (λ x. f.0.fresh n.0 k (sym (x ∙ ap (λ (i : AtomIdValue). i.dot) o.1)))) ∙ e) t in
       record { ins = r.ins; inside = inr r.inside; dot = r.dot; offset = r.offset; side = r.side; rest = r.rest; key = r.key })
@@ -311,3 +312,27 @@ module _ (K : AtomIdValue → ℕ → Key) (rank : Insertion → ℕ) where
   slot_key_same os f Root (At y t) h k e = absurd (key_not_nil os f y t k e)
   slot_key_same os f (At x s) Root h k e = absurd (key_not_nil os f x s h (sym e))
   slot_key_same os f (At x s) (At y t) h k e = slot_at_same os f x s y t h k (sym (slot_key_at x s) ∙ (e ∙ slot_key_at y t))
+
+-- an insertion in a slot, which a key goes through where it goes on from the slot's
+pub record Mate (rank : Insertion → ℕ) (os : List Insertion) (s : Slot) (x : AtomIdValue) (w0 : List ℕ) : Type 0 where
+  pub ins : Insertion
+  pub offset : ℕ
+  pub side : ℕ
+  pub inside : In ins os
+  pub slot : ins.slot ≡ s
+  pub is : w0 ≡ step (rank ins) ins.dot offset side
+  pub above : under os ins.dot x.dot ≡ true
+
+pub mate : (K : AtomIdValue → ℕ → Key) (rank : Insertion → ℕ) (os : List Insertion) → AllFit K rank os → (s : Slot) → IsRooted os s → (x : AtomIdValue) → Names os x
+    → (w0 : List ℕ) (w : Key) → K x 1 ≡ slot_key K s ++ (w0 ∷ w) → Mate rank os s x w0
+mate K rank os g s rooted x n w0 w e =
+    let r = find K rank os g x n 1 (slot_key K s) w0 w e in
+    record {
+      ins = r.ins;
+      offset = r.offset;
+      side = r.side;
+      inside = r.inside;
+      is = r.is;
+      above = r.above;
+      slot = slot_key_same K rank os g r.ins.slot s (rooted_at K rank os g r.ins r.inside) rooted (sym r.at);
+    }

@@ -2,12 +2,12 @@
 use Rattle.std.proofs.Common.{◌≡◌, ◌⊎◌, ℕ, List, [], ◌∷◌, Option, Some, None, refl, sym, ap, subst, inl, inr, ⊎_elim}
 use Rattle.std.specs.List.{cons_option}
 use Rattle.td_base.specs.Value.{DotValue}
+use Rattle.td_base.specs.Lists.{In}
 use Rattle.td_op.specs.declared.body.Body.{Body}
 use Rattle.td_op.specs.declared.body.Body.TheVariants.{Insert, Delete, Propose, Commit, Abort}
 use Rattle.td_op.specs.Op.{OpValue}
 use Rattle.td_order.specs.declared.insertion.Insertion.{Insertion}
 use Rattle.td_order.specs.Insertions.{IsInsertionOf, insertion_by, insertion_of, insertions}
-use Rattle.td_order.specs.Lists.{In}
 
 -- an insertion has the dot and the dependencies of its operation
 pub record From (i : Insertion) (o : OpValue) : Type 0 where

@@ -1,6 +1,6 @@
 -- The line-up: it falls, has the operations that it was made of, and is the only list that does.
 use Rattle.std.specs.Prelude.{◌↔◌}
-use Rattle.std.proofs.Common.{◌≡◌, ◌⊎◌, ◌<◌, ◌+◌, ℕ, zero, suc, List, [], ◌∷◌, Bool, true, false, cond, sum, length, get_or, refl, sym, ap, ◌∙◌, subst, inl, inr, ⊎_elim, true≢false, arith}
+use Rattle.std.proofs.Common.{◌≡◌, ◌⊎◌, ◌<◌, ◌+◌, ℕ, zero, suc, List, [], ◌∷◌, Bool, true, false, cond, sum, length, get_or, refl, sym, ap, ◌∙◌, subst, inl, inr, ⊎_elim, true≢false, arith, ◌≢◌}
 use Rattle.std.specs.declared.cmp.Ordering.{Ordering}
 use Rattle.std.specs.declared.cmp.Ordering.TheVariants.{Less, Equal, Greater}
 use Rattle.std.specs.Ordering.{is_lt, nat_cmp, ordering_then}
@@ -8,12 +8,13 @@ use Rattle.std.specs.List.{AllByRecursion, Contains, IsDistinct}
 use Rattle.std.specs.List.Sorted.{IsPermutation, IsSortedBy}
 use Rattle.std.proofs.lemmas.List.Sorted.{Contains-permutation, IsPermutation-sym}
 use Rattle.std.proofs.lemmas.Map.Keys.{IsDistinct-IsPermutation}
+use Rattle.std.proofs.lemmas.Bool.{cases_Bool}
 use Rattle.td_base.specs.Order.{dot_cmp}
+use Rattle.td_base.specs.Lists.{In, Successive}
+use Rattle.td_base.proofs.Lists.{all_in, all_of}
 use Rattle.td_op.specs.Op.{OpValue}
-use Rattle.td_order.specs.Lists.{In, Successive}
 use Rattle.td_order.specs.LineUp.{comes_before, lined_up_with, line_up, DotsDiffer}
 use Rattle.td_order.proofs.Lex.{Tri, below, same, above, Lex, lex_irrefl, lex_trans, lex_tri, Below, nat_strict}
-use Rattle.td_order.proofs.ListLemmas.{bool_cases}
 use Rattle.td_order.proofs.Sublists.{one_rising}
 use Rattle.td_order.specs.Insertions.{same_dot}
 use Rattle.td_order.proofs.PassedTests.{same_dot_true, same_dot_refl, Compares, compares, dot_lt_true, dot_lt_from}
@@ -54,7 +55,7 @@ abbrev pub NotBefore : OpValue → OpValue → Type 0
 NotBefore o p = comes_before o p ≡ false
 
 pub not_before : (x y : OpValue) → (Lex Below (place_of x) (place_of y) → ⊥) → NotBefore x y
-not_before x y n = ⊎_elim (λ e. absurd (n (before_from x y e))) (λ e. e) (bool_cases (comes_before x y))
+not_before x y n = ⊎_elim (λ e. absurd (n (before_from x y e))) (λ e. e) (cases_Bool (comes_before x y))
 
 pub no_before : (x y : OpValue) → NotBefore x y → Lex Below (place_of x) (place_of y) → ⊥
 no_before x y e h = true≢false (sym (before_to x y h) ∙ e)
@@ -84,12 +85,12 @@ lined-In o q (p ∷ ps) h = lined-In_at o q p ps (comes_before p o) (λ k. lined
 
 falls_with_at : (o p : OpValue) (ps : List OpValue) (b : Bool) → comes_before p o ≡ b → Successive NotBefore (p ∷ ps) → Successive NotBefore (lined_up_with o ps) → Successive NotBefore (cond b (o ∷ p ∷ ps) (p ∷ lined_up_with o ps))
 falls_with_at o p ps true e r rest =
-    ((λ q i. ⊎_elim (λ (k : q ≡ p). subst (λ x. NotBefore o x) (sym k) (not_before_back o p e)) (λ k. not_before_trans o p q e (r.0 q k)) i), r)
+    (all_of (NotBefore o) (p ∷ ps) (λ q i. ⊎_elim (λ (k : q ≡ p). subst (λ x. NotBefore o x) (sym k) (not_before_back o p e)) (λ k. not_before_trans o p q e (all_in (NotBefore p) ps r.0 q k)) i), r)
 falls_with_at o p ps false e r rest =
-    ((λ q i. ⊎_elim (λ (k : q ≡ o). subst (λ x. NotBefore p x) (sym k) e) (λ k. r.0 q k) (In-lined o q ps i)), rest)
+    (all_of (NotBefore p) (lined_up_with o ps) (λ q i. ⊎_elim (λ (k : q ≡ o). subst (λ x. NotBefore p x) (sym k) e) (λ k. all_in (NotBefore p) ps r.0 q k) (In-lined o q ps i)), rest)
 
 falls_with : (o : OpValue) (ps : List OpValue) → Successive NotBefore ps → Successive NotBefore (lined_up_with o ps)
-falls_with o [] r = ((λ q i. absurd i), tt)
+falls_with o [] r = (tt, tt)
 falls_with o (p ∷ ps) r = falls_with_at o p ps (comes_before p o) refl r (falls_with o ps r.1)
 
 pub falls : (ops : List OpValue) → Successive NotBefore (line_up ops)
@@ -104,18 +105,24 @@ pub line_up-In : (ops : List OpValue) (q : OpValue) → In q ops → In q (line_
 line_up-In [] q h = h
 line_up-In (o ∷ os) q h = lined-In o q (line_up os) (⊎_elim (λ e. inl e) (λ k. inr (line_up-In os q k)) h)
 
+abbrev pub OtherDot : OpValue → OpValue → Type 0
+OtherDot x y = x.dot ≢ y.dot
+
 apart_with_at : (o p : OpValue) (ps : List OpValue) (b : Bool) → ((q : OpValue) → In q (p ∷ ps) → o.dot ≡ q.dot → ⊥) → DotsDiffer (p ∷ ps) → DotsDiffer (lined_up_with o ps) → DotsDiffer (cond b (o ∷ p ∷ ps) (p ∷ lined_up_with o ps))
-apart_with_at o p ps true n r rest = (n, r)
-apart_with_at o p ps false n r rest =
-    ((λ q i. ⊎_elim (λ (k : q ≡ o). λ e. n p (inl refl) (sym (e ∙ ap (λ (x : OpValue). x.dot) k))) (λ k. r.0 q k) (In-lined o q ps i)), rest)
+apart_with_at o p ps true n r rest = (all_of (OtherDot o) (p ∷ ps) n, r)
+apart_with_at o p ps false n r rest = (
+  all_of (OtherDot p) (lined_up_with o ps)
+      (λ q i. ⊎_elim (λ (k : q ≡ o). λ e. n p (inl refl) (sym (e ∙ ap (λ (x : OpValue). x.dot) k))) (λ k. all_in (OtherDot p) ps r.0 q k) (In-lined o q ps i)),
+  rest,
+)
 
 apart_with : (o : OpValue) (ps : List OpValue) → ((q : OpValue) → In q ps → o.dot ≡ q.dot → ⊥) → DotsDiffer ps → DotsDiffer (lined_up_with o ps)
-apart_with o [] n r = ((λ q i. absurd i), tt)
+apart_with o [] n r = (tt, tt)
 apart_with o (p ∷ ps) n r = apart_with_at o p ps (comes_before p o) n r (apart_with o ps (λ q i. n q (inr i)) r.1)
 
 pub apart_line_up : (ops : List OpValue) → DotsDiffer ops → DotsDiffer (line_up ops)
 apart_line_up [] r = tt
-apart_line_up (o ∷ os) r = apart_with o (line_up os) (λ q i. r.0 q (In-line_up os q i)) (apart_line_up os r.1)
+apart_line_up (o ∷ os) r = apart_with o (line_up os) (λ q i. all_in (OtherDot o) os r.0 q (In-line_up os q i)) (apart_line_up os r.1)
 
 -- the one comes after the other
 abbrev pub After : OpValue → OpValue → Type 0
@@ -140,7 +147,7 @@ after o p n d = after_at o p n d (lex_tri Below nat_strict (place_of o) (place_o
 
 falling : (ops : List OpValue) → Successive NotBefore ops → DotsDiffer ops → Successive After ops
 falling [] r d = tt
-falling (o ∷ ops) r d = ((λ p i. after o p (r.0 p i) (d.0 p i)), falling ops r.1 d.1)
+falling (o ∷ ops) r d = (all_of (After o) ops (λ p i. after o p (all_in (NotBefore o) ops r.0 p i) (all_in (OtherDot o) ops d.0 p i)), falling ops r.1 d.1)
 
 pub line_up_falls : (ops : List OpValue) → DotsDiffer ops → Successive After (line_up ops)
 line_up_falls ops d = falling (line_up ops) (falls ops) (apart_line_up ops d)
@@ -182,13 +189,13 @@ falls_head : (x : OpValue) (xs : List OpValue) → ((d : OpValue) → 0 < length
 falls_head x [] h r q i = absurd i
 falls_head x (y ∷ ys) h r q i =
     let first : NotBefore x y = h x (omega arith) in
-    ⊎_elim (λ (e : q ≡ y). subst (λ w. NotBefore x w) (sym e) first) (λ k. not_before_chain x y q first (r.0 q k)) i
+    ⊎_elim (λ (e : q ≡ y). subst (λ w. NotBefore x w) (sym e) first) (λ k. not_before_chain x y q first (all_in (NotBefore y) ys r.0 q k)) i
 
 falls_from : (xs : List OpValue) → ((k : ℕ) (d : OpValue) → suc k < length xs → NotBefore (get_or xs k d) (get_or xs (suc k) d)) → Successive NotBefore xs
 falls_from [] h = tt
 falls_from (x ∷ xs) h =
     let rest = falls_from xs (λ k d l. h (suc k) d (omega arith)) in
-    (falls_head x xs (λ d l. h 0 d (omega arith)) rest, rest)
+    (all_of (NotBefore x) xs (falls_head x xs (λ d l. h 0 d (omega arith)) rest), rest)
 
 pub sorted_falls : (xs : List OpValue) → IsSortedBy (λ x y. comes_before y x) xs → Successive NotBefore xs
 sorted_falls xs up =
@@ -214,7 +221,7 @@ flips x y =
 all_false : (x : OpValue) (ops : List OpValue) → ((y : OpValue) → In y ops → x.dot ≡ y.dot → ⊥) → AllByRecursion (λ y. one_dot_test x y ≡ false) ops
 all_false x [] h = tt
 all_false x (y ∷ ops) h =
-    (⊎_elim (λ t. absurd (h y (inl refl) (same_dot_true x.dot y.dot t))) (λ f. f) (bool_cases (one_dot_test x y)), all_false x ops (λ z i. h z (inr i)))
+    (⊎_elim (λ t. absurd (h y (inl refl) (same_dot_true x.dot y.dot t))) (λ f. f) (cases_Bool (one_dot_test x y)), all_false x ops (λ z i. h z (inr i)))
 
 none_same : (x : OpValue) (ops : List OpValue) → AllByRecursion (λ y. one_dot_test x y ≡ false) ops → (y : OpValue) → In y ops → x.dot ≡ y.dot → ⊥
 none_same x [] h y i e = i
@@ -226,12 +233,12 @@ none_same x (z ∷ ops) h y i e =
 to_distinct : (ops : List OpValue) → DotsDiffer ops → IsDistinct one_dot_test ops
 unfolding IsDistinct
 to_distinct [] d = tt
-to_distinct (x ∷ ops) d = (all_false x ops d.0, to_distinct ops d.1)
+to_distinct (x ∷ ops) d = (all_false x ops (all_in (OtherDot x) ops d.0), to_distinct ops d.1)
 
 of_distinct : (ops : List OpValue) → IsDistinct one_dot_test ops → DotsDiffer ops
 unfolding IsDistinct
 of_distinct [] d = tt
-of_distinct (x ∷ ops) d = (none_same x ops d.0, of_distinct ops d.1)
+of_distinct (x ∷ ops) d = (all_of (OtherDot x) ops (none_same x ops d.0), of_distinct ops d.1)
 
 pub differ_permuted : (xs ys : List OpValue) → IsPermutation xs ys → DotsDiffer xs → DotsDiffer ys
 differ_permuted xs ys p d = of_distinct ys (IsDistinct-IsPermutation one_dot_test flips xs ys p (to_distinct xs d))

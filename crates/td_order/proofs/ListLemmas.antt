@@ -1,89 +1,9 @@
--- Membership, tests, and lists in a strict order.
-use Rattle.std.proofs.Common.{◌≡◌, ◌⊎◌, List, [], ◌∷◌, ◌++◌, Bool, true, false, cond, ◌&&◌, ◌||◌, filter, refl, sym, ap, ◌∙◌, subst, inl, inr, ⊎_elim, true≢false}
-pub use Rattle.td_order.specs.Lists.{In, Successive}
+-- Lists in a strict order, into which others are put.
+use Rattle.std.proofs.Common.{◌≡◌, ◌⊎◌, List, [], ◌∷◌, ◌++◌, Bool, true, false, cond, refl, sym, ap, ◌∙◌, subst, inl, inr, ⊎_elim, true≢false}
 use Rattle.std.specs.List.{list_any}
+use Rattle.td_base.specs.Lists.{In, Successive}
+use Rattle.td_base.proofs.Lists.{In-front, In-back, In-append, all_in, all_of, any_found, any_none, successive_append}
 use Rattle.td_order.specs.Place.{put_after_last, put_before_first, has_some}
-
-pub In-left : {X : Type 0} (x : X) (xs ys : List X) → In x xs → In x (xs ++ ys)
-In-left x [] ys h = absurd h
-In-left x (y ∷ xs) ys h = ⊎_elim (λ e. inl e) (λ k. inr (In-left x xs ys k)) h
-
-pub In-right : {X : Type 0} (x : X) (xs ys : List X) → In x ys → In x (xs ++ ys)
-In-right x [] ys h = h
-In-right x (y ∷ xs) ys h = inr (In-right x xs ys h)
-
-pub In-append : {X : Type 0} (x : X) (xs ys : List X) → In x (xs ++ ys) → In x xs ⊎ In x ys
-In-append x [] ys h = inr h
-In-append x (y ∷ xs) ys h = ⊎_elim (λ e. inl (inl e)) (λ k. ⊎_elim (λ a. inl (inr a)) (λ b. inr b) (In-append x xs ys k)) h
-
-pub bool_cases : (b : Bool) → (b ≡ true) ⊎ (b ≡ false)
-bool_cases true = inl refl
-bool_cases false = inr refl
-
-pub and_true : (a b : Bool) → (a && b) ≡ true → (a ≡ true) × (b ≡ true)
-and_true true true h = (refl, refl)
-and_true true false h = absurd (true≢false (sym h))
-and_true false b h = absurd (true≢false (sym h))
-
-pub and_both : (a b : Bool) → a ≡ true → b ≡ true → (a && b) ≡ true
-and_both true b p q = q
-and_both false b p q = absurd (true≢false (sym p))
-
-pub or_true : (a b : Bool) → (a || b) ≡ true → (a ≡ true) ⊎ (b ≡ true)
-or_true true b h = inl refl
-or_true false b h = inr h
-
-pub or_left : (a b : Bool) → a ≡ true → (a || b) ≡ true
-or_left true b h = refl
-or_left false b h = absurd (true≢false (sym h))
-
-pub or_right : (a b : Bool) → b ≡ true → (a || b) ≡ true
-or_right true b h = refl
-or_right false b h = h
-
-pub or_false : (a b : Bool) → (a || b) ≡ false → (a ≡ false) × (b ≡ false)
-or_false true b h = absurd (true≢false h)
-or_false false b h = (refl, h)
-
-pub any_found : {X : Type 0} (test : X → Bool) (xs : List X) → list_any test xs ≡ true → (x : X) × In x xs × (test x ≡ true)
-any_found test [] h = absurd (true≢false (sym h))
-any_found {X} test (x ∷ xs) h =
-    ⊎_elim (λ a. (x, inl refl, a)) (λ (b : list_any test xs ≡ true). let r = any_found test xs b in (r.0, inr r.1, r.2)) (or_true (test x) (list_any test xs) h)
-
-pub any_from : {X : Type 0} (test : X → Bool) (xs : List X) (x : X) → In x xs → test x ≡ true → list_any test xs ≡ true
-any_from test [] x h e = absurd h
-any_from test (y ∷ ys) x h e =
-    ⊎_elim (λ (p : x ≡ y). or_left (test y) (list_any test ys) (subst (λ z. test z ≡ true) p e)) (λ k. or_right (test y) (list_any test ys) (any_from test ys x k e)) h
-
-pub any_none : {X : Type 0} (test : X → Bool) (xs : List X) (x : X) → list_any test xs ≡ false → In x xs → test x ≡ false
-any_none test [] x h k = absurd k
-any_none test (y ∷ ys) x h k =
-    let e = or_false (test y) (list_any test ys) h in
-    ⊎_elim (λ (p : x ≡ y). subst (λ z. test z ≡ false) (sym p) e.0) (λ i. any_none test ys x e.1 i) k
-
-In-filter_at : {X : Type 0} (test : X → Bool) (x y : X) (ys : List X) (b : Bool) → b ≡ test y → ((In x (filter test ys)) → In x ys × (test x ≡ true)) → In x (cond b (y ∷ filter test ys) (filter test ys)) → In x (y ∷ ys) × (test x ≡ true)
-In-filter_at test x y ys true e rest h = ⊎_elim (λ (p : x ≡ y). (inl p, subst (λ z. test z ≡ true) (sym p) (sym e))) (λ k. (inr (rest k).0, (rest k).1)) h
-In-filter_at test x y ys false e rest h = (inr (rest h).0, (rest h).1)
-
-pub In-filter : {X : Type 0} (test : X → Bool) (x : X) (xs : List X) → In x (filter test xs) → In x xs × (test x ≡ true)
-In-filter test x [] h = absurd h
-In-filter test x (y ∷ ys) h = In-filter_at test x y ys (test y) refl (λ k. In-filter test x ys k) h
-
-filter-In_at : {X : Type 0} (x : X) (ys : List X) (b : Bool) → b ≡ true → In x (cond b (x ∷ ys) ys)
-filter-In_at x ys true e = inl refl
-filter-In_at x ys false e = absurd (true≢false (sym e))
-
-filter-In_skip : {X : Type 0} (x y : X) (ys : List X) (b : Bool) → In x ys → In x (cond b (y ∷ ys) ys)
-filter-In_skip x y ys true h = inr h
-filter-In_skip x y ys false h = h
-
-pub filter-In : {X : Type 0} (test : X → Bool) (x : X) (xs : List X) → In x xs → test x ≡ true → In x (filter test xs)
-filter-In test x [] h e = absurd h
-filter-In test x (y ∷ ys) h e =
-    ⊎_elim
-    (λ (p : x ≡ y). subst (λ z. In x (cond (test z) (z ∷ filter test ys) (filter test ys))) p (filter-In_at x (filter test ys) (test x) e))
-    (λ k. filter-In_skip x y (filter test ys) (test y) (filter-In test x ys k e))
-    h
 
 pub none_of : {X : Type 0} (xs : List X) → has_some xs ≡ false → (x : X) → In x xs → ⊥
 none_of [] h x k = k
@@ -92,11 +12,6 @@ none_of (y ∷ ys) h x k = true≢false h
 pub some_of : {X : Type 0} (xs : List X) → has_some xs ≡ true → (x : X) × In x xs
 some_of [] h = absurd (true≢false (sym h))
 some_of (y ∷ ys) h = (y, inl refl)
-
-pub rises_append : {X : Type 0} (lt : X → X → Type 0) (xs ys : List X) → Successive lt xs → Successive lt ys → ((x y : X) → In x xs → In y ys → lt x y) → Successive lt (xs ++ ys)
-rises_append lt [] ys a b h = b
-rises_append lt (x ∷ xs) ys a b h =
-    ((λ y k. ⊎_elim (λ i. a.0 y i) (λ j. h x y (inl refl) j) (In-append y xs ys k)), rises_append lt xs ys a.1 b (λ u v i j. h u v (inr i) j))
 
 In-put_after_last_at : {X : Type 0} (test : X → Bool) (ids : List X) (x y : X) (ys : List X) (b : Bool) → (In x (put_after_last test ids ys) → In x ids ⊎ In x ys) → In x (cond b (y ∷ put_after_last test ids ys) (ids ++ (y ∷ ys))) → In x ids ⊎ In x (y ∷ ys)
 In-put_after_last_at test ids x y ys true rest h = ⊎_elim (λ e. inr (inl e)) (λ k. ⊎_elim (λ i. inl i) (λ j. inr (inr j)) (rest k)) h
@@ -116,7 +31,7 @@ In-put_before_first test ids x (y ∷ ys) h = In-put_before_first_at test ids x 
 
 put_after_last-In_at : {X : Type 0} (test : X → Bool) (ids : List X) (x y : X) (ys : List X) (b : Bool) → (In x ids ⊎ In x ys → In x (put_after_last test ids ys)) → In x ids ⊎ In x (y ∷ ys) → In x (cond b (y ∷ put_after_last test ids ys) (ids ++ (y ∷ ys)))
 put_after_last-In_at test ids x y ys true rest h = ⊎_elim (λ i. inr (rest (inl i))) (λ j. ⊎_elim (λ e. inl e) (λ k. inr (rest (inr k))) j) h
-put_after_last-In_at test ids x y ys false rest h = ⊎_elim (λ i. In-left x ids (y ∷ ys) i) (λ j. In-right x ids (y ∷ ys) j) h
+put_after_last-In_at test ids x y ys false rest h = ⊎_elim (λ i. In-front x ids (y ∷ ys) i) (λ j. In-back x ids (y ∷ ys) j) h
 
 pub put_after_last-In : {X : Type 0} (test : X → Bool) (ids : List X) (x : X) (xs : List X) → In x ids ⊎ In x xs → In x (put_after_last test ids xs)
 put_after_last-In test ids x [] h = ⊎_elim (λ i. i) (λ j. absurd j) h
@@ -124,7 +39,7 @@ put_after_last-In test ids x (y ∷ ys) h = put_after_last-In_at test ids x y ys
 
 put_before_first-In_at : {X : Type 0} (test : X → Bool) (ids : List X) (x y : X) (ys : List X) (b : Bool) → (In x ids ⊎ In x ys → In x (put_before_first test ids ys)) → In x ids ⊎ In x (y ∷ ys) → In x (cond b (ids ++ (y ∷ ys)) (y ∷ put_before_first test ids ys))
 put_before_first-In_at test ids x y ys false rest h = ⊎_elim (λ i. inr (rest (inl i))) (λ j. ⊎_elim (λ e. inl e) (λ k. inr (rest (inr k))) j) h
-put_before_first-In_at test ids x y ys true rest h = ⊎_elim (λ i. In-left x ids (y ∷ ys) i) (λ j. In-right x ids (y ∷ ys) j) h
+put_before_first-In_at test ids x y ys true rest h = ⊎_elim (λ i. In-front x ids (y ∷ ys) i) (λ j. In-back x ids (y ∷ ys) j) h
 
 pub put_before_first-In : {X : Type 0} (test : X → Bool) (ids : List X) (x : X) (xs : List X) → In x ids ⊎ In x xs → In x (put_before_first test ids xs)
 put_before_first-In test ids x [] h = ⊎_elim (λ i. i) (λ j. absurd j) h
@@ -138,13 +53,13 @@ module _ {X : Type 0} (lt : X → X → Type 0) (trans : (x y z : X) → lt x y 
       → Successive lt (cond b (y ∷ put_after_last test ids ys) (ids ++ (y ∷ ys)))
   rises_after_last_at y ys true e r rest low high =
       let found = any_found test (y ∷ ys) (sym e) in (
-        (λ z k. ⊎_elim
-            (λ (i : In z ids). ⊎_elim (λ (p : found.0 ≡ y). subst (λ w. lt w z) p (low found.0 z found.1 i found.2)) (λ q. trans y found.0 z (r.0 found.0 q) (low found.0 z found.1 i found.2)) found.1)
-            (λ j. r.0 z j) (In-put_after_last test ids z ys k)),
+        all_of (lt y) (put_after_last test ids ys) (λ z k. ⊎_elim
+            (λ (i : In z ids). ⊎_elim (λ (p : found.0 ≡ y). subst (λ w. lt w z) p (low found.0 z found.1 i found.2)) (λ q. trans y found.0 z (all_in (lt y) ys r.0 found.0 q) (low found.0 z found.1 i found.2)) found.1)
+            (λ j. all_in (lt y) ys r.0 z j) (In-put_after_last test ids z ys k)),
         rest,
       )
   rises_after_last_at y ys false e r rest low high =
-      rises_append lt ids (y ∷ ys) up r (λ a x i j. high x a j i (any_none test (y ∷ ys) x (sym e) j) (λ l k t. absurd (true≢false (sym t ∙ any_none test (y ∷ ys) l (sym e) k))))
+      successive_append lt ids (y ∷ ys) up r (λ a x i j. high x a j i (any_none test (y ∷ ys) x (sym e) j) (λ l k t. absurd (true≢false (sym t ∙ any_none test (y ∷ ys) l (sym e) k))))
 
   pub rises_after_last : (xs : List X) → Successive lt xs
       → ((x a : X) → In x xs → In a ids → test x ≡ true → lt x a)
@@ -154,7 +69,7 @@ module _ {X : Type 0} (lt : X → X → Type 0) (trans : (x y z : X) → lt x y 
   rises_after_last (y ∷ ys) r low high =
       rises_after_last_at y ys (list_any test (y ∷ ys)) refl r
       (rises_after_last ys r.1 (λ x a i j t. low x a (inr i) j t)
-      (λ x a i j t all. high x a (inr i) j t (λ l k u. ⊎_elim (λ (p : l ≡ y). subst (λ w. lt w x) (sym p) (r.0 x i)) (λ q. all l q u) k)))
+      (λ x a i j t all. high x a (inr i) j t (λ l k u. ⊎_elim (λ (p : l ≡ y). subst (λ w. lt w x) (sym p) (all_in (lt y) ys r.0 x i)) (λ q. all l q u) k)))
       low high
 
   rises_before_first_at : (y : X) (ys : List X) (b : Bool) → b ≡ test y → Successive lt (y ∷ ys) → (b ≡ false → Successive lt (put_before_first test ids ys))
@@ -163,11 +78,11 @@ module _ {X : Type 0} (lt : X → X → Type 0) (trans : (x y z : X) → lt x y 
       → (b ≡ false → (a : X) → In a ids → lt y a)
       → Successive lt (cond b (ids ++ (y ∷ ys)) (y ∷ put_before_first test ids ys))
   rises_before_first_at y ys true e r rest high low front =
-      rises_append lt ids (y ∷ ys) up r (λ a x i j.
+      successive_append lt ids (y ∷ ys) up r (λ a x i j.
       let first : lt a y = high y a (inl refl) i (sym e) in
-      ⊎_elim (λ (p : x ≡ y). subst (λ w. lt a w) (sym p) first) (λ q. trans a y x first (r.0 x q)) j)
+      ⊎_elim (λ (p : x ≡ y). subst (λ w. lt a w) (sym p) first) (λ q. trans a y x first (all_in (lt y) ys r.0 x q)) j)
   rises_before_first_at y ys false e r rest high low front =
-      ((λ z k. ⊎_elim (λ i. front refl z i) (λ j. r.0 z j) (In-put_before_first test ids z ys k)), rest refl)
+      (all_of (lt y) (put_before_first test ids ys) (λ z k. ⊎_elim (λ i. front refl z i) (λ j. all_in (lt y) ys r.0 z j) (In-put_before_first test ids z ys k)), rest refl)
 
   pub rises_before_first : (xs : List X) → Successive lt xs
       → ((x a : X) → In x xs → In a ids → test x ≡ true → lt a x)
@@ -179,4 +94,4 @@ module _ {X : Type 0} (lt : X → X → Type 0) (trans : (x y z : X) → lt x y 
       (λ t. rises_before_first ys r.1 (λ x a i j u. high x a (inr i) j u)
       (λ x a i j u all. low x a (inr i) j u (λ l k v. ⊎_elim (λ (p : l ≡ y). absurd (true≢false (sym v ∙ (ap test p ∙ t)))) (λ q. all l q v) k)))
       high low
-      (λ t a i. low y a (inl refl) i t (λ l k u. ⊎_elim (λ (p : l ≡ y). absurd (true≢false (sym u ∙ (ap test p ∙ t)))) (λ q. r.0 l q) k))
+      (λ t a i. low y a (inl refl) i t (λ l k u. ⊎_elim (λ (p : l ≡ y). absurd (true≢false (sym u ∙ (ap test p ∙ t)))) (λ q. all_in (lt y) ys r.0 l q) k))

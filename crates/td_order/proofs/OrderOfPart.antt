@@ -7,18 +7,20 @@ use Rattle.td_clock.specs.Vector.{vector_has}
 use Rattle.td_op.specs.Op.{OpValue}
 use Rattle.td_op.specs.Past.{in_past}
 use Rattle.std.specs.Prelude.{IsTrue}
+use Rattle.std.proofs.lemmas.Bool.{cases_Bool}
+use Rattle.td_base.specs.Lists.{In, Successive}
+use Rattle.td_base.proofs.Lists.{all_in, all_of}
 use Rattle.td_op.proofs.PastLemmas.{not_in_own_past, past_along, past_sum as sums_grow}
 use Rattle.td_order.specs.declared.insertion.Insertion.{Insertion}
 use Rattle.td_order.specs.Insertions.{IsInsertionOf, insertion_of, insertions}
-use Rattle.td_order.specs.Lists.{In, Successive, IsSublist}
+use Rattle.td_order.specs.Lists.{IsSublist}
 use Rattle.td_order.specs.LineUp.{comes_before, line_up, DotsDiffer}
 use Rattle.td_order.specs.Place.{precedes, has_some}
 use Rattle.td_order.specs.Order.{order}
 use Rattle.td_order.specs.Causal.{HasEpochs, IsCausal, IsPart, IsRootedIn, IsWellRooted}
-use Rattle.td_order.proofs.ListLemmas.{bool_cases}
 use Rattle.td_order.proofs.Family.{IsRooted, AllFollow, HasPasts}
 use Rattle.td_order.proofs.InsertionLemmas.{from_op, In-insertions, insertions-In}
-use Rattle.td_order.proofs.LineUpLemmas.{NotBefore, smaller_sum, falls, In-line_up, line_up-In, apart_line_up}
+use Rattle.td_order.proofs.LineUpLemmas.{NotBefore, smaller_sum, falls, In-line_up, line_up-In, apart_line_up, OtherDot}
 use Rattle.td_order.proofs.Ranks.{placed_part}
 
 -- operations that have the past of each of them, as far as one list is asked for
@@ -43,7 +45,7 @@ module _ (ops : List OpValue) (P : IsClosed ops) where
   HasEarlier os = (c o : OpValue) → In c ops → In o os → comes_before c o ≡ true → In c os
 
   earlier_tail : (o : OpValue) (os : List OpValue) → Successive NotBefore (o ∷ os) → HasEarlier (o ∷ os) → HasEarlier os
-  earlier_tail o os r h c q i j e = ⊎_elim (λ (k : c ≡ o). absurd (true≢false (sym (subst (λ x. comes_before x q ≡ true) k e) ∙ r.0 q j))) (λ k. k) (h c q i (inr j) e)
+  earlier_tail o os r h c q i j e = ⊎_elim (λ (k : c ≡ o). absurd (true≢false (sym (subst (λ x. comes_before x q ≡ true) k e) ∙ all_in (NotBefore o) os r.0 q j))) (λ k. k) (h c q i (inr j) e)
 
   rooted_tail : (o : OpValue) (os : List OpValue) (a : Insertion) → In o ops → insertion_of o ≡ Some a → HasEarlier (o ∷ os) → (s : Slot) → IsRootedIn ops a s → IsRooted (insertions os) s
   rooted_tail o os a i e h Root r = tt
@@ -64,9 +66,9 @@ module _ (ops : List OpValue) (P : IsClosed ops) where
   causal_at o os (Some a) e i w r n h rest = (
     record {
       rooted = rooted_tail o os a i e h a.slot (P.rooted o a i e);
-      fresh = λ c k d. let q = In-insertions os c k in n.0 q.0 q.1 (sym (from_op o a e).dot ∙ (sym d ∙ (from_op q.0 c q.2).dot));
+      fresh = λ c k d. let q = In-insertions os c k in all_in (OtherDot o) os n.0 q.0 q.1 (sym (from_op o a e).dot ∙ (sym d ∙ (from_op q.0 c q.2).dot));
       later = λ c k. let q = In-insertions os c k in
-          ⊎_elim (λ t. absurd (true≢false (sym (sum_before o q.0 (past_sum o q.0 a c i (w q.0 q.1) e q.2 t)) ∙ r.0 q.0 q.1))) (λ t. t) (bool_cases (precedes a c));
+          ⊎_elim (λ t. absurd (true≢false (sym (sum_before o q.0 (past_sum o q.0 a c i (w q.0 q.1) e q.2 t)) ∙ all_in (NotBefore o) os r.0 q.0 q.1))) (λ t. t) (cases_Bool (precedes a c));
       full = P.full o a i e;
     },
     rest,
@@ -132,7 +134,7 @@ module _ (all : List OpValue) (F : IsWellRooted all) where
         let q = In-line e k in
         past_to o.0 q.0 c e o.2 q.2
         (past_along o.0 p.0 q.0 (past_of o.0 p.0 c d o.2 p.2 h) (F.causal.knows p.0 q.0 p.1 q.1 (past_of p.0 q.0 d e p.2 q.2 g)));
-    apart = λ c i. ⊎_elim (λ t. absurd (not_own c i t)) (λ f. f) (bool_cases (precedes c c));
+    apart = λ c i. ⊎_elim (λ t. absurd (not_own c i t)) (λ f. f) (cases_Bool (precedes c c));
     epochs = λ c d e i j k s t h. E c d e (in_all c i) (in_all d j) (in_all e k) s t h;
   }
 
@@ -147,9 +149,9 @@ a_part_in_order all part F E P = part_in_order all F part E P
 after_past : (ops line : List OpValue) → IsCausal ops → ((o : OpValue) → In o line → In o ops) → Successive NotBefore line → Successive (λ (x y : OpValue). ¬ IsTrue (in_past x y)) line
 after_past ops [] C w r = tt
 after_past ops (x ∷ line) C w r = (
-  (λ y i past.
+  all_of (λ (y : OpValue). ¬ IsTrue (in_past x y)) line (λ y i past.
       let rises = sums_grow x y (C.valid x (w x (inl refl))) (C.one_size x y (w x (inl refl)) (w y (inr i))) (C.knows x y (w x (inl refl)) (w y (inr i)) past) past in
-      true≢false (sym (smaller_sum x y rises) ∙ r.0 y i)),
+      true≢false (sym (smaller_sum x y rises) ∙ all_in (NotBefore x) line r.0 y i)),
   after_past ops line C (λ o i. w o (inr i)) r.1,
 )
 

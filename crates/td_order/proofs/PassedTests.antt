@@ -4,6 +4,7 @@ use Rattle.std.proofs.lemmas.Bool.Decides.{nat_tests}
 use Rattle.std.specs.declared.cmp.Ordering.{Ordering}
 use Rattle.std.specs.declared.cmp.Ordering.TheVariants.{Less, Equal, Greater}
 use Rattle.std.specs.Ordering.{is_eq, is_lt, nat_cmp, ordering_then}
+use Rattle.std.proofs.lemmas.Bool.{and_parts, and_from}
 use Rattle.td_base.specs.declared.bit.Bit.{Bit}
 use Rattle.td_base.specs.declared.bit.Bit.TheVariants.{Left, Right}
 use Rattle.td_base.specs.Value.{DotValue, AtomIdValue}
@@ -11,7 +12,6 @@ use Rattle.td_base.specs.Order.{dot_cmp, bit_cmp}
 use Rattle.td_path.specs.declared.slot.Slot.{Slot}
 use Rattle.td_path.specs.declared.slot.Slot.TheVariants.{Root, At}
 use Rattle.td_order.specs.Insertions.{same_dot, dot_lt, same_id, same_slot}
-use Rattle.td_order.proofs.ListLemmas.{and_true, and_both}
 
 -- what an answer of a comparison says of two numbers
 abbrev pub Compares : ℕ → ℕ → Ordering → Type 0
@@ -83,14 +83,14 @@ pub same_slot_true : (s t : Slot) → same_slot s t ≡ true → s ≡ t
 same_slot_true Root Root h = refl
 same_slot_true Root (At y c) h = absurd (true≢false (sym h))
 same_slot_true (At x b) Root h = absurd (true≢false (sym h))
-same_slot_true (At x b) (At y c) h = let p = and_true _ _ h in let a = same_id_true x y p.0 in let d = same_bit_true b c p.1 in λ i. At (a i) (d i)
+same_slot_true (At x b) (At y c) h = let p = and_parts _ _ h in let a = same_id_true x y p.0 in let d = same_bit_true b c p.1 in λ i. At (a i) (d i)
 
 pub same_slot_refl : (s t : Slot) → s ≡ t → same_slot s t ≡ true
 same_slot_refl s t e = subst (λ u. same_slot s u ≡ true) e (at s)
   where
     at : (u : Slot) → same_slot u u ≡ true
     at Root = refl
-    at (At x b) = and_both _ _ (same_id_refl x) (same_bit_refl b)
+    at (At x b) = and_from _ _ (same_id_refl x) (same_bit_refl b)
 
 dot_lt_true_at : (d e : DotValue) (o p : Ordering) → Compares d.site e.site o → Compares d.seq e.seq p → is_lt (ordering_then o p) ≡ true → (d.site < e.site) ⊎ ((d.site ≡ e.site) × (d.seq < e.seq))
 dot_lt_true_at d e Less p a b h = inl a

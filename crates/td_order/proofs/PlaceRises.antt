@@ -1,12 +1,15 @@
 -- One insert placed among the atoms of those before it.
 use Rattle.std.proofs.Common.{◌≡◌, ◌⊎◌, ◌<◌, ◌≤◌, ℕ, List, [], ◌∷◌, ◌++◌, Bool, true, false, cond, refl, sym, ap, ◌∙◌, subst, inl, inr, ⊎_elim, true≢false, arith, append_assoc}
+use Rattle.std.proofs.lemmas.Bool.{cases_Bool}
 use Rattle.td_order.proofs.Lex.{Tri, below, same, above, lex_append, lex_cancel, lex_between, Below, nat_strict}
-use Rattle.td_order.proofs.ListLemmas.{In, bool_cases, any_found, any_from, none_of, some_of, Successive, rises_append, rises_after_last, rises_before_first}
+use Rattle.td_order.proofs.ListLemmas.{none_of, some_of, rises_after_last, rises_before_first}
 use Rattle.td_order.proofs.Keys.{Key, StepLt, KeyLt, key_strict, step_strict, step, id_of, same_id_true, same_id_refl, dot_lt_from, first_step, rank_first, dot_first}
-use Rattle.td_order.proofs.Fits.{slot_key, OlderRank, Names, IsRooted, Fits, AllFit, first_id, fits_at, full_at, rooted_at, same_insert, key_end, Found, find, under_key, under_self, slot_key_same}
+use Rattle.td_order.proofs.Fits.{slot_key, OlderRank, Names, IsRooted, Fits, AllFit, first_id, fits_at, full_at, same_insert, key_end, Found, find, under_key, under_self, Mate, mate}
 use Rattle.td_order.proofs.Placing.{Sibling, sibling_of, of_sibling, smaller_of, of_smaller, dot_apart, older_apart, In-placed, placed-In, IdLt, id_trans, atom_key, ids_rise_from}
 use Rattle.td_base.specs.Value.{DotValue, AtomIdValue}
 use Rattle.td_base.specs.declared.bit.Bit.TheVariants.{Left, Right}
+use Rattle.td_base.specs.Lists.{In, Successive}
+use Rattle.td_base.proofs.Lists.{any_found, any_from, successive_append}
 use Rattle.td_path.specs.declared.slot.Slot.{Slot}
 use Rattle.td_path.specs.declared.slot.Slot.TheVariants.{Root, At}
 use Rattle.td_order.specs.declared.insertion.Insertion.{Insertion}
@@ -91,29 +94,6 @@ module _ (K : AtomIdValue → ℕ → Key) (rank : Insertion → ℕ) (os : List
   abbrev Lt : AtomIdValue → AtomIdValue → Type 0
   Lt = IdLt K rank
 
-  -- an insert in a's slot that an atom is under
-  record Mate (x : AtomIdValue) (w0 : List ℕ) : Type 0 where
-    ins : Insertion
-    offset : ℕ
-    side : ℕ
-    inside : In ins os
-    slot : ins.slot ≡ a.slot
-    is : w0 ≡ step (rank ins) ins.dot offset side
-    above : under os ins.dot x.dot ≡ true
-
-  mate : (x : AtomIdValue) → Names os x → (w0 : List ℕ) (w : Key) → K x 1 ≡ slot_key K a.slot ++ (w0 ∷ w) → Mate x w0
-  mate x n w0 w e =
-      let r = find K rank os g x n 1 (slot_key K a.slot) w0 w e in
-      record {
-        ins = r.ins;
-        offset = r.offset;
-        side = r.side;
-        inside = r.inside;
-        is = r.is;
-        above = r.above;
-        slot = slot_key_same K rank os g r.ins.slot a.slot (rooted_at K rank os g r.ins r.inside) f.rooted (sym r.at);
-      }
-
   record MateKey (b : Insertion) (x : AtomIdValue) : Type 0 where
     offset : ℕ
     side : ℕ
@@ -134,7 +114,7 @@ module _ (K : AtomIdValue → ℕ → Key) (rank : Insertion → ℕ) (os : List
   apart_from : (x z : AtomIdValue) → Names os x → In z (ids_of a) → K x 1 ≡ K z 1 → ⊥
   apart_from x z n i e =
       let k = atom_key K rank os a f z i in
-      let m = mate x n _ _ (e ∙ k.1) in
+      let m = mate K rank os g a.slot f.rooted x n _ _ (e ∙ k.1) in
       f.fresh m.ins m.inside (sym (step_dot _ _ _ _ _ _ _ _ m.is))
 
   either_at : (x z : AtomIdValue) → Names os x → In z (ids_of a) → Tri KeyLt (K x 1) (K z 1) → Lt x z ⊎ Lt z x
@@ -176,11 +156,11 @@ module _ (K : AtomIdValue → ℕ → Key) (rank : Insertion → ℕ) (os : List
   rank_le : (r q : ℕ) (d e : DotValue) (i j s t : ℕ) (u v : Key) → KeyLt (step r d i s ∷ u) (step q e j t ∷ v) → r ≤ q
   rank_le r q d e i j s t u v h = ⊎_elim (λ (k : r < q). omega arith) (λ (k : (r ≡ q) × ((dot_lt d e ≡ true) ⊎ ((d ≡ e) × KeyLt ((i ∷ s ∷ []) ∷ u) ((j ∷ t ∷ []) ∷ v)))). omega (arith, k.0)) (first_step r q d e i j s t u v h)
 
-  sibling_by_rank : (x : AtomIdValue) (w0 : List ℕ) (m : Mate x w0) → rank m.ins ≡ rank a → Sibling os a m.ins
+  sibling_by_rank : (x : AtomIdValue) (w0 : List ℕ) (m : Mate rank os a.slot x w0) → rank m.ins ≡ rank a → Sibling os a m.ins
   sibling_by_rank x w0 m e = record {
     inside = m.inside;
     slot = m.slot;
-    apart = ⊎_elim (λ t. absurd (older_apart a.slot (rank m.ins) (rank a) (f.older m.ins m.inside m.slot t) e)) (λ n. n) (bool_cases (precedes m.ins a));
+    apart = ⊎_elim (λ t. absurd (older_apart a.slot (rank m.ins) (rank a) (f.older m.ins m.inside m.slot t) e)) (λ n. n) (cases_Bool (precedes m.ins a));
   }
 
   -- an atom between a smaller_siblings sibling's first atom and a's atoms is under a smaller_siblings sibling
@@ -196,7 +176,7 @@ module _ (K : AtomIdValue → ℕ → Key) (rank : Insertion → ℕ) (os : List
       go [] e = absurd (lex_cancel StepLt step_strict (slot_key K a.slot) _ _ (both_back (id_of b.dot 0) x _ _ (first_key b s.inside s.slot) e h))
       go (w0 ∷ w) e =
           let zk = atom_key K rank os a f z i in
-          let m = mate x n w0 w e in
+          let m = mate K rank os g a.slot f.rooted x n w0 w e in
           let e' : K x 1 ≡ slot_key K a.slot ++ (step (rank m.ins) m.ins.dot m.offset m.side ∷ w) = e ∙ ap (λ v. slot_key K a.slot ++ (v ∷ w)) m.is in
           let low = lex_cancel StepLt step_strict (slot_key K a.slot) _ _ (both_back (id_of b.dot 0) x _ _ (first_key b s.inside s.slot) e' h) in
           let high = lex_cancel StepLt step_strict (slot_key K a.slot) _ _ (both_back x z _ _ e' zk.1 k) in
@@ -220,7 +200,7 @@ module _ (K : AtomIdValue → ℕ → Key) (rank : Insertion → ℕ) (os : List
       go [] e = let zk = atom_key K rank os a f z i in absurd (lex_cancel StepLt step_strict (slot_key K a.slot) _ _ (both_back z x _ _ zk.1 e h))
       go (w0 ∷ w) e =
           let zk = atom_key K rank os a f z i in
-          let m = mate x n w0 w e in
+          let m = mate K rank os g a.slot f.rooted x n w0 w e in
           let e' : K x 1 ≡ slot_key K a.slot ++ (step (rank m.ins) m.ins.dot m.offset m.side ∷ w) = e ∙ ap (λ v. slot_key K a.slot ++ (v ∷ w)) m.is in
           let low = lex_cancel StepLt step_strict (slot_key K a.slot) _ _ (both_back z x _ _ zk.1 e' h) in
           let high = lex_cancel StepLt step_strict (slot_key K a.slot) _ _ (both_back x (id_of b.dot 0) _ _ e' (first_key b s.inside s.slot) k) in
@@ -235,7 +215,7 @@ module _ (K : AtomIdValue → ℕ → Key) (rank : Insertion → ℕ) (os : List
 
   by_smaller : has_some (smaller_siblings os a) ≡ true → Goal (placed os) → Goal (put_after_last (is_under_any os (smaller_siblings os a)) (ids_of a) (placed os))
   by_smaller e up =
-      rises_after_last Lt (id_trans K rank) (is_under_any os (smaller_siblings os a)) (ids_of a) (ids_rise_from K rank os a f 0 a.run) (placed os) up
+      rises_after_last Lt (id_trans K rank) (is_under_any os (smaller_siblings os a)) (ids_of a) (ids_rise_from K rank a f.key 0 a.run) (placed os) up
       (λ x z i j t.
       let r = any_found (λ (b : Insertion). under os b.dot x.dot) (smaller_siblings os a) t in
       let s = smaller_of os a r.0 r.1 in
@@ -253,7 +233,7 @@ module _ (K : AtomIdValue → ℕ → Key) (rank : Insertion → ℕ) (os : List
 
   by_siblings : has_some (smaller_siblings os a) ≡ false → has_some (siblings os a) ≡ true → Goal (placed os) → Goal (put_before_first (is_under_any os (siblings os a)) (ids_of a) (placed os))
   by_siblings none e up =
-      rises_before_first Lt (id_trans K rank) (is_under_any os (siblings os a)) (ids_of a) (ids_rise_from K rank os a f 0 a.run) (placed os) up
+      rises_before_first Lt (id_trans K rank) (is_under_any os (siblings os a)) (ids_of a) (ids_rise_from K rank a f.key 0 a.run) (placed os) up
       (λ x z i j t.
       let r = any_found (λ (b : Insertion). under os b.dot x.dot) (siblings os a) t in
       let s = sibling_of os a r.0 r.1 in
@@ -273,18 +253,18 @@ module _ (K : AtomIdValue → ℕ → Key) (rank : Insertion → ℕ) (os : List
 
   -- where there is no sibling, every insert of the slot is in a's past
   module _ (alone : has_some (siblings os a) ≡ false) where
-    older : (x : AtomIdValue) (w0 : List ℕ) (m : Mate x w0) → OlderRank a.slot (rank m.ins) (rank a)
+    older : (x : AtomIdValue) (w0 : List ℕ) (m : Mate rank os a.slot x w0) → OlderRank a.slot (rank m.ins) (rank a)
     older x w0 m =
         ⊎_elim (λ t. f.older m.ins m.inside m.slot t)
         (λ n. absurd (none_of (siblings os a) alone m.ins (of_sibling os a m.ins (record { inside = m.inside; slot = m.slot; apart = n }))))
-        (bool_cases (precedes m.ins a))
+        (cases_Bool (precedes m.ins a))
 
-    mate_above : (x z : AtomIdValue) (w0 : List ℕ) (w : Key) → In z (ids_of a) → K x 1 ≡ slot_key K a.slot ++ (w0 ∷ w) → (m : Mate x w0) → rank a < rank m.ins → Lt z x
+    mate_above : (x z : AtomIdValue) (w0 : List ℕ) (w : Key) → In z (ids_of a) → K x 1 ≡ slot_key K a.slot ++ (w0 ∷ w) → (m : Mate rank os a.slot x w0) → rank a < rank m.ins → Lt z x
     mate_above x z w0 w i e m lt =
         let zk = atom_key K rank os a f z i in
         both_keys z x _ _ zk.1 (e ∙ ap (λ v. slot_key K a.slot ++ (v ∷ w)) m.is) (lex_append StepLt step_strict (slot_key K a.slot) _ _ (rank_first (rank a) (rank m.ins) a.dot m.ins.dot zk.0 m.offset 1 m.side [] w lt))
 
-    mate_below : (x z : AtomIdValue) (w0 : List ℕ) (w : Key) → In z (ids_of a) → K x 1 ≡ slot_key K a.slot ++ (w0 ∷ w) → (m : Mate x w0) → rank m.ins < rank a → Lt x z
+    mate_below : (x z : AtomIdValue) (w0 : List ℕ) (w : Key) → In z (ids_of a) → K x 1 ≡ slot_key K a.slot ++ (w0 ∷ w) → (m : Mate rank os a.slot x w0) → rank m.ins < rank a → Lt x z
     mate_below x z w0 w i e m lt =
         let zk = atom_key K rank os a f z i in
         both_keys x z _ _ (e ∙ ap (λ v. slot_key K a.slot ++ (v ∷ w)) m.is) zk.1 (lex_append StepLt step_strict (slot_key K a.slot) _ _ (rank_first (rank m.ins) (rank a) m.ins.dot a.dot m.offset zk.0 m.side 1 w [] lt))
@@ -333,7 +313,7 @@ module _ (K : AtomIdValue → ℕ → Key) (rank : Insertion → ℕ) (os : List
               deep q =
                   let e2 : K x 1 ≡ right_end.0 ++ (step right_end.1 p.dot p.offset 2 ∷ w1 ∷ w2) = e' ∙ ap (λ v. right_end.0 ++ (v ∷ w1 ∷ w2)) (step_same _ _ _ _ _ _ _ _ pin.4 pin.0 pin.1 q) in
                   let e3 : K x 1 ≡ slot_key K a.slot ++ (w1 ∷ w2) = e2 ∙ (sym (append_assoc right_end.0 (step right_end.1 p.dot p.offset 2 ∷ []) (w1 ∷ w2)) ∙ ap (λ v. v ++ (w1 ∷ w2)) (sym (ap (slot_key K) at ∙ right_end.2 2))) in
-                  let c = mate x n w1 w2 e3 in
+                  let c = mate K rank os g a.slot f.rooted x n w1 w2 e3 in
                   mate_above x z w1 w2 i e3 c (subst (λ s. OlderRank s (rank c.ins) (rank a)) at (older x w1 c))
 
     -- left of the atom p: the new atoms go right before it
@@ -380,12 +360,12 @@ module _ (K : AtomIdValue → ℕ → Key) (rank : Insertion → ℕ) (os : List
               deep q =
                   let e2 : K x 1 ≡ left_end.0 ++ (step left_end.1 p.dot p.offset 0 ∷ w1 ∷ w2) = e' ∙ ap (λ v. left_end.0 ++ (v ∷ w1 ∷ w2)) (step_same _ _ _ _ _ _ _ _ pin.4 pin.0 pin.1 q) in
                   let e3 : K x 1 ≡ slot_key K a.slot ++ (w1 ∷ w2) = e2 ∙ (sym (append_assoc left_end.0 (step left_end.1 p.dot p.offset 0 ∷ []) (w1 ∷ w2)) ∙ ap (λ v. v ++ (w1 ∷ w2)) (sym (ap (slot_key K) at ∙ left_end.2 0))) in
-                  let c = mate x n w1 w2 e3 in
+                  let c = mate K rank os g a.slot f.rooted x n w1 w2 e3 in
                   mate_below x z w1 w2 i e3 c (subst (λ s. OlderRank s (rank c.ins) (rank a)) at (older x w1 c))
 
     by_right : (p : AtomIdValue) → a.slot ≡ At p Right → Names os p → Goal (placed os) → Goal (put_after_last (same_id p) (ids_of a) (placed os))
     by_right p at named up =
-        rises_after_last Lt (id_trans K rank) (same_id p) (ids_of a) (ids_rise_from K rank os a f 0 a.run) (placed os) up
+        rises_after_last Lt (id_trans K rank) (same_id p) (ids_of a) (ids_rise_from K rank a f.key 0 a.run) (placed os) up
         (λ x z i j t. subst (λ y. Lt y z) (same_id_true p x t) (right_of p at named z j))
         (λ x z i j t all.
         let n = In-placed os x i in
@@ -402,7 +382,7 @@ module _ (K : AtomIdValue → ℕ → Key) (rank : Insertion → ℕ) (os : List
 
     by_left : (p : AtomIdValue) → a.slot ≡ At p Left → Names os p → Goal (placed os) → Goal (put_before_first (same_id p) (ids_of a) (placed os))
     by_left p at named up =
-        rises_before_first Lt (id_trans K rank) (same_id p) (ids_of a) (ids_rise_from K rank os a f 0 a.run) (placed os) up
+        rises_before_first Lt (id_trans K rank) (same_id p) (ids_of a) (ids_rise_from K rank a f.key 0 a.run) (placed os) up
         (λ x z i j t. subst (λ y. Lt z y) (same_id_true p x t) (left_of p at named z j))
         (λ x z i j t all.
         let n = In-placed os x i in
@@ -425,11 +405,11 @@ module _ (K : AtomIdValue → ℕ → Key) (rank : Insertion → ℕ) (os : List
         not_end (y ∷ q) v h = cc
     root_at x z n i at (w0 ∷ w) e =
         let e' : K x 1 ≡ slot_key K a.slot ++ (w0 ∷ w) = e ∙ ap (λ s. slot_key K s ++ (w0 ∷ w)) (sym at) in
-        let c = mate x n w0 w e' in
+        let c = mate K rank os g a.slot f.rooted x n w0 w e' in
         mate_above x z w0 w i e' c (subst (λ s. OlderRank s (rank c.ins) (rank a)) at (older x w0 c))
 
     by_root : a.slot ≡ Root → Goal (placed os) → Goal (ids_of a ++ placed os)
-    by_root at up = rises_append Lt (ids_of a) (placed os) (ids_rise_from K rank os a f 0 a.run) up (λ z x i j. root_at x z (In-placed os x j) i at (K x 1) refl)
+    by_root at up = successive_append Lt (ids_of a) (placed os) (ids_rise_from K rank a f.key 0 a.run) up (λ z x i j. root_at x z (In-placed os x j) i at (K x 1) refl)
 
     by_beside : (s : Slot) → a.slot ≡ s → IsRooted os s → Goal (placed os) → Goal (put_beside s (ids_of a) (placed os))
     by_beside Root at named up = by_root at up

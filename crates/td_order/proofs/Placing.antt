@@ -1,25 +1,20 @@
 -- Placing an insert keeps the atoms in the order of their keys.
-use Rattle.std.proofs.Common.{◌≡◌, ◌⊎◌, ◌<◌, ℕ, suc, List, [], ◌∷◌, ◌++◌, Bool, true, false, cond, not, ◌&&◌, refl, sym, ap, ◌∙◌, subst, inl, inr, ⊎_elim, true≢false, arith}
+use Rattle.std.proofs.Common.{◌≡◌, ◌⊎◌, ◌<◌, ℕ, suc, List, [], ◌∷◌, ◌++◌, Bool, true, false, cond, not, ◌&&◌, refl, sym, ap, ◌∙◌, subst, inl, inr, ⊎_elim, arith}
+use Rattle.std.proofs.lemmas.Bool.{and_parts, and_from, not-true, not_from_false}
 use Rattle.td_order.proofs.Lex.{lex_append}
-use Rattle.td_order.proofs.ListLemmas.{In, and_true, and_both, In-filter, filter-In, Successive, In-append, In-left, In-right, In-put_after_last, In-put_before_first, put_after_last-In, put_before_first-In}
+use Rattle.td_order.proofs.ListLemmas.{In-put_after_last, In-put_before_first, put_after_last-In, put_before_first-In}
 use Rattle.td_order.proofs.Keys.{Key, StepLt, KeyLt, key_strict, step_strict, step, id_of, same_slot_true, same_slot_refl, dot_lt_true}
 use Rattle.td_order.proofs.Fits.{slot_key, OlderRank, Names, Fits, ids_dot}
 use Rattle.td_base.specs.Value.{DotValue, AtomIdValue}
 use Rattle.td_base.specs.declared.bit.Bit.TheVariants.{Left, Right}
+use Rattle.td_base.specs.Lists.{In, Successive}
+use Rattle.td_base.proofs.Lists.{In-filter, filter_In, In-append, In-front, In-back, all_of}
 use Rattle.td_path.specs.declared.slot.Slot.{Slot}
 use Rattle.td_path.specs.declared.slot.Slot.TheVariants.{Root, At}
 use Rattle.td_order.specs.declared.insertion.Insertion.{Insertion}
 use Rattle.td_order.specs.Insertions.{dot_lt, same_id, same_slot, ids_from, ids_of}
 use Rattle.td_order.specs.Place.{precedes, siblings, smaller_siblings, place, put_beside, has_some}
 use Rattle.td_order.specs.Order.{placed}
-
-pub not_true : (b : Bool) → not b ≡ true → b ≡ false
-not_true true h = absurd (true≢false (sym h))
-not_true false h = refl
-
-pub not_false : (b : Bool) → b ≡ false → not b ≡ true
-not_false true h = absurd (true≢false h)
-not_false false h = refl
 
 -- what a list has after placing
 In-put_beside : (s : Slot) (ids list : List AtomIdValue) (y : AtomIdValue) → In y (put_beside s ids list) → In y ids ⊎ In y list
@@ -28,7 +23,7 @@ In-put_beside (At x Left) ids list y h = In-put_before_first (same_id x) ids y l
 In-put_beside (At x Right) ids list y h = In-put_after_last (same_id x) ids y list h
 
 put_beside-In : (s : Slot) (ids list : List AtomIdValue) (y : AtomIdValue) → In y ids ⊎ In y list → In y (put_beside s ids list)
-put_beside-In Root ids list y h = ⊎_elim (λ i. In-left y ids list i) (λ j. In-right y ids list j) h
+put_beside-In Root ids list y h = ⊎_elim (λ i. In-front y ids list i) (λ j. In-back y ids list j) h
 put_beside-In (At x Left) ids list y h = put_before_first-In (same_id x) ids y list h
 put_beside-In (At x Right) ids list y h = put_after_last-In (same_id x) ids y list h
 
@@ -66,18 +61,18 @@ pub record Sibling (os : List Insertion) (a c : Insertion) : Type 0 where
 pub sibling_of : (os : List Insertion) (a c : Insertion) → In c (siblings os a) → Sibling os a c
 sibling_of os a c h =
     let r = In-filter (λ c. same_slot c.slot a.slot && not (precedes c a)) c os h in
-    let p = and_true _ _ r.1 in
-    record { inside = r.0; slot = same_slot_true c.slot a.slot p.0; apart = not_true (precedes c a) p.1 }
+    let p = and_parts _ _ r.1 in
+    record { inside = r.0; slot = same_slot_true c.slot a.slot p.0; apart = not-true (precedes c a) p.1 }
 
 pub of_sibling : (os : List Insertion) (a c : Insertion) → Sibling os a c → In c (siblings os a)
 of_sibling os a c h =
-    filter-In (λ c. same_slot c.slot a.slot && not (precedes c a)) c os h.inside (and_both _ _ (same_slot_refl c.slot a.slot h.slot) (not_false (precedes c a) h.apart))
+    filter_In (λ c. same_slot c.slot a.slot && not (precedes c a)) c os h.inside (and_from _ _ (same_slot_refl c.slot a.slot h.slot) (not_from_false (precedes c a) h.apart))
 
 pub smaller_of : (os : List Insertion) (a c : Insertion) → In c (smaller_siblings os a) → Sibling os a c × (dot_lt c.dot a.dot ≡ true)
 smaller_of os a c h = let r = In-filter (λ c. dot_lt c.dot a.dot) c (siblings os a) h in (sibling_of os a c r.0, r.1)
 
 pub of_smaller : (os : List Insertion) (a c : Insertion) → Sibling os a c → dot_lt c.dot a.dot ≡ true → In c (smaller_siblings os a)
-of_smaller os a c h e = filter-In (λ c. dot_lt c.dot a.dot) c (siblings os a) (of_sibling os a c h) e
+of_smaller os a c h e = filter_In (λ c. dot_lt c.dot a.dot) c (siblings os a) (of_sibling os a c h) e
 
 pub dot_apart : (d e : DotValue) → dot_lt d e ≡ true → dot_lt e d ≡ true → ⊥
 dot_apart d e h k =
@@ -102,15 +97,16 @@ module _ (K : AtomIdValue → ℕ → Key) (rank : Insertion → ℕ) where
   pub atom_key : (os : List Insertion) (a : Insertion) → Fits K rank a os → (z : AtomIdValue) → In z (ids_of a) → (o : ℕ) × (K z 1 ≡ slot_key K a.slot ++ (step (rank a) a.dot o 1 ∷ []))
   atom_key os a f z i = let o = ids_dot a.dot 0 a.run z i in (o.0, ap (λ x. K x 1) o.1 ∙ f.key o.0 1)
 
-  pub ids_rise_from : (os : List Insertion) (a : Insertion) → Fits K rank a os → (k : ℕ) (run : List (List ℕ)) → Successive IdLt (ids_from a.dot k run)
-  ids_rise_from os a f k [] = tt
-  ids_rise_from os a f k (x ∷ run) = (
-    (λ y i.
+  pub ids_rise_from : (a : Insertion) → ((offset side : ℕ) → K (id_of a.dot offset) side ≡ slot_key K a.slot ++ (step (rank a) a.dot offset side ∷ []))
+      → (k : ℕ) (run : List (List ℕ)) → Successive IdLt (ids_from a.dot k run)
+  ids_rise_from a key k [] = tt
+  ids_rise_from a key k (x ∷ run) = (
+    all_of (IdLt (id_of a.dot k)) (ids_from a.dot (suc k) run) (λ y i.
         let o = ids_dot a.dot (suc k) run y i in
         let lt : k < o.0 = omega (arith, o.2) in
         let less : KeyLt (slot_key K a.slot ++ (step (rank a) a.dot k 1 ∷ [])) (slot_key K a.slot ++ (step (rank a) a.dot o.0 1 ∷ [])) =
         lex_append StepLt step_strict (slot_key K a.slot) _ _ (inl (inr (refl, inr (refl, inr (refl, inl lt))))) in
         subst (λ (w : AtomIdValue). IdLt (id_of a.dot k) w) (sym o.1)
-        (subst (λ (v : Key). KeyLt v (K (id_of a.dot o.0) 1)) (sym (f.key k 1)) (subst (λ (v : Key). KeyLt (slot_key K a.slot ++ (step (rank a) a.dot k 1 ∷ [])) v) (sym (f.key o.0 1)) less))),
-    ids_rise_from os a f (suc k) run,
+        (subst (λ (v : Key). KeyLt v (K (id_of a.dot o.0) 1)) (sym (key k 1)) (subst (λ (v : Key). KeyLt (slot_key K a.slot ++ (step (rank a) a.dot k 1 ∷ [])) v) (sym (key o.0 1)) less))),
+    ids_rise_from a key (suc k) run,
   )

@@ -1,16 +1,17 @@
 -- The keys and ranks of one family, and that they fit each part of it.
 use Rattle.std.proofs.Common.{◌≡◌, ◌<◌, ◌≤◌, ◌-◌, ℕ, suc, List, [], ◌∷◌, ◌++◌, Bool, true, false, cond, ◌&&◌, length, refl, sym, ap, ◌∙◌, subst, inl, inr, ⊎_elim, true≢false, arith, le_antisymm}
-use Rattle.td_order.specs.Lists.{In, IsSublist}
+use Rattle.std.proofs.lemmas.Bool.{cases_Bool, and_parts, and_from}
+use Rattle.td_order.specs.Lists.{IsSublist}
 use Rattle.td_order.proofs.Family.{IsRooted, Follows, AllFollow, HasPasts}
 use Rattle.td_base.specs.Value.{AtomIdValue}
 use Rattle.td_base.specs.declared.bit.Bit.TheVariants.{Left, Right}
+use Rattle.td_base.specs.Lists.{In}
 use Rattle.td_path.specs.declared.slot.Slot.{Slot}
 use Rattle.td_path.specs.declared.slot.Slot.TheVariants.{Root, At}
 use Rattle.td_order.specs.declared.insertion.Insertion.{Insertion}
 use Rattle.td_order.specs.Insertions.{same_dot, same_slot}
 use Rattle.td_order.specs.Place.{precedes}
 use Rattle.td_order.specs.Order.{placed}
-use Rattle.td_order.proofs.ListLemmas.{bool_cases, and_true, and_both}
 use Rattle.td_order.proofs.Keys.{Key, key_strict, step, id_of, same_dot_true, same_dot_refl, same_slot_true, same_slot_refl}
 use Rattle.td_order.proofs.Fits.{slot_key, OlderRank, AllFit, ids_dot}
 use Rattle.td_order.proofs.Placing.{IdLt, id_trans, In-placed, placed-In}
@@ -81,7 +82,7 @@ module _ (rank : Insertion → ℕ) where
   key_tail : (o : Insertion) (os : List Insertion) (x : AtomIdValue) (t : ℕ) → (o.dot ≡ x.dot → ⊥) → key_in rank (o ∷ os) x t ≡ key_in rank os x t
   key_tail o os x t n =
       ap (λ b. cond b (slot_key (key_in rank os) o.slot ++ (step (rank o) o.dot x.offset t ∷ [])) (key_in rank os x t))
-      (⊎_elim (λ e. absurd (n (same_dot_true o.dot x.dot e))) (λ e. e) (bool_cases (same_dot o.dot x.dot)))
+      (⊎_elim (λ e. absurd (n (same_dot_true o.dot x.dot e))) (λ e. e) (cases_Bool (same_dot o.dot x.dot)))
 
   slot_tail : (o : Insertion) (os : List Insertion) → Follows o os → (s : Slot) → IsRooted os s → slot_key (key_in rank (o ∷ os)) s ≡ slot_key (key_in rank os) s
   slot_tail o os f Root h = refl
@@ -109,13 +110,13 @@ module _ (rank : Insertion → ℕ) where
 -- ranks by the whole fit every part
 module _ (all : List Insertion) (h : HasPasts all) where
   in_both : (d c : Insertion) → (same_slot d.slot c.slot && precedes d c) ≡ true → (d.slot ≡ c.slot) × (precedes d c ≡ true)
-  in_both d c e = let p = and_true _ _ e in (same_slot_true d.slot c.slot p.0, p.1)
+  in_both d c e = let p = and_parts _ _ e in (same_slot_true d.slot c.slot p.0, p.1)
 
   to_both : (d c : Insertion) → d.slot ≡ c.slot → precedes d c ≡ true → (same_slot d.slot c.slot && precedes d c) ≡ true
-  to_both d c e p = and_both _ _ (same_slot_refl d.slot c.slot e) p
+  to_both d c e p = and_from _ _ (same_slot_refl d.slot c.slot e) p
 
   not_itself : (c : Insertion) → In c all → (same_slot c.slot c.slot && precedes c c) ≡ false
-  not_itself c i = ⊎_elim (λ e. absurd (true≢false (sym (in_both c c e).1 ∙ h.apart c i))) (λ e. e) (bool_cases (same_slot c.slot c.slot && precedes c c))
+  not_itself c i = ⊎_elim (λ e. absurd (true≢false (sym (in_both c c e).1 ∙ h.apart c i))) (λ e. e) (cases_Bool (same_slot c.slot c.slot && precedes c c))
 
   pub fewer : (c a : Insertion) → In c all → In a all → c.slot ≡ a.slot → precedes c a ≡ true → before all c < before all a
   fewer c a i j s p =

@@ -1,13 +1,15 @@
 -- The rules on two atoms fix the order: where two keys first differ, a rule says which atom stands first.
 use Rattle.std.proofs.Common.{◌≡◌, ◌≢◌, ◌⊎◌, ◌<◌, ℕ, List, [], ◌∷◌, ◌++◌, true, false, refl, sym, ap, ◌∙◌, subst, inl, inr, ⊎_elim, arith, append_assoc}
+use Rattle.std.proofs.lemmas.Bool.{cases_Bool}
 use Rattle.td_base.specs.declared.bit.Bit.TheVariants.{Left, Right}
 use Rattle.td_base.specs.Value.{DotValue, AtomIdValue}
+use Rattle.td_base.specs.Lists.{In, Successive}
+use Rattle.td_base.proofs.Lists.{all_in, all_of}
 use Rattle.td_path.specs.declared.slot.Slot.{Slot}
 use Rattle.td_path.specs.declared.slot.Slot.TheVariants.{Root, At}
 use Rattle.td_op.specs.Op.{OpValue}
 use Rattle.td_order.specs.declared.insertion.Insertion.{Insertion}
 use Rattle.td_order.specs.Insertions.{IsInsertionOf, dot_lt, ids_of}
-use Rattle.td_order.specs.Lists.{In, Successive}
 use Rattle.td_order.specs.LineUp.{line_up}
 use Rattle.td_order.specs.Under.{under}
 use Rattle.td_order.specs.Place.{precedes}
@@ -15,7 +17,6 @@ use Rattle.td_order.specs.Order.{order}
 use Rattle.td_order.specs.Causal.{HasEpochs, IsWellRooted}
 use Rattle.td_order.specs.Standing.{HangsAt, HangsOn, the_atom, on_a_side, ObeysRules, StandsBefore, StandsNearer, StandsOnSide}
 use Rattle.td_order.proofs.Lex.{Tri, below, same, above}
-use Rattle.td_order.proofs.ListLemmas.{bool_cases}
 use Rattle.td_order.proofs.Keys.{Key, StepLt, KeyLt, key_strict, step, id_of, dot_lt_from}
 use Rattle.td_order.proofs.Family.{Names, IsRooted}
 use Rattle.td_order.proofs.Fits.{slot_key, OlderRank, Found, find, key_end, ids_dot, rooted_at, same_insert, slot_key_same, snoc_last, snoc_not_nil}
@@ -93,7 +94,7 @@ before_trans [] d x z y h k = h
 before_trans (w ∷ list) d x z y h k =
     ⊎_elim
     (λ (a : (x ≡ w) × In z list). inl (a.0, ⊎_elim (λ (b : (z ≡ w) × In y list). b.1) (λ b. second_in list z y b) k))
-    (λ (a : StandsBefore list x z). ⊎_elim (λ (b : (z ≡ w) × In y list). absurd (d.0 z (second_in list x z a) (sym b.0))) (λ b. inr (before_trans list d.1 x z y a b)) k)
+    (λ (a : StandsBefore list x z). ⊎_elim (λ (b : (z ≡ w) × In y list). absurd (all_in (λ (v : AtomIdValue). w ≢ v) list d.0 z (second_in list x z a) (sym b.0))) (λ b. inr (before_trans list d.1 x z y a b)) k)
     h
 
 -- a list whose atoms stand as a strict order has them rises by it
@@ -101,15 +102,18 @@ rises_as : (lt : AtomIdValue → AtomIdValue → Type 0) (list : List AtomIdValu
     → Distinct list → ((x y : AtomIdValue) → In x list → In y list → lt x y → StandsBefore list x y) → Successive lt list
 rises_as lt [] tri d h = tt
 rises_as lt (w ∷ list) tri d h = (
-  (λ z i. at z i (tri w z (inl refl) (inr i))),
+  all_of (lt w) list (λ z i. at z i (tri w z (inl refl) (inr i))),
   rises_as lt list (λ x y i j. tri x y (inr i) (inr j)) d.1 (λ x y i j k.
-      ⊎_elim (λ (a : (x ≡ w) × In y list). absurd (d.0 x i (sym a.0))) (λ b. b) (h x y (inr i) (inr j) k)),
+      ⊎_elim (λ (a : (x ≡ w) × In y list). absurd (other x i (sym a.0))) (λ b. b) (h x y (inr i) (inr j) k)),
 )
   where
+    other : (z : AtomIdValue) → In z list → w ≢ z
+    other = all_in (λ (v : AtomIdValue). w ≢ v) list d.0
+
     at : (z : AtomIdValue) → In z list → Tri lt w z → lt w z
     at z i (below a) = a
-    at z i (same e) = absurd (d.0 z i e)
-    at z i (above a) = absurd (⊎_elim (λ (b : (z ≡ w) × In w list). d.0 w b.1 refl) (λ b. d.0 w (second_in list z w b) refl) (h z w (inr i) (inl refl) a))
+    at z i (same e) = absurd (other z i e)
+    at z i (above a) = absurd (⊎_elim (λ (b : (z ≡ w) × In w list). other w b.1 refl) (λ b. other w (second_in list z w b) refl) (h z w (inr i) (inl refl) a))
 
 module _ (ops : List OpValue) (W : IsWellRooted ops) (E : HasEpochs ops) (list : List AtomIdValue) (R : ObeysRules ops list) where
   abbrev as_line : List Insertion
@@ -261,7 +265,7 @@ module _ (ops : List OpValue) (W : IsWellRooted ops) (E : HasEpochs ops) (list :
       let h = hang f.ins f.inside x n f.above in
       let k = hang g.ins g.inside y m g.above in
       ⊎_elim
-      (λ r. by_rank_at f.ins g.ins i j slots r x y h k (bool_cases (precedes f.ins g.ins)) (bool_cases (precedes g.ins f.ins)))
+      (λ r. by_rank_at f.ins g.ins i j slots r x y h k (cases_Bool (precedes f.ins g.ins)) (cases_Bool (precedes g.ins f.ins)))
       (λ (r : (rk f.ins ≡ rk g.ins) × ((dot_lt f.ins.dot g.ins.dot ≡ true) ⊎ ((f.ins.dot ≡ g.ins.dot) × ((f.offset < g.offset) ⊎ ((f.offset ≡ g.offset) × (f.side < g.side)))))).
       ⊎_elim
       (λ d. by_dot_at f.ins g.ins i j slots r.0 d x y h k)

@@ -6,17 +6,17 @@ use Rattle.std.specs.List.{concat, list_any}
 use Rattle.std.specs.List.Sorted.{IsPermutation}
 use Rattle.std.proofs.lemmas.List.Sorted.{IsPermutation-sym}
 use Rattle.td_base.specs.Value.{AtomIdValue}
+use Rattle.td_base.specs.Lists.{In}
+use Rattle.td_base.proofs.Lists.{any_found, any_from, all_in}
 use Rattle.td_op.specs.Op.{OpValue}
 use Rattle.td_order.specs.declared.insertion.Insertion.{Insertion}
 use Rattle.td_order.specs.Insertions.{insertion_of, insertions, same_dot}
-use Rattle.td_order.specs.Lists.{In}
 use Rattle.td_order.specs.LineUp.{DotsDiffer}
 use Rattle.td_order.specs.Order.{placed, order}
 use Rattle.td_order.specs.Show.{atom_of, deletes, is_deleted, show}
-use Rattle.td_order.proofs.ListLemmas.{any_found, any_from}
 use Rattle.td_order.proofs.PassedTests.{same_dot_true}
 use Rattle.td_order.proofs.InsertionLemmas.{from_op, In-insertions, insertions-In}
-use Rattle.td_order.proofs.LineUpLemmas.{both_tests, one_line_up, differ_permuted, permuted}
+use Rattle.td_order.proofs.LineUpLemmas.{both_tests, one_line_up, differ_permuted, permuted, OtherDot}
 
 found_at : {X : Type 0} (test : X → Bool) (y : X) (ys : List X) (b : Bool) (x : X) → test y ≡ b → (find test ys ≡ Some x → In x ys × (test x ≡ true)) → cond b (Some y) (find test ys) ≡ Some x → In x (y ∷ ys) × (test x ≡ true)
 found_at test y ys true x t rest e = let p : y ≡ x = cc in (inl (sym p), subst (λ z. test z ≡ true) p t)
@@ -39,8 +39,8 @@ pub one_op : (ops : List OpValue) → DotsDiffer ops → (o p : OpValue) → In 
 one_op [] d o p i j e = absurd i
 one_op (q ∷ ops) d o p i j e =
     ⊎_elim
-    (λ (k : o ≡ q). ⊎_elim (λ (l : p ≡ q). k ∙ sym l) (λ l. absurd (d.0 p l (ap (λ (x : OpValue). x.dot) (sym k) ∙ e))) j)
-    (λ (k : In o ops). ⊎_elim (λ (l : p ≡ q). absurd (d.0 o k (ap (λ (x : OpValue). x.dot) (sym l) ∙ sym e))) (λ l. one_op ops d.1 o p k l e) j)
+    (λ (k : o ≡ q). ⊎_elim (λ (l : p ≡ q). k ∙ sym l) (λ l. absurd (all_in (OtherDot q) ops d.0 p l (ap (λ (x : OpValue). x.dot) (sym k) ∙ e))) j)
+    (λ (k : In o ops). ⊎_elim (λ (l : p ≡ q). absurd (all_in (OtherDot q) ops d.0 o k (ap (λ (x : OpValue). x.dot) (sym l) ∙ sym e))) (λ l. one_op ops d.1 o p k l e) j)
     i
 
 abbrev with_dot : AtomIdValue → Insertion → Bool

@@ -5,20 +5,22 @@ use Rattle.std.proofs.lemmas.List.{append-nil}
 use Rattle.std.specs.List.{cons_option, list_any}
 use Rattle.td_base.specs.declared.bit.Bit.TheVariants.{Left, Right}
 use Rattle.td_base.specs.Value.{DotValue, AtomIdValue}
+use Rattle.td_base.specs.Lists.{In, Successive}
+use Rattle.td_base.proofs.Lists.{In-front, In-back, In-append, successive_append, all_in, all_of, across, successive_back, successive_front}
 use Rattle.td_path.specs.declared.slot.Slot.{Slot}
 use Rattle.td_path.specs.declared.slot.Slot.TheVariants.{Root, At}
 use Rattle.td_op.specs.Op.{OpValue}
 use Rattle.td_order.specs.declared.insertion.Insertion.{Insertion}
 use Rattle.td_order.specs.Insertions.{IsAtomOf, ids_from, ids_of, insertion_of, insertions, same_id}
-use Rattle.td_order.specs.Lists.{In, Successive, IsSpliced}
+use Rattle.td_order.specs.Lists.{IsSpliced}
 use Rattle.td_order.specs.LineUp.{line_up, DotsDiffer}
 use Rattle.td_order.specs.Place.{place, put_after_last, put_before_first, put_beside, siblings, smaller_siblings, has_some}
 use Rattle.td_order.specs.Order.{placed, order}
-use Rattle.td_order.proofs.ListLemmas.{In-left, In-right, In-append, rises_append}
 use Rattle.td_order.proofs.Fits.{ids_dot}
 use Rattle.td_order.proofs.Placing.{In-placed, placed-In}
 use Rattle.td_order.proofs.InsertionLemmas.{from_op, In-insertions, insertions-In}
 use Rattle.td_order.proofs.LineUpLemmas.{In-line_up, line_up-In, apart_line_up}
+use Rattle.td_order.proofs.Keys.{id_of}
 
 at_front : {X : Type 0} (xs list : List X) → IsSpliced xs list (xs ++ list)
 at_front xs list = record { front = []; back = list; was = refl; is = refl }
@@ -53,44 +55,29 @@ place_spliced before list a =
     either (ids_of a) list (has_some (smaller_siblings before a)) _ _ (after_spliced _ (ids_of a) list)
     (either (ids_of a) list (has_some (siblings before a)) _ _ (before_spliced _ (ids_of a) list) (beside_spliced a.slot (ids_of a) list))
 
--- parts of a list of which R holds of each element and each that follows it
-module _ {X : Type 0} (R : X → X → Type 0) where
-  front_successive : (xs ys : List X) → Successive R (xs ++ ys) → Successive R xs
-  front_successive [] ys h = tt
-  front_successive (x ∷ xs) ys h = ((λ y i. h.0 y (In-left y xs ys i)), front_successive xs ys h.1)
-
-  back_successive : (xs ys : List X) → Successive R (xs ++ ys) → Successive R ys
-  back_successive [] ys h = h
-  back_successive (x ∷ xs) ys h = back_successive xs ys h.1
-
-  across : (xs ys : List X) → Successive R (xs ++ ys) → (x y : X) → In x xs → In y ys → R x y
-  across [] ys h x y i j = absurd i
-  across (z ∷ xs) ys h x y i j =
-      ⊎_elim (λ (e : x ≡ z). subst (λ w. R w y) (sym e) (h.0 y (In-right y xs ys j))) (λ k. across xs ys h.1 x y k j) i
-
 abbrev pub Distinct : {X : Type 0} → List X → Type 0
 Distinct xs = Successive (λ x y. x ≢ y) xs
 
 append_distinct : {X : Type 0} (xs ys : List X) → Distinct xs → Distinct ys → ((x : X) → In x xs → In x ys → ⊥) → Distinct (xs ++ ys)
-append_distinct {X} xs ys d e n = rises_append (λ (x y : X). x ≢ y) xs ys d e (λ x y i j p. n x i (subst (λ z. In z ys) (sym p) j))
+append_distinct {X} xs ys d e n = successive_append (λ (x y : X). x ≢ y) xs ys d e (λ x y i j p. n x i (subst (λ z. In z ys) (sym p) j))
 
 In-append_at : {X : Type 0} (x : X) (xs ys zs : List X) → zs ≡ xs ++ ys → In x xs ⊎ In x ys → In x zs
-In-append_at x xs ys zs e h = subst (λ w. In x w) (sym e) (⊎_elim (λ i. In-left x xs ys i) (λ j. In-right x xs ys j) h)
+In-append_at x xs ys zs e h = subst (λ w. In x w) (sym e) (⊎_elim (λ i. In-front x xs ys i) (λ j. In-back x xs ys j) h)
 
 spliced_distinct : {X : Type 0} (xs list all : List X) → IsSpliced xs list all → Distinct xs → Distinct list → ((x : X) → In x xs → In x list → ⊥) → Distinct all
 spliced_distinct {X} xs list all s d e n =
     let D : X → X → Type 0 = λ x y. x ≢ y in
     let whole : Distinct (s.front ++ s.back) = subst (λ w. Distinct w) s.was e in
     let end : Distinct (xs ++ s.back) =
-    append_distinct xs s.back d (back_successive D s.front s.back whole) (λ x i j. n x i (In-append_at x s.front s.back list s.was (inr j))) in
+    append_distinct xs s.back d (successive_back D s.front s.back whole) (λ x i j. n x i (In-append_at x s.front s.back list s.was (inr j))) in
     subst (λ w. Distinct w) (sym s.is)
-    (append_distinct s.front (xs ++ s.back) (front_successive D s.front s.back whole) end
+    (append_distinct s.front (xs ++ s.back) (successive_front D s.front s.back whole) end
     (λ x i j. ⊎_elim (λ k. n x k (In-append_at x s.front s.back list s.was (inl i))) (λ k. across D s.front s.back whole x x i k refl) (In-append x xs s.back j)))
 
 ids_distinct : (d : DotValue) (k : ℕ) (run : List (List ℕ)) → Distinct (ids_from d k run)
 ids_distinct d k [] = tt
 ids_distinct d k (atom ∷ run) = (
-  (λ y i e.
+  all_of (λ (y : AtomIdValue). id_of d k ≢ y) (ids_from d (suc k) run) (λ y i e.
       let o = ids_dot d (suc k) run y i in
       let same : k ≡ o.0 = ap (λ (x : AtomIdValue). x.offset) (e ∙ o.1) in
       omega (arith, same, o.2)),
@@ -103,11 +90,11 @@ InsertionsDiffer list = Successive (λ (a c : Insertion). a.dot ≢ c.dot) list
 insertions_differ_at : (o : OpValue) (ops : List OpValue) (m : Option Insertion) → insertion_of o ≡ m → ((p : OpValue) → In p ops → o.dot ≢ p.dot) → InsertionsDiffer (insertions ops) → InsertionsDiffer (cons_option m (insertions ops))
 insertions_differ_at o ops None e h rest = rest
 insertions_differ_at o ops (Some a) e h rest =
-    ((λ c i d. let p = In-insertions ops c i in h p.0 p.1 (sym (from_op o a e).dot ∙ (d ∙ (from_op p.0 c p.2).dot))), rest)
+    (all_of (λ (c : Insertion). a.dot ≢ c.dot) (insertions ops) (λ c i d. let p = In-insertions ops c i in h p.0 p.1 (sym (from_op o a e).dot ∙ (d ∙ (from_op p.0 c p.2).dot))), rest)
 
 insertions_differ : (ops : List OpValue) → DotsDiffer ops → InsertionsDiffer (insertions ops)
 insertions_differ [] d = tt
-insertions_differ (o ∷ ops) d = insertions_differ_at o ops (insertion_of o) refl d.0 (insertions_differ ops d.1)
+insertions_differ (o ∷ ops) d = insertions_differ_at o ops (insertion_of o) refl (all_in (λ (p : OpValue). o.dot ≢ p.dot) ops d.0) (insertions_differ ops d.1)
 
 dot_of_id : (a : Insertion) (x : AtomIdValue) → In x (ids_of a) → x.dot ≡ a.dot
 dot_of_id a x i = ap (λ (y : AtomIdValue). y.dot) (ids_dot a.dot 0 a.run x i).1
@@ -116,7 +103,7 @@ placed_distinct : (list : List Insertion) → InsertionsDiffer list → Distinct
 placed_distinct [] d = tt
 placed_distinct (a ∷ list) d =
     spliced_distinct (ids_of a) (placed list) (place list (placed list) a) (place_spliced list (placed list) a) (ids_distinct a.dot 0 a.run) (placed_distinct list d.1)
-    (λ x i j. let n = In-placed list x j in d.0 n.0 n.1 (sym (dot_of_id a x i) ∙ dot_of_id n.0 x n.2))
+    (λ x i j. let n = In-placed list x j in all_in (λ (c : Insertion). a.dot ≢ c.dot) list d.0 n.0 n.1 (sym (dot_of_id a x i) ∙ dot_of_id n.0 x n.2))
 
 pub order_distinct : (ops : List OpValue) → DotsDiffer ops → Distinct (order ops)
 order_distinct ops d = placed_distinct (insertions (line_up ops)) (insertions_differ (line_up ops) (apart_line_up ops d))

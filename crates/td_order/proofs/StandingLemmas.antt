@@ -1,15 +1,17 @@
 -- Where atoms stand in the order, by their keys.
 use Rattle.std.proofs.Common.{◌≡◌, ◌<◌, ℕ, List, [], ◌∷◌, ◌++◌, true, false, length, refl, sym, ap, ◌∙◌, subst, inl, inr, ⊎_elim, arith, append_assoc}
 use Rattle.std.specs.Prelude.{IsTrue}
+use Rattle.std.proofs.lemmas.Bool.{cases_Bool}
 use Rattle.td_base.specs.declared.bit.Bit.{Bit}
 use Rattle.td_base.specs.declared.bit.Bit.TheVariants.{Left, Right}
 use Rattle.td_base.specs.Value.{AtomIdValue}
+use Rattle.td_base.specs.Lists.{In, Successive}
+use Rattle.td_base.proofs.Lists.{all_in}
 use Rattle.td_path.specs.declared.slot.Slot.{Slot}
 use Rattle.td_path.specs.declared.slot.Slot.TheVariants.{Root, At}
 use Rattle.td_op.specs.Op.{OpValue}
 use Rattle.td_order.specs.declared.insertion.Insertion.{Insertion}
 use Rattle.td_order.specs.Insertions.{IsInsertionOf, dot_lt, ids_of, insertions}
-use Rattle.td_order.specs.Lists.{In, Successive}
 use Rattle.td_order.specs.LineUp.{line_up}
 use Rattle.td_order.specs.Under.{under}
 use Rattle.td_order.specs.Place.{precedes}
@@ -17,7 +19,6 @@ use Rattle.td_order.specs.Order.{order}
 use Rattle.td_order.specs.Causal.{HasEpochs, IsWellRooted}
 use Rattle.td_order.specs.Standing.{HangsAt, HangsOn, the_atom, on_a_side, StandsBefore, StandsOnSide, StandsNearer}
 use Rattle.td_order.proofs.Lex.{lex_append}
-use Rattle.td_order.proofs.ListLemmas.{bool_cases}
 use Rattle.td_order.proofs.Keys.{Key, StepLt, KeyLt, key_strict, step_strict, id_of, step, rank_first, dot_first}
 use Rattle.td_order.proofs.Family.{Names, IsRooted, AllFollow, HasPasts}
 use Rattle.td_order.proofs.Fits.{slot_key, OlderRank, AllFit, fits_at, key_end, rooted_at, same_insert, under_key, ids_dot}
@@ -36,7 +37,7 @@ stands lt irrefl trans (w ∷ list) r x y i j h =
     ⊎_elim
     (λ (e : x ≡ w). ⊎_elim (λ (g : y ≡ w). absurd (irrefl x (subst (λ z. lt x z) (g ∙ sym e) h))) (λ k. inl (e, k)) j)
     (λ (k : In x list). ⊎_elim
-    (λ (g : y ≡ w). absurd (irrefl x (trans x y x h (subst (λ z. lt z x) (sym g) (r.0 x k)))))
+    (λ (g : y ≡ w). absurd (irrefl x (trans x y x h (subst (λ z. lt z x) (sym g) (all_in (lt w) list r.0 x k)))))
     (λ l. inr (stands lt irrefl trans list r.1 x y k l h)) j)
     i
 
@@ -111,7 +112,7 @@ module _ (ops : List OpValue) (W : IsWellRooted ops) (E : HasEpochs ops) where
       ∙ ap (λ n. rank_at c.slot (length line) n) (equally line history b c (in_line b i) (in_line c j) s p q)
 
   not_true : (b c : Insertion) → ¬ IsTrue (precedes b c) → precedes b c ≡ false
-  not_true b c n = ⊎_elim (λ t. absurd (n t)) (λ f. f) (bool_cases (precedes b c))
+  not_true b c n = ⊎_elim (λ t. absurd (n t)) (λ f. f) (cases_Bool (precedes b c))
 
   by_dot : (b c : Insertion) → IsInsertionOf ops b → IsInsertionOf ops c → b.slot ≡ c.slot → ¬ IsTrue (precedes b c) → ¬ IsTrue (precedes c b) → IsTrue (dot_lt b.dot c.dot)
       → (x y : AtomIdValue) → HangsOn ops b x → HangsOn ops c y → StandsBefore (order ops) x y

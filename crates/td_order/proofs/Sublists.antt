@@ -1,7 +1,8 @@
 -- Two lists in one strict order: the elements of the one among those of the other, or the same.
 use Rattle.std.proofs.Common.{◌≡◌, List, [], ◌∷◌, refl, sym, ◌∙◌, subst, inl, inr, ⊎_elim}
-use Rattle.td_order.specs.Lists.{In, IsSublist, done, kept, left_out}
-use Rattle.td_order.proofs.ListLemmas.{Successive}
+use Rattle.td_base.specs.Lists.{In, Successive}
+use Rattle.td_base.proofs.Lists.{all_in}
+use Rattle.td_order.specs.Lists.{IsSublist, done, kept, left_out}
 
 sublist_nil : {X : Type 0} (ys : List X) → IsSublist [] ys
 sublist_nil [] = done
@@ -15,13 +16,13 @@ module _ {X : Type 0} (lt : X → X → Type 0) (irrefl : (x : X) → lt x x →
       ⊎_elim
       (λ (e : x ≡ y).
       subst (λ z. IsSublist (x ∷ xs) (z ∷ ys)) e
-      (kept x (sublist ys xs r.1 q.1 (λ z i. ⊎_elim (λ (p : z ≡ y). absurd (irrefl x (subst (λ w. lt x w) (p ∙ sym e) (r.0 z i)))) (λ k. k) (h z (inr i))))))
+      (kept x (sublist ys xs r.1 q.1 (λ z i. ⊎_elim (λ (p : z ≡ y). absurd (irrefl x (subst (λ w. lt x w) (p ∙ sym e) (all_in (lt x) xs r.0 z i)))) (λ k. k) (h z (inr i))))))
       (λ (k : In x ys).
       left_out y (sublist ys (x ∷ xs) r q.1 (λ z i.
       ⊎_elim
       (λ (p : z ≡ y). absurd (⊎_elim
-      (λ (e : z ≡ x). irrefl y (subst (λ w. lt y w) (sym e ∙ p) (q.0 x k)))
-      (λ j. irrefl y (subst (λ w. lt y w) p (trans y x z (q.0 x k) (r.0 z j)))) i))
+      (λ (e : z ≡ x). irrefl y (subst (λ w. lt y w) (sym e ∙ p) (all_in (lt y) ys q.0 x k)))
+      (λ j. irrefl y (subst (λ w. lt y w) p (trans y x z (all_in (lt y) ys q.0 x k) (all_in (lt x) xs r.0 z j)))) i))
       (λ l. l)
       (h z i))))
       (h x (inl refl))
@@ -32,9 +33,9 @@ module _ {X : Type 0} (lt : X → X → Type 0) (irrefl : (x : X) → lt x x →
   one_rising [] (y ∷ ys) r q h k = absurd (k y (inl refl))
   one_rising (x ∷ xs) [] r q h k = absurd (h x (inl refl))
   one_rising (x ∷ xs) (y ∷ ys) r q h k =
-      let first : x ≡ y = ⊎_elim (λ e. e) (λ (i : In x ys). ⊎_elim (λ e. sym e) (λ (j : In y xs). absurd (irrefl x (trans x y x (r.0 y j) (q.0 x i)))) (k y (inl refl))) (h x (inl refl)) in
+      let first : x ≡ y = ⊎_elim (λ e. e) (λ (i : In x ys). ⊎_elim (λ e. sym e) (λ (j : In y xs). absurd (irrefl x (trans x y x (all_in (lt x) xs r.0 y j) (all_in (lt y) ys q.0 x i)))) (k y (inl refl))) (h x (inl refl)) in
       let rest : xs ≡ ys =
       one_rising xs ys r.1 q.1
-      (λ z i. ⊎_elim (λ (e : z ≡ y). absurd (irrefl x (subst (λ w. lt x w) (e ∙ sym first) (r.0 z i)))) (λ j. j) (h z (inr i)))
-      (λ z i. ⊎_elim (λ (e : z ≡ x). absurd (irrefl y (subst (λ w. lt y w) (e ∙ first) (q.0 z i)))) (λ j. j) (k z (inr i))) in
+      (λ z i. ⊎_elim (λ (e : z ≡ y). absurd (irrefl x (subst (λ w. lt x w) (e ∙ sym first) (all_in (lt x) xs r.0 z i)))) (λ j. j) (h z (inr i)))
+      (λ z i. ⊎_elim (λ (e : z ≡ x). absurd (irrefl y (subst (λ w. lt y w) (e ∙ first) (all_in (lt y) ys q.0 z i)))) (λ j. j) (k z (inr i))) in
       λ i. first i ∷ rest i

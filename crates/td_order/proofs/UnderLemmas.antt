@@ -1,17 +1,17 @@
 -- What is under what by slots, and by the walk over the line-up, is one.
 use Rattle.std.proofs.Common.{◌≡◌, ◌⊎◌, List, [], ◌∷◌, Some, true, false, cond, ◌||◌, refl, sym, ap, ◌∙◌, subst, inl, inr, ⊎_elim, true≢false}
 use Rattle.std.specs.Prelude.{◌↔◌, IsTrue}
+use Rattle.std.proofs.lemmas.Bool.{cases_Bool, or_cases, or_left, or_right}
 use Rattle.td_base.specs.Value.{DotValue, AtomIdValue}
+use Rattle.td_base.specs.Lists.{In}
 use Rattle.td_path.specs.declared.slot.Slot.{Slot}
 use Rattle.td_path.specs.declared.slot.Slot.TheVariants.{Root, At}
 use Rattle.td_op.specs.Op.{OpValue}
 use Rattle.td_order.specs.declared.insertion.Insertion.{Insertion}
 use Rattle.td_order.specs.Insertions.{IsInsertionOf, ids_of, insertion_of, insertions, same_dot}
-use Rattle.td_order.specs.Lists.{In}
 use Rattle.td_order.specs.LineUp.{line_up}
 use Rattle.td_order.specs.Under.{IsUnder, NamesAtomOf, itself, by_slot, names_under, under}
 use Rattle.td_order.specs.Causal.{IsWellRooted}
-use Rattle.td_order.proofs.ListLemmas.{bool_cases, or_true, or_left, or_right}
 use Rattle.td_order.proofs.PassedTests.{same_dot_true, same_dot_refl}
 use Rattle.td_order.proofs.Family.{Names, IsRooted, AllFollow}
 use Rattle.td_order.proofs.Fits.{ids_dot, under_head, under_tail}
@@ -108,14 +108,14 @@ module _ (ops : List OpValue) (W : IsWellRooted ops) where
       ⊎_elim
       (λ (k : same_dot c.dot b.dot ≡ true). subst (λ z. IsUnder ops b z) (sym (one_insertion c b j i (same_dot_true c.dot b.dot k))) itself)
       (λ (k : names_under (under os b.dot) a.slot ≡ true). subst (λ z. IsUnder ops b z) one (by_names os rel (λ d l. w d (inr l)) b a i a.slot refl F.0.rooted k))
-      (or_true _ _ here))
+      (or_cases _ _ here))
       (λ (e : same_dot a.dot c.dot ≡ false).
       rel b c i j (sym (ap (λ v. cond v (same_dot c.dot b.dot || names_under (under os b.dot) a.slot) (under os b.dot c.dot)) e) ∙ h))
       t
 
   relates : (os : List Insertion) → AllFollow os → ((d : Insertion) → In d os → IsInsertionOf ops d) → Relates os
   relates [] F w b c i j h = absurd (true≢false (sym h))
-  relates (a ∷ os) F w b c i j h = relates_at a os F (relates os F.1 (λ d l. w d (inr l))) w b c i j h (bool_cases (same_dot a.dot c.dot))
+  relates (a ∷ os) F w b c i j h = relates_at a os F (relates os F.1 (λ d l. w d (inr l))) w b c i j h (cases_Bool (same_dot a.dot c.dot))
 
   pub one_relation : (b c : Insertion) → IsInsertionOf ops b → IsInsertionOf ops c → IsTrue (under (insertions (line_up ops)) b.dot c.dot) ↔ IsUnder ops b c
   one_relation b c i j = (relates (insertions (line_up ops)) follows of_line b c i j, λ u. from_relation b c u i j)

@@ -1,5 +1,6 @@
 -- What is known of operations that sites made one after another, as far as their order asks for it.
 use Rattle.std.specs.Prelude.{◌≡◌, ◌≢◌, ◌⊎◌, List, [], length, IsTrue}
+use Rattle.td_base.specs.Lists.{In}
 use Rattle.td_clock.specs.Vector.{vector_covers}
 use Rattle.td_path.specs.declared.slot.Slot.{Slot}
 use Rattle.td_path.specs.declared.slot.Slot.TheVariants.{Root, At}
@@ -7,7 +8,6 @@ use Rattle.td_op.specs.Op.{OpValue, IsOp}
 use Rattle.td_op.specs.Past.{in_past}
 use Rattle.td_order.specs.declared.insertion.Insertion.{Insertion}
 use Rattle.td_order.specs.Insertions.{IsAtomOf, IsInsertionOf}
-use Rattle.td_order.specs.Lists.{In}
 use Rattle.td_order.specs.LineUp.{DotsDiffer}
 use Rattle.td_order.specs.Place.{precedes}
 

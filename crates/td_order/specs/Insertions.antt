@@ -4,13 +4,13 @@ use Rattle.std.specs.List.{filter_map}
 use Rattle.std.specs.Ordering.{is_eq, is_lt}
 use Rattle.td_base.specs.Value.{DotValue, AtomIdValue}
 use Rattle.td_base.specs.Order.{dot_cmp, id_cmp, bit_cmp}
+use Rattle.td_base.specs.Lists.{In}
 use Rattle.td_path.specs.declared.slot.Slot.{Slot}
 use Rattle.td_path.specs.declared.slot.Slot.TheVariants.{Root, At}
 use Rattle.td_op.specs.declared.body.Body.{Body}
 use Rattle.td_op.specs.declared.body.Body.TheVariants.{Insert, Delete, Propose, Commit, Abort}
 use Rattle.td_op.specs.Op.{OpValue}
 use Rattle.td_order.specs.declared.insertion.Insertion.{Insertion}
-use Rattle.td_order.specs.Lists.{In}
 
 -- the operation with this dot, these dependencies and this body as an insertion, where it is one
 abbrev pub insertion_by : DotValue → List ℕ → Body → Option Insertion

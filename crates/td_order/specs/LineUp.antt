@@ -6,10 +6,10 @@ use Rattle.std.specs.List.{list_any}
 use Rattle.std.specs.Ordering.{is_lt, nat_cmp, ordering_then}
 use Rattle.td_base.specs.Value.{DotValue}
 use Rattle.td_base.specs.Order.{dot_cmp}
+use Rattle.td_base.specs.Lists.{Successive}
 use Rattle.td_op.specs.Op.{OpValue}
 use Rattle.td_op.specs.Past.{op_sum}
 use Rattle.td_order.specs.Insertions.{same_dot}
-use Rattle.td_order.specs.Lists.{Successive}
 
 -- by sum, then by dot
 abbrev pub line_up_cmp : OpValue → OpValue → Ordering

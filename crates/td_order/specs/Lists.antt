@@ -1,14 +1,5 @@
--- Lists: what is in one, what holds of each element and each that follows it, and one with elements left out.
-use Rattle.std.specs.Prelude.{◌≡◌, ◌⊎◌, List, [], ◌∷◌, ◌++◌}
-
-abbrev pub In : {X : Type 0} → X → List X → Type 0
-In x [] = ⊥
-In x (y ∷ ys) = (x ≡ y) ⊎ In x ys
-
--- R holds of each element and each that follows it
-abbrev pub Successive : {X : Type 0} → (X → X → Type 0) → List X → Type 0
-Successive R [] = Unit {0}
-Successive {X} R (x ∷ xs) = ((y : X) → In y xs → R x y) × Successive R xs
+-- Lists: one with elements left out, and one with elements put in.
+use Rattle.std.specs.Prelude.{◌≡◌, List, [], ◌∷◌, ◌++◌}
 
 -- the first list is the second with some elements left out
 pub data IsSublist {X : Type 0} : List X → List X → Type 0 where

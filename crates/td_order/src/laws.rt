@@ -2,10 +2,11 @@
 ghost use Rattle.std.specs.Prelude.{◌≡◌, ◌≢◌, ◌↔◌, List, IsTrue};
 ghost use Rattle.std.specs.List.Sorted.{IsPermutation};
 ghost use Rattle.td_base.specs.Value.{AtomIdValue};
+ghost use Rattle.td_base.specs.Lists.{In, Successive};
 ghost use Rattle.td_op.specs.Op.{OpValue};
 ghost use Rattle.td_op.specs.Past.{in_past};
 ghost use Rattle.td_order.specs.declared.insertion.Insertion.{Insertion};
-ghost use Rattle.td_order.specs.Lists.{In, IsSpliced, Successive};
+ghost use Rattle.td_order.specs.Lists.{IsSpliced};
 ghost use Rattle.td_order.specs.Insertions.{IsAtomOf, ids_of};
 ghost use Rattle.td_order.specs.LineUp.{DotsDiffer, comes_before, line_up};
 ghost use Rattle.td_order.specs.Place.{place};

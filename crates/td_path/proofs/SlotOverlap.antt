@@ -2,6 +2,7 @@
 use Rattle.std.proofs.Common.{◌≡◌, [], ◌∷◌, Bool, true, false, ◌&&◌, ◌||◌, refl, sym, ap, ◌∙◌, true≢false}
 use Rattle.std.specs.Ordering.{is_eq, ordering_then}
 use Rattle.std.proofs.lemmas.Cmp.{tied_itself}
+use Rattle.std.proofs.lemmas.Bool.{or_left, or_right}
 use Rattle.td_base.specs.declared.bit.Bit.{Bit}
 use Rattle.td_base.specs.Order.{bit_cmp}
 use Rattle.td_path.specs.Infix.{Pair, Pairs, same_pair, path_cmp}
@@ -9,14 +10,6 @@ use Rattle.td_path.specs.SlotPaths.{goes_on, slot_contains, slot_contains_slot, 
 use Rattle.td_path.specs.declared.slot_path.SlotPath.{SlotPath}
 use Rattle.td_path.specs.declared.slot_path.SlotPath.TheVariants.{Whole, Below}
 use Rattle.td_path.proofs.InfixOrder.{bit_total, equal_bits, equal_pairs, same_pairs, is_eq_true, both_true}
-
-pub or_left : (a b : Bool) → a ≡ true → (a || b) ≡ true
-or_left true b h = refl
-or_left false b h = absurd (true≢false (sym h))
-
-pub or_right : (a b : Bool) → b ≡ true → (a || b) ≡ true
-or_right true b h = refl
-or_right false b h = h
 
 pub or_swap : (a b : Bool) → (a || b) ≡ (b || a)
 or_swap true true = refl

@@ -1,3 +1,4 @@
+pub mod Slot
 pub mod Infix
 pub mod SlotPaths
 pub mod Shape

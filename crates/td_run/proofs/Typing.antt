@@ -3,7 +3,8 @@ use Rattle.std.proofs.Common.{◌≡◌, ◌≤◌, ◌+◌, ℕ, List, [], ◌�
 use Rattle.std.specs.Prelude.{insert, IsNone}
 use Rattle.std.specs.List.{concat}
 use Rattle.td_base.specs.Value.{AtomIdValue}
-use Rattle.td_doc.specs.Document.{DocRow, row_id, find_row, live_rows, live_atoms, In}
+use Rattle.td_base.specs.Lists.{In}
+use Rattle.td_doc.specs.Document.{DocRow, row_id, find_row, live_rows, live_atoms}
 use Rattle.td_doc.specs.Allocation.{alloc, anchor}
 use Rattle.td_doc.proofs.Typing.{typed, count_of_atoms, anchor_row}
 use Rattle.td_doc.proofs.Rules.{insert_keeps, insert_adds, alloc_rooted, unfound}

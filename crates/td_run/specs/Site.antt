@@ -1,7 +1,8 @@
 -- The one site of a script, by the rows of its document.
 use Rattle.std.specs.Prelude.{◌≤◌, ◌+◌, ℕ, List, []}
 use Rattle.td_base.specs.Value.{AtomIdValue}
-use Rattle.td_doc.specs.Document.{DocRow, row_id, live_atoms, In, IsDocument}
+use Rattle.td_base.specs.Lists.{In}
+use Rattle.td_doc.specs.Document.{DocRow, row_id, live_atoms, IsDocument}
 use Rattle.td_doc.specs.Allocation.{alloc, anchor}
 use Rattle.td_doc.specs.Insertion.{insert_atom}
 use Rattle.td_run.specs.Editor.{Editor}

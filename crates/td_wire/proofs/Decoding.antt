@@ -161,7 +161,7 @@ op_in f k own n ds b xs after_own after_n after_deps rest range e1 e2 e3 e4 =
     ∙ ap (λ (r : Read ℕ). r >>= λ n. deps_at own 1 n.0 n.1 >>= λ known. body_at f k n.0 known.1 >>= λ what. op_read (record { dot = own; deps = known.0; body = what.0 }) what.1) e2
     ∙ ap (λ (r : Read (List ℕ)). r >>= λ known. body_at f k n known.1 >>= λ what. op_read (record { dot = own; deps = known.0; body = what.0 }) what.1) e3
     ∙ ap (λ (r : Read Body). r >>= λ what. op_read (record { dot = own; deps = ds; body = what.0 }) what.1) e4 in
-    (to_op f k o ((op_reads f k range).sound xs o rest whole).2.can).3
+    (to_op f k o ((op_reads f k range).sound xs o rest whole).2.can).op
 
 pub size_some : (own : DotValue) (n max_site : ℕ) (xs rest : List ℕ) → 1 ≤ own.site → byte_at own.site max_site xs ≡ Ok (n, rest) → (1 ≤ n) × (n ≤ max_site)
 size_some own n max_site xs rest some read = let r = byte_range own.site max_site xs n rest read in (omega (arith, some, r.least), r.most)

@@ -3,9 +3,10 @@ use Rattle.std.proofs.Common.{◌≡◌, ℕ, zero, suc, ◌+◌, ◌-◌, ◌�
 use Rattle.std.specs.Prelude.{IfSome}
 use Rattle.std.proofs.lemmas.Bool.{eqb-true, eqb-false}
 use Rattle.std.proofs.lemmas.List.Elements.{All-from_recursion, recursion_from_All}
-use Rattle.td_base.specs.Value.{DotValue, AtomIdValue}
+use Rattle.td_base.specs.Value.{DotValue, AtomIdValue, IsDot, IsAtomId}
 use Rattle.td_base.specs.Run.{IsRun}
 use Rattle.td_clock.specs.Vector.{vector_get}
+use Rattle.td_path.specs.Slot.{IsSlot}
 use Rattle.td_path.specs.declared.slot.Slot.{Slot}
 use Rattle.td_path.specs.declared.slot.Slot.TheVariants.{Root, At}
 use Rattle.td_op.specs.declared.body.Body.{Body}
@@ -13,10 +14,11 @@ use Rattle.td_op.specs.declared.body.Body.TheVariants.{Insert, Delete, Propose, 
 use Rattle.td_op.specs.declared.message.Message.{Message}
 use Rattle.td_op.specs.declared.message.Message.TheVariants.{Op, Vote}
 use Rattle.td_op.specs.declared.vote.Vote.{Vote as VoteValue}
+use Rattle.td_op.specs.Message.{IsBody, IsOpValue, IsMessage}
 use Rattle.td_op.specs.Op.{OpValue, body_site, slot_site}
 use Rattle.td_wire.specs.declared.format.Format.{Format}
 use Rattle.td_wire.specs.declared.format.Format.TheVariants.{One, Two}
-use Rattle.td_wire.specs.Message.{IsDot, IsIdentity, IsSlot, IsBody, IsMessage, IsFirst, IsOldSlot, IsOldBody, IsOld, CanSay}
+use Rattle.td_wire.specs.Format.{IsFirst, IsOldSlot, IsOldBody, IsOld, CanSay}
 use Rattle.td_wire.specs.Spelling.{dot_bytes as dot, kind, op_bytes as op, yes_byte as yes, vote_bytes as vote, spelling, SpellsIn}
 use Rattle.td_wire.specs.Reading.{◌>>=◌, byte_at, dot_at, max_site, op_at, vote_at, format_of, message_of_kind, message_at}
 use Rattle.td_wire.proofs.Exact.{Reads, Seq, Field, same, renamed, made, made_in, chain, then}
@@ -134,17 +136,17 @@ few_sites One = omega arith
 few_sites Two = omega arith
 
 to_dot : (n : ℕ) (d : DotValue) → n ≤ 64 → DotIn n d → IsDot d
-to_dot n d h x = record { site = (x.site.least, omega (arith, x.site.most, h)); least = x.seq.least; greatest = x.seq.most }
+to_dot n d h x = record { site = record { least = x.site.least; greatest = omega (arith, x.site.most, h) }; least = x.seq.least; greatest = x.seq.most }
 
 from_dot : (n : ℕ) (d : DotValue) → d.site ≤ n → IsDot d → DotIn n d
-from_dot n d h x = record { site = record { least = x.site.0; most = h }; seq = record { least = x.least; most = x.greatest } }
+from_dot n d h x = record { site = record { least = x.site.least; most = h }; seq = record { least = x.least; most = x.greatest } }
 
 offset_short : (f : Format) (offset : ℕ) → OffsetIn f offset → offset ≤ 63
 offset_short One offset h = omega (arith, h)
 offset_short Two offset h = h
 
-to_identity : (f : Format) (n : ℕ) (x : AtomIdValue) → n ≤ 64 → IdentityIn f n x → IsIdentity x
-to_identity f n x h i = record { dot = to_dot n x.dot h i.dot; offset = offset_short f x.offset i.offset }
+to_identity : (f : Format) (n : ℕ) (x : AtomIdValue) → n ≤ 64 → IdentityIn f n x → IsAtomId x
+to_identity f n x h i = record { dot = to_dot n x.dot h i.dot; greatest = offset_short f x.offset i.offset }
 
 to_slot : (f : Format) (n : ℕ) (s : Slot) → n ≤ 64 → SlotIn f n s → IsSlot s
 to_slot f n Root h i = tt
@@ -173,17 +175,18 @@ body_named f n (Propose s) i = slot_named f n s i
 body_named f n (Commit proposal) i = i.site.most
 body_named f n (Abort proposal) i = i.site.most
 
-pub to_op : (f : Format) (k : ℕ) (o : OpValue) → OpOf f k o → IsMessage (Op o)
+pub to_op : (f : Format) (k : ℕ) (o : OpValue) → OpOf f k o → IsOpValue o
 to_op f k o x =
     let few = few_sites f in
     let short : length o.deps ≤ 64 = omega (arith, x.size.most, few) in
     let some = x.own.site.least in
-    let last : get_or o.deps (o.dot.site - 1) 0 ≡ o.dot.seq - 1 = x.before.before (o.dot.site - 1) (omega (arith, x.size.least, some)) (omega (arith, some)) in (
-      to_dot (max_site f) o.dot few x.own,
-      record { some = omega (arith, x.size.least, some); short = short; small = All-from_recursion (λ d. d ≤ 65535) o.deps x.before.small },
-      to_body f (length o.deps) o.body short x.what.1,
-      record { own = x.size.least; named = body_named f (length o.deps) o.body x.what.1; next = omega (arith, last, x.own.seq.least) },
-    )
+    let last : get_or o.deps (o.dot.site - 1) 0 ≡ o.dot.seq - 1 = x.before.before (o.dot.site - 1) (omega (arith, x.size.least, some)) (omega (arith, some)) in
+    record {
+      dot = to_dot (max_site f) o.dot few x.own;
+      deps = record { some = omega (arith, x.size.least, some); short = short; small = All-from_recursion (λ d. d ≤ 65535) o.deps x.before.small };
+      body = to_body f (length o.deps) o.body short x.what.1;
+      op = record { own = x.size.least; named = body_named f (length o.deps) o.body x.what.1; next = omega (arith, last, x.own.seq.least) };
+    }
 
 to_old_slot : (n : ℕ) (s : Slot) → SlotIn One n s → IsOldSlot s
 to_old_slot n Root i = tt
@@ -199,7 +202,10 @@ to_old_body n (Abort proposal) i = tt
 to_message : (f : Format) (m : Message) → MessageOf f (kind_of m) m → IsMessage m
 to_message f (Op o) h = to_op f (kind o.body) o h
 to_message f (Vote v) h = let few = few_sites f in
-    ((h.1.voter.least, omega (arith, h.1.voter.most, few)), to_dot (max_site f) v.proposal few h.1.proposal)
+    record {
+      voter = record { least = h.1.voter.least; greatest = omega (arith, h.1.voter.most, few) };
+      proposal = to_dot (max_site f) v.proposal few h.1.proposal;
+    }
 
 to_old : (m : Message) → MessageOf One (kind_of m) m → IsOld m
 to_old (Op o) h = (h.size.most, to_old_body (length o.deps) o.body h.what.1)
@@ -211,11 +217,11 @@ can_say Two m h = to_message Two m h
 
 -- ---- and the other way
 
-from_offset : (f : Format) (x : AtomIdValue) → IsIdentity x → (f ≡ One → IsFirst x) → OffsetIn f x.offset
+from_offset : (f : Format) (x : AtomIdValue) → IsAtomId x → (f ≡ One → IsFirst x) → OffsetIn f x.offset
 from_offset One x i old = old refl
-from_offset Two x i old = i.offset
+from_offset Two x i old = i.greatest
 
-from_identity : (f : Format) (n : ℕ) (x : AtomIdValue) → x.dot.site ≤ n → IsIdentity x → (f ≡ One → IsFirst x) → IdentityIn f n x
+from_identity : (f : Format) (n : ℕ) (x : AtomIdValue) → x.dot.site ≤ n → IsAtomId x → (f ≡ One → IsFirst x) → IdentityIn f n x
 from_identity f n x h i old = record { dot = from_dot n x.dot h i.dot; offset = from_offset f x i old }
 
 from_slot : (f : Format) (n : ℕ) (s : Slot) → IfSome (slot_site s) (λ site. site ≤ n) → IsSlot s → (f ≡ One → IsOldSlot s) → SlotIn f n s
@@ -237,20 +243,20 @@ size_in : (f : Format) (n : ℕ) → n ≤ 64 → (f ≡ One → n ≤ 16) → n
 size_in One n h old = old refl
 size_in Two n h old = h
 
-from_op_message : (f : Format) (o : OpValue) → IsMessage (Op o) → (f ≡ One → IsOld (Op o)) → OpOf f (kind o.body) o
+from_op_message : (f : Format) (o : OpValue) → IsOpValue o → (f ≡ One → IsOld (Op o)) → OpOf f (kind o.body) o
 from_op_message f o m old =
     let n : ℕ = length o.deps in
-    let size = size_in f n m.1.short (λ e. (old e).0) in
-    let next = m.3.next in
+    let size = size_in f n m.deps.short (λ e. (old e).0) in
+    let next = m.op.next in
     record {
-      own = from_dot (max_site f) o.dot (omega (arith, m.3.own, size)) m.0;
-      size = record { least = m.3.own; most = size };
+      own = from_dot (max_site f) o.dot (omega (arith, m.op.own, size)) m.dot;
+      size = record { least = m.op.own; most = size };
       before = record {
         count = refl;
-        small = recursion_from_All (λ d. d ≤ 65535) o.deps m.1.small;
+        small = recursion_from_All (λ d. d ≤ 65535) o.deps m.deps.small;
         before = λ i lt e. before i e next;
       };
-      what = (refl, from_body f n o.body m.3.named m.2 (λ e. (old e).1));
+      what = (refl, from_body f n o.body m.op.named m.body (λ e. (old e).1));
     } where
       before : (i : ℕ) → o.dot.site ≡ 1 + i → vector_get o.deps o.dot.site + 1 ≡ o.dot.seq → get_or o.deps i 0 ≡ o.dot.seq - 1
       before i e next =
@@ -266,8 +272,8 @@ from_message f (Vote v) h old = (
   (
     refl,
     record {
-      voter = record { least = h.0.0; most = size_in f v.voter h.0.1 (λ e. (old e).0) };
-      proposal = from_dot (max_site f) v.proposal (size_in f v.proposal.site h.1.site.1 (λ e. (old e).1)) h.1;
+      voter = record { least = h.voter.least; most = size_in f v.voter h.voter.greatest (λ e. (old e).0) };
+      proposal = from_dot (max_site f) v.proposal (size_in f v.proposal.site h.proposal.site.greatest (λ e. (old e).1)) h.proposal;
     },
   ),
 )

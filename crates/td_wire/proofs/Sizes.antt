@@ -14,9 +14,10 @@ use Rattle.td_op.specs.declared.message.Message.{Message}
 use Rattle.td_op.specs.declared.message.Message.TheVariants.{Op, Vote}
 use Rattle.td_op.specs.declared.vote.Vote.{Vote as VoteValue}
 use Rattle.td_op.specs.Op.{OpValue}
+use Rattle.td_op.specs.Message.{IsBody, IsMessage}
 use Rattle.td_wire.specs.declared.format.Format.{Format}
 use Rattle.td_wire.specs.declared.format.Format.TheVariants.{One, Two}
-use Rattle.td_wire.specs.Message.{IsBody, IsMessage, CanSay}
+use Rattle.td_wire.specs.Format.{CanSay}
 use Rattle.td_wire.specs.Spelling.{number_bytes, dot_bytes, identity_bytes, slot_bytes, run_bytes, deps_bytes, kind, body_bytes, op_bytes, vote_bytes, spelling, Spells}
 use Rattle.td_wire.proofs.Runs.{from_run}
 
@@ -47,11 +48,11 @@ body_short f (Abort proposal) h = omega arith
 
 message_short : (f : Format) (m : Message) → IsMessage m → length (spelling f m) ≤ 402
 message_short One (Op o) h =
-    let b = body_short One o.body h.2 in let n = length_numbers o.deps in
-    omega (arith, b, n, h.1.short, length-append (dot_bytes o.dot ++ deps_bytes o.deps) (body_bytes One o.body))
+    let b = body_short One o.body h.body in let n = length_numbers o.deps in
+    omega (arith, b, n, h.deps.short, length-append (dot_bytes o.dot ++ deps_bytes o.deps) (body_bytes One o.body))
 message_short Two (Op o) h =
-    let b = body_short Two o.body h.2 in let n = length_numbers o.deps in
-    omega (arith, b, n, h.1.short, length-append (dot_bytes o.dot ++ deps_bytes o.deps) (body_bytes Two o.body))
+    let b = body_short Two o.body h.body in let n = length_numbers o.deps in
+    omega (arith, b, n, h.deps.short, length-append (dot_bytes o.dot ++ deps_bytes o.deps) (body_bytes Two o.body))
 message_short One (Vote v) h = omega arith
 message_short Two (Vote v) h = omega arith
 

@@ -1,4 +1,4 @@
-pub mod Message
+pub mod Format
 pub mod Spelling
 pub mod Reading
 pub mod BufferParts

@@ -15,7 +15,7 @@ use Rattle.td_op.specs.declared.vote.Vote.{Vote as VoteValue}
 use Rattle.td_op.specs.Op.{OpValue}
 use Rattle.td_wire.specs.declared.format.Format.{Format}
 use Rattle.td_wire.specs.declared.format.Format.TheVariants.{One, Two}
-use Rattle.td_wire.specs.Message.{CanSay}
+use Rattle.td_wire.specs.Format.{CanSay}
 
 -- the first two bytes
 abbrev pub mark : Format → List ℕ

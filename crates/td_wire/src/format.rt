@@ -1,6 +1,8 @@
 ghost use Rattle.std.specs.Prelude.{◌≡◌};
 ghost use Rattle.td_wire.specs.Reading.{max_site};
 
+use td_base::MAX_SITE;
+
 /// The formats of a message on a wire.
 #[derive(Clone, Copy, Debug, PartialEq, Eq)]
 pub(crate) enum Format {
@@ -9,6 +11,9 @@ pub(crate) enum Format {
     /// The one that is written.
     Two,
 }
+
+// The greatest site that format 1 can name.
+pub(crate) const MAX_OLD_SITE: u8 = 16;
 
 // The second byte of the mark, behind `T`.
 pub(crate) const DIGIT_ONE: u8 = b'1';
@@ -34,8 +39,8 @@ impl Format {
         ensures { result ≡ max_site self }
     {
         match self {
-            Format::One => 16,
-            Format::Two => 64,
+            Format::One => MAX_OLD_SITE,
+            Format::Two => MAX_SITE,
         }
     }
 }

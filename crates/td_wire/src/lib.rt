@@ -1,9 +1,9 @@
 //! Packets: what a message is on a wire, and back.
 //!
 //! What comes over a wire is exactly one message, or it is refused at the first byte that no message has there. `encode`
-//! writes format 2; `decode` reads format 2 and the older format 1. Begin at `specs/Message.antt`, which says what the messages
-//! are, at `specs/Spelling.antt`, which has their spellings field by field and the place of a fault, and at `reading` for
-//! `decode`. That no bytes spell two messages is in `laws`.
+//! writes format 2; `decode` reads format 2 and the older format 1. Begin at `specs/Spelling.antt`, which has the spellings of
+//! messages field by field and the place of a fault, at `specs/Format.antt`, which says what each format can say, and at
+//! `reading` for `decode`. That no bytes spell two messages is in `laws`.
 #![tactic(auto)]
 
 mod buffer;

@@ -1,9 +1,11 @@
 ghost use Rattle.std.specs.Prelude.{◌≡◌, ◌≤◌, ◌++◌, ◌∷◌, length, map};
 ghost use Rattle.td_base.specs.Run.{IsRun};
+ghost use Rattle.td_base.specs.Value.{IsDot, IsAtomId};
 ghost use Rattle.td_clock.specs.Vector.{IsVector};
+ghost use Rattle.td_path.specs.Slot.{IsSlot};
 ghost use Rattle.td_op.specs.declared.message.Message.{Message};
+ghost use Rattle.td_op.specs.Message.{IsBody, IsMessage};
 ghost use Rattle.td_wire.specs.declared.format.Format.TheVariants.{Two};
-ghost use Rattle.td_wire.specs.Message.{IsDot, IsIdentity, IsSlot, IsBody, IsMessage};
 ghost use Rattle.td_wire.specs.Spelling.{dot_bytes, identity_bytes, slot_bytes, run_bytes, deps_bytes, kind, body_bytes, op_bytes, vote_bytes, Spells};
 
 use crate::buffer::Buffer;
@@ -103,7 +105,7 @@ fn put_dot(buffer: &mut Buffer, dot: Dot)
 fn put_identity(buffer: &mut Buffer, id: AtomId)
     requires { length buffer.old ≤ 300 }
     ensures bytes { buffer.new ≡ buffer.old ++ identity_bytes Two id }
-    ensures identity { IsIdentity id }
+    ensures identity { IsAtomId id }
 {
     put_dot(buffer, id.dot);
     buffer.push(id.offset);

@@ -1,10 +1,11 @@
 ghost use Rattle.std.specs.Prelude.{◌≡◌, List, true, map, length};
 ghost use Rattle.std.specs.declared.cmp.Ordering.TheVariants.{Less};
+ghost use Rattle.td_base.specs.Lists.{In, Successive};
 ghost use Rattle.td_path.specs.Infix.{path_cmp};
 ghost use Rattle.td_path.specs.SlotPaths.{slot_contains};
 ghost use Rattle.td_path.specs.Shape.{shape};
 ghost use Rattle.td_path.specs.declared.slot_path.SlotPath.{SlotPath};
-ghost use Rattle.td_doc.specs.Document.{DocRow, live_rows, In, Successive};
+ghost use Rattle.td_doc.specs.Document.{DocRow, live_rows};
 ghost use Rattle.td_doc.specs.Array.{NamedAtom, named, array};
 ghost use Rattle.td_doc.specs.Subtrees.{bits_in};
 

@@ -1,6 +1,7 @@
 ghost use Rattle.std.specs.Prelude.{◌≡◌, ◌≢◌, List, not, filter, map};
 ghost use Rattle.td_base.specs.Value.{DotValue, AtomIdValue};
-ghost use Rattle.td_doc.specs.Document.{DocRow, row_id, has_id, live_rows, In, IsDocument};
+ghost use Rattle.td_base.specs.Lists.{In};
+ghost use Rattle.td_doc.specs.Document.{DocRow, row_id, has_id, live_rows, IsDocument};
 ghost use Rattle.td_doc.specs.Array.{named};
 ghost use Rattle.td_doc.specs.Deletion.{delete};
 

@@ -1,7 +1,8 @@
 ghost use Rattle.std.specs.Prelude.{◌≡◌, ◌≤◌, ◌⊎◌, ℕ, List, [], ◌∷◌, ◌++◌, length, take, drop, insert, Option, Some, None, IsNone, MatchOption, true};
 ghost use Rattle.td_base.specs.Value.{DotValue, AtomIdValue};
+ghost use Rattle.td_base.specs.Lists.{In};
 ghost use Rattle.td_path.specs.declared.slot.Slot.{Slot};
-ghost use Rattle.td_doc.specs.Document.{DocRow, row_id, find_row, live_rows, live_atoms, In, IsDocument};
+ghost use Rattle.td_doc.specs.Document.{DocRow, row_id, find_row, live_rows, live_atoms, IsDocument};
 ghost use Rattle.td_doc.specs.Allocation.{alloc, anchor};
 ghost use Rattle.td_doc.specs.Array.{NamedAtom, named, run_atoms};
 ghost use Rattle.td_doc.specs.Slots.{is_empty_slot, is_within};

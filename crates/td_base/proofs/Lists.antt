@@ -1,7 +1,8 @@
--- Lists of which each element stands in a relation to each that follows it.
+-- What is in a list, and lists of which each element stands in a relation to each that follows it.
 use Rattle.std.proofs.Common.{◌≡◌, ◌⊎◌, List, [], ◌∷◌, ◌++◌, Bool, true, false, cond, map, filter, refl, sym, ap, subst, inl, inr, ⊎_elim, true≢false}
-use Rattle.std.specs.List.{AllByRecursion}
-use Rattle.td_doc.specs.Document.{In, Successive}
+use Rattle.std.specs.List.{AllByRecursion, list_any}
+use Rattle.std.proofs.lemmas.Bool.{or_cases, or_left, or_right, or_parts}
+use Rattle.td_base.specs.Lists.{In, Successive}
 
 pub In-append : {X : Type 0} (x : X) (xs ys : List X) → In x (xs ++ ys) → In x xs ⊎ In x ys
 In-append x [] ys h = inr h
@@ -40,6 +41,22 @@ filter_In test x (y ∷ ys) h e =
     (λ (p : x ≡ y). subst (λ z. In x (cond (test z) (z ∷ filter test ys) (filter test ys))) p (filter_In_at x (filter test ys) (test x) e))
     (λ (k : In x ys). filter_In_later x y (filter test ys) (test y) (filter_In test x ys k e))
     h
+
+pub any_found : {X : Type 0} (test : X → Bool) (xs : List X) → list_any test xs ≡ true → (x : X) × In x xs × (test x ≡ true)
+any_found test [] h = absurd (true≢false (sym h))
+any_found {X} test (x ∷ xs) h =
+    ⊎_elim (λ a. (x, inl refl, a)) (λ (b : list_any test xs ≡ true). let r = any_found test xs b in (r.0, inr r.1, r.2)) (or_cases (test x) (list_any test xs) h)
+
+pub any_from : {X : Type 0} (test : X → Bool) (xs : List X) (x : X) → In x xs → test x ≡ true → list_any test xs ≡ true
+any_from test [] x h e = absurd h
+any_from test (y ∷ ys) x h e =
+    ⊎_elim (λ (p : x ≡ y). or_left (test y) (list_any test ys) (subst (λ z. test z ≡ true) p e)) (λ k. or_right (test y) (list_any test ys) (any_from test ys x k e)) h
+
+pub any_none : {X : Type 0} (test : X → Bool) (xs : List X) (x : X) → list_any test xs ≡ false → In x xs → test x ≡ false
+any_none test [] x h k = absurd k
+any_none test (y ∷ ys) x h k =
+    let e = or_parts (test y) (list_any test ys) h in
+    ⊎_elim (λ (p : x ≡ y). subst (λ z. test z ≡ false) (sym p) e.0) (λ i. any_none test ys x e.1 i) k
 
 module _ {X : Type 0} (P : X → Type 0) where
   pub all_in : (xs : List X) → AllByRecursion P xs → (x : X) → In x xs → P x

@@ -1,0 +1,32 @@
+-- Which values are messages: each part is in the range that its type keeps.
+use Rattle.td_base.specs.Value.{IsSite, IsDot, IsAtomId}
+use Rattle.td_base.specs.Run.{IsRun}
+use Rattle.td_clock.specs.Vector.{IsVector}
+use Rattle.td_path.specs.Slot.{IsSlot}
+use Rattle.td_op.specs.declared.body.Body.{Body}
+use Rattle.td_op.specs.declared.body.Body.TheVariants.{Insert, Delete, Propose, Commit, Abort}
+use Rattle.td_op.specs.declared.vote.Vote.{Vote as VoteValue}
+use Rattle.td_op.specs.declared.message.Message.{Message}
+use Rattle.td_op.specs.declared.message.Message.TheVariants.{Op, Vote}
+use Rattle.td_op.specs.Op.{OpValue, IsOp}
+
+abbrev pub IsBody : Body → Type 0
+IsBody (Insert slot run) = IsSlot slot × IsRun run
+IsBody (Delete target) = IsAtomId target
+IsBody (Propose slot) = IsSlot slot
+IsBody (Commit proposal) = IsDot proposal
+IsBody (Abort proposal) = IsDot proposal
+
+pub record IsOpValue (x : OpValue) : Type 0 where
+  pub dot : IsDot x.dot
+  pub deps : IsVector x.deps
+  pub body : IsBody x.body
+  pub op : IsOp x
+
+pub record IsVote (v : VoteValue) : Type 0 where
+  pub voter : IsSite v.voter
+  pub proposal : IsDot v.proposal
+
+abbrev pub IsMessage : Message → Type 0
+IsMessage (Op x) = IsOpValue x
+IsMessage (Vote v) = IsVote v
