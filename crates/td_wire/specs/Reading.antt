@@ -1,6 +1,7 @@
 -- How the private readers go through the bytes, one field after another. No clause of a public call speaks of it.
 use Rattle.std.specs.Prelude.{◌≡◌, ℕ, zero, suc, ◌+◌, ◌-◌, ◌*◌, ◌/◌, ◌%◌, Bool, ◌&&◌, nat_le, nat_lt, ◌==◌, if◌then◌else◌, List, [], ◌∷◌, length, take, Result, Ok, Err}
 use Rattle.td_base.specs.Value.{DotValue, AtomIdValue}
+use Rattle.td_base.specs.declared.site.TheConstants.{MAX_SITE}
 use Rattle.td_base.specs.declared.bit.Bit.{Bit}
 use Rattle.td_base.specs.declared.bit.Bit.TheVariants.{Left, Right}
 use Rattle.td_path.specs.declared.slot.Slot.{Slot}
@@ -13,6 +14,7 @@ use Rattle.td_op.specs.declared.vote.Vote.{Vote as VoteValue}
 use Rattle.td_op.specs.Op.{OpValue}
 use Rattle.td_wire.specs.declared.format.Format.{Format}
 use Rattle.td_wire.specs.declared.format.Format.TheVariants.{One, Two}
+use Rattle.td_wire.specs.declared.format.TheConstants.{MAX_OLD_SITE}
 use Rattle.td_wire.specs.declared.reader.Fault.{Fault}
 
 -- a value and the bytes behind it, or how many bytes stand from the fault on
@@ -28,6 +30,11 @@ abbrev pub ◌>>=◌ : {A B : Type 0} → Result A ℕ → (A → Result B ℕ) 
 abbrev pub Gives : {A : Type 0} → Result A Fault → List ℕ → Read A → Type 0
 Gives (Ok x) rest read = read ≡ Ok (x, rest)
 Gives (Err fault) rest read = read ≡ Err fault.left
+
+-- the same of a reader that answers no value: the value that reading gives is known before
+abbrev pub Passes : {A : Type 0} → Result (Unit {0}) Fault → List ℕ → Read A → A → Type 0
+Passes (Ok _) rest read x = read ≡ Ok (x, rest)
+Passes (Err fault) rest read x = read ≡ Err fault.left
 
 -- a byte that passes a test
 abbrev pub passing_at : (ℕ → Bool) → List ℕ → Read ℕ
@@ -182,8 +189,8 @@ body_at f kind n bytes =
     else (if kind == 4 then (dot_at n bytes >>= λ x. Ok (Commit x.0, x.1)) else (dot_at n bytes >>= λ x. Ok (Abort x.0, x.1)))))
 
 abbrev pub max_site : Format → ℕ
-max_site One = 16
-max_site Two = 64
+max_site One = MAX_OLD_SITE
+max_site Two = MAX_SITE
 
 unfoldable pub op_at : Format → ℕ → List ℕ → Read OpValue
 op_at f kind bytes = do

@@ -38,6 +38,14 @@ const COMMIT: [u8; 22] = [
     0x54, 0x32, 4, 1, 0, 0, 0, 4, 2, 0, 0, 0, 3, 0, 0, 0, 0, 1, 0, 0, 0, 3,
 ];
 
+const ABORT: [u8; 22] = [
+    0x54, 0x32, 5, 1, 0, 0, 0, 4, 2, 0, 0, 0, 3, 0, 0, 0, 0, 1, 0, 0, 0, 3,
+];
+
+const DELETE: [u8; 23] = [
+    0x54, 0x32, 2, 2, 0, 0, 0, 1, 2, 0, 0, 0, 1, 0, 0, 0, 0, 1, 0, 0, 0, 1, 0,
+];
+
 const VOTE: [u8; 10] = [0x54, 0x32, 6, 2, 1, 0, 0, 0, 3, 1];
 
 const OLD_INSERT_A: [u8; 20] = [
@@ -54,10 +62,24 @@ const OLD_COMMIT: [u8; 22] = [
     0x54, 0x31, 4, 1, 0, 0, 0, 4, 2, 0, 0, 0, 3, 0, 0, 0, 0, 1, 0, 0, 0, 3,
 ];
 
+const OLD_ABORT: [u8; 22] = [
+    0x54, 0x31, 5, 1, 0, 0, 0, 4, 2, 0, 0, 0, 3, 0, 0, 0, 0, 1, 0, 0, 0, 3,
+];
+
+const OLD_DELETE: [u8; 22] = [
+    0x54, 0x31, 2, 2, 0, 0, 0, 1, 2, 0, 0, 0, 1, 0, 0, 0, 0, 1, 0, 0, 0, 1,
+];
+
 const OLD_VOTE: [u8; 10] = [0x54, 0x31, 6, 2, 1, 0, 0, 0, 3, 1];
 
-// The five messages, in the order of the spellings.
-fn messages() -> Result<[Message; 5], Fail> {
+// Atoms of one to four bytes, right of the sixth atom of an insert.
+const INSERT_MIXED: [u8; 40] = [
+    0x54, 0x32, 1, 2, 0, 0, 0, 1, 2, 0, 0, 0, 1, 0, 0, 0, 0, 1, 1, 1, 0, 0, 0, 1, 5, 4, 1, 2, 3, 4,
+    0x61, 0xc3, 0xa9, 0xe2, 0x82, 0xac, 0xf0, 0x9f, 0x98, 0x80,
+];
+
+// The messages, in the order of the spellings.
+fn messages() -> Result<[Message; 7], Fail> {
     let first = AtomId::of(dot(1, 1)?);
     let right = Slot::At {
         atom: first,
@@ -86,6 +108,8 @@ fn messages() -> Result<[Message; 5], Fail> {
         )?,
         op(proposal, 2, 0, Body::Propose { slot: root })?,
         op(dot(1, 4)?, 3, 0, Body::Commit { proposal })?,
+        op(dot(1, 4)?, 3, 0, Body::Abort { proposal })?,
+        op(dot(2, 1)?, 1, 0, Body::Delete { target: first })?,
         Message::Vote(Vote {
             proposal,
             voter: Site::new(2).ok_or("site 2")?,
@@ -94,14 +118,16 @@ fn messages() -> Result<[Message; 5], Fail> {
     ])
 }
 
-#[test]
-fn spellings_are_read_and_written(rt: HostRuntime) -> Result<(), Fail> {
-    let [insert_a, insert_e, propose, commit, vote] = messages()?;
+// The spellings of the messages, in format 2 and in format 1.
+fn spellings_are_read_and_written(rt: &impl Abort) -> Result<(), Fail> {
+    let [insert_a, insert_e, propose, commit, abort, delete, vote] = messages()?;
     for (message, bytes, old) in [
         (insert_a, &INSERT_A[..], &OLD_INSERT_A[..]),
         (insert_e, &INSERT_E[..], &OLD_INSERT_E[..]),
         (propose, &PROPOSE[..], &OLD_PROPOSE[..]),
         (commit, &COMMIT[..], &OLD_COMMIT[..]),
+        (abort, &ABORT[..], &OLD_ABORT[..]),
+        (delete, &DELETE[..], &OLD_DELETE[..]),
         (vote, &VOTE[..], &OLD_VOTE[..]),
     ] {
         assert_eq!(rt; encode(&message).bytes(), bytes);
@@ -112,11 +138,8 @@ fn spellings_are_read_and_written(rt: HostRuntime) -> Result<(), Fail> {
     Ok(())
 }
 
-#[test]
-fn faults_have_their_place(rt: HostRuntime) {
-    let longer = [
-        0x54, 0x32, 1, 1, 0, 0, 0, 1, 2, 0, 0, 0, 0, 0, 0, 0, 0, 0, 1, 1, 0x61, 0x62,
-    ];
+// Bytes that spell no message, and the place of their fault.
+fn faults_have_their_place(rt: &impl Abort) {
     for (bytes, at) in [
         (&b""[..], 0),
         (b"T2\x07", 2),
@@ -167,13 +190,32 @@ fn faults_have_their_place(rt: HostRuntime) {
             b"T2\x01\x01\0\0\0\x01\x01\0\0\0\0\0\x01\x04\xf0\x9f\x98",
             19,
         ),
-        (&longer[..], 21),
+        // the insert of "a": with site 0, with the slot's tag 2, and with one byte more
+        (b"T2\x01\0\0\0\0\x01\x02\0\0\0\0\0\0\0\0\0\x01\x01a", 3),
+        (b"T2\x01\x01\0\0\0\x01\x02\0\0\0\0\0\0\0\0\x02\x01\x01a", 17),
+        (b"T2\x01\x01\0\0\0\x01\x02\0\0\0\0\0\0\0\0\0\x01\x01ab", 21),
+        // the insert of U+00E9 with the bit 2
+        (
+            b"T2\x01\x02\0\0\0\x01\x02\0\0\0\x01\0\0\0\0\x01\x02\x01\0\0\0\x01\0\x01\x02\xc3\xa9",
+            18,
+        ),
+        (
+            b"T1\x01\x02\0\0\0\x01\x02\0\0\0\x01\0\0\0\0\x01\x02\x01\0\0\0\x01\x02\xc3\xa9",
+            18,
+        ),
         // the answer of a vote
         (b"T2\x06\x02\x01\0\0\0\x03\x02", 9),
         (b"T1\x06\x02\x01\0\0\0\x03\x02", 9),
     ] {
         assert_eq!(rt; decode(bytes).err(), Some(Malformed { at }), "at {bytes:?}");
     }
+}
+
+#[test]
+fn the_tables_of_both_formats_hold(rt: HostRuntime) -> Result<(), Fail> {
+    spellings_are_read_and_written(&rt)?;
+    faults_have_their_place(&rt);
+    Ok(())
 }
 
 // A message is read where one byte is another, or the fault is at that byte or behind it.
@@ -187,11 +229,9 @@ fn is_told(rt: &impl Abort, changed: &[u8], place: usize) {
     }
 }
 
-// Each front of a spelling is cut at its end. Then each of its bytes is changed to each byte.
+// A spelling is read. Each of its fronts is at fault at its end. Then each of its bytes is changed to each byte.
 fn each_front_and_each_byte(rt: &impl Abort, spelling: &[u8]) {
-    if spelling.len() > MAX_PACKET_LEN {
-        return;
-    }
+    assert!(rt; decode(spelling).is_ok() && spelling.len() <= MAX_PACKET_LEN);
     let mut changed = [0; MAX_PACKET_LEN];
     changed[..spelling.len()].copy_from_slice(spelling);
     for (k, was) in spelling.iter().enumerate() {
@@ -212,19 +252,24 @@ fn fronts_and_changed_bytes_are_told(rt: HostRuntime) {
         &INSERT_E[..],
         &PROPOSE[..],
         &COMMIT[..],
+        &ABORT[..],
+        &DELETE[..],
         &VOTE[..],
         &OLD_INSERT_A[..],
         &OLD_INSERT_E[..],
         &OLD_PROPOSE[..],
         &OLD_COMMIT[..],
+        &OLD_ABORT[..],
+        &OLD_DELETE[..],
         &OLD_VOTE[..],
+        &INSERT_MIXED[..],
     ] {
         each_front_and_each_byte(&rt, spelling);
     }
 }
 
 #[test]
-fn the_longest_message_has_402_bytes(rt: HostRuntime) -> Result<(), Fail> {
+fn the_longest_message_has_402_bytes_and_in_format_1_145(rt: HostRuntime) -> Result<(), Fail> {
     let letter = Atom::new(b"a").ok().ok_or("a letter")?;
     let run = Run::new(&[letter; 64]).ok().ok_or("a run")?;
     let own = dot(64, 1)?;
@@ -237,5 +282,13 @@ fn the_longest_message_has_402_bytes(rt: HostRuntime) -> Result<(), Fail> {
     let packet = encode(&Message::Op(op));
     assert_eq!(rt; packet.bytes().len(), MAX_PACKET_LEN);
     assert_eq!(rt; decode(packet.bytes()).ok(), Some(Message::Op(op)));
+    each_front_and_each_byte(&rt, packet.bytes());
+
+    // insert 16.1 of 64 letters right of 16.65535, deps of 16 zeros
+    let mut old = [b'a'; 145];
+    old[..9].copy_from_slice(b"T1\x01\x10\0\0\0\x01\x10");
+    old[9..73].fill(0);
+    old[73..81].copy_from_slice(b"\x01\x01\x10\0\0\xff\xff\x40");
+    each_front_and_each_byte(&rt, &old);
     Ok(())
 }

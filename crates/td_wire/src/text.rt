@@ -1,6 +1,6 @@
 ghost use Rattle.std.specs.Prelude.{◌≡◌, ◌<◌, ◌≤◌, length, take, IfOk};
 ghost use Rattle.td_base.specs.declared.atom.TheConstants.{MAX_ATOM_LEN};
-ghost use Rattle.td_wire.specs.Reading.{Gives, atom_at, text_at, character_at, lead_at, continuations_at};
+ghost use Rattle.td_wire.specs.Reading.{Gives, Passes, atom_at, text_at, character_at, lead_at, continuations_at};
 ghost use Rattle.td_wire.specs.Reading.{character_len, second_least, second_most};
 
 use crate::reader::{Fault, Reader};
@@ -18,15 +18,15 @@ impl Reader<'_> {
         Ok(Atom::new(&bytes[..len as usize]).ok().unwrap())
     }
 
-    // A text of `room` bytes. What is answered is that number again.
-    pub(crate) fn text(&mut self, room: u8) -> Result<u8, Fault>
-        ensures { Gives result self.new.rest.now (text_at room room self.old.rest.now) }
+    // A text of `len` bytes.
+    pub(crate) fn text(&mut self, len: u8) -> Result<(), Fault>
+        ensures { Passes result self.new.rest.now (text_at len len self.old.rest.now) len }
     {
-        let mut left = room;
+        let mut left = len;
         while left > 0 {
             left -= self.character(left)?;
         }
-        Ok(room)
+        Ok(())
     }
 
     // A character of at most `room` bytes. What is answered is its length.
@@ -62,15 +62,14 @@ impl Reader<'_> {
     }
 
     // So many bytes that continue a character, of which the first is in a range of its own.
-    fn continuations(&mut self, count: u8, mut least: u8, mut most: u8) -> Result<u8, Fault>
-        ensures read { Gives result self.new.rest.now (continuations_at count least most self.old.rest.now) }
-        ensures count { IfOk result (λ n. n ≡ count) }
+    fn continuations(&mut self, count: u8, mut least: u8, mut most: u8) -> Result<(), Fault>
+        ensures { Passes result self.new.rest.now (continuations_at count least most self.old.rest.now) count }
     {
         for _ in 0..count {
             self.byte(least, most)?;
             (least, most) = (0x80, 0xBF);
         }
-        Ok(count)
+        Ok(())
     }
 }
 

@@ -18,7 +18,7 @@ returns-in_err-text c =
 
 pub loop-len-preserved : goal.loop-len-preserved
 loop-len-preserved c =
-    atoms_step c.args.lengths.now c.loop-len.len-index c.in_ok-text.field-0 c.loop-len.self.rest.now c.text.new.self.rest.now _ c.loop-len-test.true c.in_ok-text.ensures c.loop-len.invariant
+    atoms_step c.args.lengths.now c.loop-len.len-index _ c.loop-len.self.rest.now c.text.new.self.rest.now _ c.loop-len-test.true c.in_ok-text.ensures c.loop-len.invariant
 
 pub overflow_sub-end : goal.overflow_sub-end
 overflow_sub-end c =
