@@ -30,11 +30,14 @@ impl Reader<'_> {
         ensures { Gives result self.new.rest.now (deps_at own 1 n self.old.rest.now) }
     {
         let mut deps = Vector::new(n);
+        // another reader, which stays in registers
+        let mut numbers = Reader { rest: self.rest };
         for i in 0..n {
             let (least, most) = dep_range(own, i + 1);
-            let known = self.number(least, most)?;
+            let known = numbers.number(least, most)?;
             deps.set(Site::new(i + 1).unwrap(), u32::from(known));
         }
+        self.rest = numbers.rest;
         Ok(deps)
     }
 

@@ -39,7 +39,7 @@ impl Reader<'_> {
     pub(crate) fn number(&mut self, least: u16, most: u16) -> Result<u16, Fault>
         ensures { Gives result self.new.rest.now (number_at least most self.old.rest.now) }
     {
-        // all four bytes at once: one by one only where they are no such number
+        // All four bytes at once.
         if let [first, second, third, fourth, rest @ ..] = self.rest {
             let number = u32::from_be_bytes([*first, *second, *third, *fourth]);
             if u32::from(least) <= number && number <= u32::from(most) {
@@ -47,10 +47,15 @@ impl Reader<'_> {
                 return Ok(number as u16);
             }
         }
-        self.number_by_bytes(least, most)
+        // Else one by one, up to the one at fault. No call is handed this reader, so that a loop can keep it in registers.
+        let mut bytes = Reader { rest: self.rest };
+        let number = bytes.number_by_bytes(least, most)?;
+        self.rest = bytes.rest;
+        Ok(number)
     }
 
     // The same, byte by byte, up to the first one at fault.
+    #[cold]
     #[tactic(auto, unfolding(crate::specs::Reading::number_at))]
     fn number_by_bytes(&mut self, least: u16, most: u16) -> Result<u16, Fault>
         ensures { Gives result self.new.rest.now (number_at least most self.old.rest.now) }
