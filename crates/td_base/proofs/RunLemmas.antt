@@ -31,7 +31,7 @@ ends_of_longer atoms b c bs = twice (length bs) (2 * ends_of atoms + 1)
 
 -- ---- the atoms are read back
 
-no_ends : (bytes : List ℕ) → atoms_of 0 bytes ≡ []
+pub no_ends : (bytes : List ℕ) → atoms_of 0 bytes ≡ []
 no_ends [] = refl
 no_ends (b ∷ bytes) = ap (before_first b) (no_ends bytes)
 
@@ -57,7 +57,7 @@ atom_again (b ∷ c ∷ bs) atoms zeros some again =
     end_later (ends_of ((b ∷ c ∷ bs) ∷ atoms)) (ends_of ((c ∷ bs) ∷ atoms)) b (concat ((c ∷ bs) ∷ atoms) ++ zeros) (ends_of_longer atoms b c bs)
     ∙ ap (before_first b) (atom_again (c ∷ bs) atoms zeros (omega arith) again)
 
-atoms_again : (atoms : List (List ℕ)) (zeros : List ℕ) → All IsAtom atoms → atoms_of (ends_of atoms) (concat atoms ++ zeros) ≡ atoms
+pub atoms_again : (atoms : List (List ℕ)) (zeros : List ℕ) → All IsAtom atoms → atoms_of (ends_of atoms) (concat atoms ++ zeros) ≡ atoms
 atoms_again [] zeros each = no_ends zeros
 atoms_again (atom ∷ atoms) zeros each = atom_again atom atoms zeros (All-head IsAtom atom atoms each).some (atoms_again atoms zeros (All-tail IsAtom atom atoms each))
 

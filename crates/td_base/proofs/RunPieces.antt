@@ -40,7 +40,7 @@ bytes_are w atoms bytes ends wide run kept marked =
 -- ---- the lengths
 
 -- each atom has a byte at least
-count_within : (atoms : List (List ℕ)) → All IsAtom atoms → length atoms ≤ length (concat atoms)
+pub count_within : (atoms : List (List ℕ)) → All IsAtom atoms → length atoms ≤ length (concat atoms)
 count_within [] each = omega arith
 count_within (atom ∷ atoms) each =
     omega (arith, (All-head IsAtom atom atoms each).some, count_within atoms (All-tail IsAtom atom atoms each), length-append atom (concat atoms))

@@ -1,7 +1,9 @@
 pub mod Lists
 pub mod Value
 pub mod Order
+pub mod Equality
 pub mod Atom
 pub mod AtomParts
 pub mod Run
 pub mod RunParts
+pub mod RunAtoms

@@ -1,7 +1,8 @@
 -- How a `Run` keeps its atoms: their bytes one after another in an array of fixed size, with zeros behind them, and a word
 -- whose bit i is set where an atom ends with byte i.
-use Rattle.std.specs.Prelude.{◌≡◌, ◌+◌, ◌-◌, ◌*◌, ◌/◌, ◌%◌, ◌^◌, ◌++◌, ◌==◌, ℕ, List, [], ◌∷◌, length, replicate, if◌then◌else◌}
+use Rattle.std.specs.Prelude.{◌≡◌, ◌+◌, ◌-◌, ◌*◌, ◌/◌, ◌%◌, ◌^◌, ◌++◌, ◌==◌, ℕ, List, [], ◌∷◌, length, replicate, All, if◌then◌else◌}
 use Rattle.std.specs.List.{concat}
+use Rattle.td_base.specs.Atom.{IsAtom}
 use Rattle.td_base.specs.Run.{IsRun}
 use Rattle.td_base.specs.declared.run.TheConstants.{MAX_RUN_LEN}
 
@@ -28,4 +29,11 @@ bytes_of atoms = concat atoms ++ replicate (MAX_RUN_LEN - length (concat atoms))
 pub record IsRunParts (bytes : List ℕ) (ends : ℕ) : Type 0 where
   pub run : IsRun (atoms_of ends bytes)
   pub bytes_again : bytes ≡ bytes_of (atoms_of ends bytes)
+  pub ends_again : ends ≡ ends_of (atoms_of ends bytes)
+
+-- the bytes begin with atoms that end where the bits say
+pub record HaveAtoms (bytes : List ℕ) (ends : ℕ) : Type 0 where
+  pub each : All IsAtom (atoms_of ends bytes)
+  pub zeros : ℕ
+  pub bytes_again : bytes ≡ concat (atoms_of ends bytes) ++ replicate zeros 0
   pub ends_again : ends ≡ ends_of (atoms_of ends bytes)

@@ -5,6 +5,7 @@ ghost use Rattle.td_base.specs.Atom.{IsAtom};
 ghost use Rattle.td_base.specs.Run.{IsRun, IsRunFault, pieces};
 
 use crate::atom::Atom;
+use crate::atoms::Atoms;
 use std::marker::Model;
 
 /// The greatest number of bytes of a run, and so of its atoms.
@@ -127,6 +128,13 @@ impl Run {
         }
         let end = start + ends.trailing_zeros() as usize + 1;
         Atom::new(&self.bytes[start..end]).ok()
+    }
+
+    /// The atoms in their order.
+    pub fn iter(&self) -> Atoms<'_>
+        ensures { result ≡ self.now }
+    {
+        Atoms::new(&self.bytes, self.ends)
     }
 
     /// The bytes of the atoms, one after another.

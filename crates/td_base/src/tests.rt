@@ -68,6 +68,10 @@ fn atoms_of_one_to_four_bytes_are_read_back(rt: HostRuntime) -> Result<(), Fail>
     for (i, atom) in atoms.iter().enumerate() {
         assert_eq!(rt; run.atom(i as u8), Some(*atom), "at {i}");
     }
+    assert_eq!(rt;
+        run.iter().collect::<Vec<Atom>>(rt.alloc())?.as_slice(),
+        atoms.as_slice()
+    );
     assert_eq!(rt; run.bytes(), "aé€😀".as_bytes());
     assert_eq!(rt; &run.lengths()[..5], [1, 2, 3, 4, 0].as_slice());
     Ok(())

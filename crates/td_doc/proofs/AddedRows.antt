@@ -12,7 +12,8 @@ use Rattle.td_path.specs.declared.slot_path.SlotPath.{SlotPath}
 use Rattle.td_path.specs.declared.slot_path.SlotPath.TheVariants.{Whole, Below}
 use Rattle.td_doc.specs.Document.{DocRow, find_row, IsDocument}
 use Rattle.td_doc.specs.Slots.{rows_below, is_within}
-use Rattle.td_doc.specs.Array.{NamedAtom, named, array, run_atoms}
+use Rattle.td_doc.specs.Array.{named, array}
+use Rattle.td_base.specs.RunAtoms.{NamedAtom, run_atoms}
 use Rattle.td_doc.specs.Insertion.{put_rows, put_array_below, insert_atom, insert_run}
 use Rattle.td_doc.specs.Answers.{IsRooted, IsFresh}
 use Rattle.td_doc.proofs.PutRows.{puts_in}

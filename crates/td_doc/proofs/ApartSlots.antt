@@ -3,10 +3,8 @@ use Rattle.std.proofs.Common.{◌≡◌, List, [], ◌++◌, Bool, true, false, 
 use Rattle.std.specs.Prelude.{is_some, Option, Some, None}
 use Rattle.std.specs.Option.{option_map}
 use Rattle.std.specs.Ordering.{is_eq}
-use Rattle.std.proofs.lemmas.Cmp.{tied_itself}
-use Rattle.std.proofs.lemmas.Bool.{or_left, or_right, or_cases, or_parts}
+use Rattle.std.proofs.lemmas.Bool.{or_left, or_right, or_cases, or_parts, and_parts}
 use Rattle.td_base.specs.declared.bit.Bit.{Bit}
-use Rattle.td_base.specs.Order.{id_cmp, bit_cmp}
 use Rattle.td_base.specs.Value.{AtomIdValue}
 use Rattle.td_base.specs.Lists.{In}
 use Rattle.td_base.proofs.Lists.{In-filter}
@@ -16,10 +14,13 @@ use Rattle.td_path.specs.declared.slot.Slot.{Slot}
 use Rattle.td_path.specs.declared.slot.Slot.TheVariants.{Root, At}
 use Rattle.td_path.specs.declared.slot_path.SlotPath.{SlotPath}
 use Rattle.td_path.specs.declared.slot_path.SlotPath.TheVariants.{Whole, Below}
-use Rattle.td_path.proofs.InfixOrder.{id_total, equal_paths, is_eq_true, both_true}
-use Rattle.td_path.proofs.SlotOverlap.{or_swap, apart_where_no_overlap}
+use Rattle.td_path.proofs.InfixOrder.{equal_paths}
+use Rattle.td_base.proofs.Orders.{is_eq_true}
+use Rattle.td_path.proofs.SlotOverlap.{apart_where_no_overlap}
+use Rattle.std.proofs.Math.Bool.{or_comm}
 use Rattle.td_doc.specs.Document.{DocRow, last_id, find_row, live_rows, IsDocument}
-use Rattle.td_doc.specs.Slots.{slot_path, rows_below, rows_in_slot, is_within, same_slot, is_root, contains_slot, overlaps}
+use Rattle.td_doc.specs.Slots.{slot_path, rows_below, rows_in_slot, is_within, contains_slot, overlaps}
+use Rattle.td_path.specs.Slot.{same_slot, is_root}
 use Rattle.td_doc.specs.Array.{named, array}
 use Rattle.td_doc.specs.Flatten.{rows_beside, flatten_below, flatten}
 use Rattle.td_doc.proofs.PutRows.{puts_in}
@@ -28,6 +29,8 @@ use Rattle.td_doc.proofs.Rules.{found, in_found, unfound}
 use Rattle.td_doc.proofs.SlotRows.{split, split_flatten, contained_in, filter_none, filter_parts, false_of}
 use Rattle.td_doc.proofs.Flattened.{stays_beside, flatten_document}
 use Rattle.td_doc.proofs.SubtreeRows.{was, find_in, within_is, row_of}
+use Rattle.td_base.proofs.Equals.{same_id_refl}
+use Rattle.td_base.specs.Equality.{same_bit, same_id}
 
 none_some : (s : SlotPath) → None ≡ Some s → ⊥
 none_some s h = cc
@@ -43,11 +46,11 @@ module _ (rows : List DocRow) (d : IsDocument rows) where
       let a = found x r rows e in
       let b = found y s rows f in
       ⊎_elim
-      (λ (k : (is_eq (path_cmp r.path s.path) && is_eq (bit_cmp bit side)) ≡ true).
-      let both = both_true _ _ k in
+      (λ (k : (is_eq (path_cmp r.path s.path) && same_bit bit side) ≡ true).
+      let both = and_parts _ _ k in
       let ids : x ≡ y = sym a.1 ∙ ap (last_id nobody) (equal_paths r.path s.path (is_eq_true _ both.0)) ∙ b.1 in
-      let id : is_eq (id_cmp x y) ≡ true = ap (λ z. is_eq (id_cmp x z)) (sym ids) ∙ ap is_eq (tied_itself id_total x) in
-      or_left (same_slot (At x bit) (At y side) || is_root (At x bit)) _ (or_left (same_slot (At x bit) (At y side)) _ ((λ i. id i && is_eq (bit_cmp bit side)) ∙ both.1)))
+      let id : same_id x y ≡ true = ap (λ z. same_id x z) (sym ids) ∙ same_id_refl x in
+      or_left (same_slot (At x bit) (At y side) || is_root (At x bit)) _ (or_left (same_slot (At x bit) (At y side)) _ ((λ i. id i && same_bit bit side) ∙ both.1)))
       (λ (k : goes_on r.path bit s.path ≡ true).
       or_right (same_slot (At x bit) (At y side) || is_root (At x bit)) _
       (ap (λ (o : Option DocRow). is_some (find_row y (rows_below rows (option_map (λ (q : DocRow). Below q.path bit) o)))) e
@@ -142,4 +145,4 @@ module _ (rows : List DocRow) (d : IsDocument rows) where
   other_slot s t out = other_slot_at s t (slot_path rows s) refl out
 
 pub overlaps_mutual : (rows : List DocRow) (s t : Slot) → overlaps rows s t ≡ overlaps rows t s
-overlaps_mutual rows s t = or_swap (contains_slot rows s t) (contains_slot rows t s)
+overlaps_mutual rows s t = or_comm (contains_slot rows s t) (contains_slot rows t s)

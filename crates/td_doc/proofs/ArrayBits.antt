@@ -12,7 +12,8 @@ use Rattle.td_path.specs.declared.slot_path.SlotPath.{SlotPath}
 use Rattle.td_path.specs.declared.slot_path.SlotPath.TheVariants.{Whole, Below}
 use Rattle.td_path.proofs.ArrayShape.{below, after, shape_node}
 use Rattle.td_doc.specs.Document.{DocRow}
-use Rattle.td_doc.specs.Array.{NamedAtom, row_in, around, array_upto, array}
+use Rattle.td_doc.specs.Array.{row_in, around, array_upto, array}
+use Rattle.td_base.specs.RunAtoms.{NamedAtom}
 use Rattle.td_doc.specs.Subtrees.{slot_depth, bits_in}
 use Rattle.td_doc.proofs.ArrayRows.{Starts, array_starts}
 

@@ -11,7 +11,8 @@ use Rattle.td_path.specs.SlotPaths.{path_in}
 use Rattle.td_path.specs.declared.slot_path.SlotPath.{SlotPath}
 use Rattle.td_path.specs.declared.slot_path.SlotPath.TheVariants.{Below}
 use Rattle.td_doc.specs.Document.{DocRow}
-use Rattle.td_doc.specs.Array.{NamedAtom, named, row_in, around, array_upto, array}
+use Rattle.td_doc.specs.Array.{named, row_in, around, array_upto, array}
+use Rattle.td_base.specs.RunAtoms.{NamedAtom}
 use Rattle.td_doc.proofs.ArrayRows.{array_names}
 
 -- what is given in place of the length does not matter

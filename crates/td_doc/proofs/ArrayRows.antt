@@ -13,7 +13,8 @@ use Rattle.td_path.specs.declared.slot_path.SlotPath.{SlotPath}
 use Rattle.td_path.specs.declared.slot_path.SlotPath.TheVariants.{Whole, Below}
 use Rattle.td_path.proofs.InfixOrder.{path_total, left_before, right_after, goes_on_from}
 use Rattle.td_doc.specs.Document.{DocRow, is_empty_list, live_rows, IsPath}
-use Rattle.td_doc.specs.Array.{NamedAtom, named, row_in, around, array_upto, array}
+use Rattle.td_doc.specs.Array.{named, row_in, around, array_upto, array}
+use Rattle.td_base.specs.RunAtoms.{NamedAtom}
 use Rattle.td_doc.proofs.PathEnds.{last_id-append}
 use Rattle.td_doc.proofs.PutRows.{Before}
 

@@ -9,14 +9,15 @@ use Rattle.std.proofs.lemmas.Cmp.{tied_itself}
 use Rattle.std.proofs.lemmas.List.{length-set}
 use Rattle.std.proofs.lemmas.Option.{cond_some}
 use Rattle.td_base.specs.Value.{DotValue, AtomIdValue}
-use Rattle.td_base.specs.Order.{dot_cmp, id_cmp}
+use Rattle.td_base.specs.Order.{dot_cmp}
 use Rattle.td_path.specs.Infix.{Pairs}
-use Rattle.td_path.proofs.InfixOrder.{dot_total, equal_dots}
+use Rattle.td_base.proofs.Orders.{dot_total, equal_dots}
 use Rattle.td_doc.specs.Document.{DocRow, last_id, has_id, find_row}
 use Rattle.td_doc.specs.Deletion.{add_dot, delete}
 use Rattle.td_doc.specs.RowParts.{rows_with, IsRowParts}
 use Rattle.td_doc.proofs.RowLists.{found_place}
 use Rattle.td_doc.proofs.Identities.{one, one_more}
+use Rattle.td_base.specs.Equality.{same_id}
 
 abbrev from_dot : DotValue → DotValue → Bool
 from_dot d e = is_le (dot_cmp d e)
@@ -100,13 +101,13 @@ not_found x rows none = sym (found_place (has_id x) rows) ∙ ap is_some (sym no
 
 -- a row with the path of another in its place
 
-same_id : (x : AtomIdValue) (r s : DocRow) → r.path ≡ s.path → has_id x r ≡ has_id x s
-same_id x r s e = ap (λ (p : Pairs). is_eq (id_cmp (last_id (record { dot = record { site = 0; seq = 0 }; offset = 0 }) p) x)) e
+has_id_at : (x : AtomIdValue) (r s : DocRow) → r.path ≡ s.path → has_id x r ≡ has_id x s
+has_id_at x r s e = ap (λ (p : Pairs). same_id (last_id (record { dot = record { site = 0; seq = 0 }; offset = 0 }) p) x) e
 
 count_set : (x : AtomIdValue) (rows : List DocRow) (k : ℕ) (old new : DocRow) → old ≡ get_or rows k old → new.path ≡ old.path → rows_with x (set rows k new) ≡ rows_with x rows
 count_set x [] k old new is path = refl
 count_set x (s ∷ rows) zero old new is path =
-    let same = same_id x new s (path ∙ ap (λ (r : DocRow). r.path) is) in
+    let same = has_id_at x new s (path ∙ ap (λ (r : DocRow). r.path) is) in
     omega (arith, ap one same, one_more (has_id x) new rows, one_more (has_id x) s rows)
 count_set x (s ∷ rows) (suc k) old new is path = omega (arith, one_more (has_id x) s (set rows k new), one_more (has_id x) s rows, count_set x rows k old new is path)
 

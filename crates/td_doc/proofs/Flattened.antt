@@ -17,7 +17,8 @@ use Rattle.td_path.specs.declared.slot_path.SlotPath.TheVariants.{Whole, Below}
 use Rattle.td_path.proofs.InfixOrder.{goes_on_from, goes_on_parts}
 use Rattle.td_doc.specs.Document.{DocRow, row_id, find_row, is_empty_list, is_live, live_rows, text_of, IsDocument}
 use Rattle.td_doc.specs.Slots.{slot_path, rows_below, rows_in_slot}
-use Rattle.td_doc.specs.Array.{NamedAtom, named, array}
+use Rattle.td_doc.specs.Array.{named, array}
+use Rattle.td_base.specs.RunAtoms.{NamedAtom}
 use Rattle.td_doc.specs.Flatten.{rows_beside, flatten_below, flatten}
 use Rattle.td_doc.specs.Stretches.{IsReplaced, is_in, kept_rows}
 use Rattle.td_doc.proofs.PutRows.{Before, Differ}

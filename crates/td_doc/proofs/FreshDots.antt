@@ -8,7 +8,8 @@ use Rattle.td_path.specs.declared.slot.Slot.{Slot}
 use Rattle.td_path.specs.declared.slot_path.SlotPath.{SlotPath}
 use Rattle.td_doc.specs.Document.{DocRow, row_id}
 use Rattle.td_doc.specs.Slots.{slot_path}
-use Rattle.td_doc.specs.Array.{NamedAtom, named, array, run_atoms_from, run_atoms}
+use Rattle.td_doc.specs.Array.{named, array}
+use Rattle.td_base.specs.RunAtoms.{NamedAtom, run_atoms_from, run_atoms}
 use Rattle.td_doc.specs.Insertion.{put_row, put_rows, put_array_below, insert_run}
 use Rattle.td_doc.specs.Answers.{IsFresh}
 use Rattle.td_doc.proofs.ArrayRows.{array_names}

@@ -1,23 +1,21 @@
 -- How many rows have an identity, before and after a change.
 use Rattle.std.proofs.Common.{◌≡◌, ◌≢◌, ◌⊎◌, ℕ, suc, ◌+◌, ◌<◌, ◌≤◌, ◌^◌, List, [], ◌∷◌, Bool, true, false, cond, not, length, map, filter, Some, IsNone, refl, sym, ap, ◌∙◌, subst, inl, inr, ⊎_elim, arith, true≢false}
-use Rattle.std.specs.declared.cmp.Ordering.{Ordering}
-use Rattle.std.specs.declared.cmp.Ordering.TheVariants.{Less, Equal, Greater}
-use Rattle.std.specs.Ordering.{is_eq, is_lt}
+use Rattle.std.specs.Ordering.{is_lt}
 use Rattle.td_base.specs.Value.{DotValue, AtomIdValue}
-use Rattle.td_base.specs.Order.{dot_cmp, id_cmp}
 use Rattle.td_path.specs.Infix.{path_cmp}
 use Rattle.td_path.specs.SlotPaths.{slot_contains}
 use Rattle.td_path.specs.declared.slot_path.SlotPath.{SlotPath}
-use Rattle.std.proofs.lemmas.Cmp.{tied_itself}
-use Rattle.td_path.proofs.InfixOrder.{dot_total, equal_dots, equal_ids}
 use Rattle.td_doc.specs.Document.{DocRow, row_id, has_id, find_row, is_live, live_rows}
 use Rattle.td_doc.specs.Slots.{rows_below}
-use Rattle.td_doc.specs.Array.{NamedAtom, named, array, run_atoms_from, run_atoms}
+use Rattle.td_doc.specs.Array.{named, array}
+use Rattle.td_base.specs.RunAtoms.{NamedAtom, run_atoms_from, run_atoms}
 use Rattle.td_doc.specs.Insertion.{put_row, put_rows}
 use Rattle.td_doc.specs.Flatten.{rows_beside}
 use Rattle.td_doc.specs.Answers.{IsFresh}
 use Rattle.td_doc.specs.RowParts.{rows_with, is_named, atoms_with, IsRowParts, AreNew}
 use Rattle.td_doc.proofs.ArrayRows.{array_names}
+use Rattle.td_base.proofs.Equals.{same_dot_true, same_dot_refl, same_id_true}
+use Rattle.td_base.specs.Equality.{same_dot}
 
 -- one more
 
@@ -30,11 +28,6 @@ one_more_at p x xs false = omega arith
 
 pub one_more : {X : Type 0} (p : X → Bool) (x : X) (xs : List X) → length (filter p (x ∷ xs)) ≡ one (p x) + length (filter p xs)
 one_more p x xs = one_more_at p x xs (p x)
-
-is_equal : (o : Ordering) → is_eq o ≡ true → o ≡ Equal
-is_equal Equal h = refl
-is_equal Less h = absurd (true≢false (sym h))
-is_equal Greater h = absurd (true≢false (sym h))
 
 -- rows that are put
 
@@ -94,7 +87,7 @@ none_with x (r ∷ rows) h = at (has_id x r) h (none_with x rows)
 
 new_atom_at : (rows : List DocRow) (a : NamedAtom) (x : AtomIdValue) (b : Bool) → is_named x a ≡ b → IsNone (find_row a.id rows) → (atoms_with x (a ∷ []) ≤ 1) × ((rows_with x rows ≡ 0) ⊎ (atoms_with x (a ∷ []) ≡ 0))
 new_atom_at rows a x true e none =
-    let same : a.id ≡ x = equal_ids a.id x (is_equal (id_cmp a.id x) e) in
+    let same : a.id ≡ x = same_id_true a.id x e in
     (omega (arith, one_more (is_named x) a [], ap one e), inl (ap (λ (y : AtomIdValue). rows_with y rows) (sym same) ∙ none_with a.id rows none))
 new_atom_at rows a x false e none =
     let none : atoms_with x (a ∷ []) ≡ 0 = omega (arith, one_more (is_named x) a [], ap one e) in
@@ -109,7 +102,7 @@ abbrev named_by : DotValue → ℕ → List ℕ → NamedAtom
 named_by dot k atom = record { id = record { dot = dot; offset = k }; atom = atom }
 
 other_dot : (x : AtomIdValue) (dot : DotValue) (k : ℕ) (atom : List ℕ) → dot ≢ x.dot → is_named x (named_by dot k atom) ≡ true → ⊥
-other_dot x dot k atom other e = other (ap (λ (y : AtomIdValue). y.dot) (equal_ids (record { dot = dot; offset = k }) x (is_equal _ e)))
+other_dot x dot k atom other e = other (ap (λ (y : AtomIdValue). y.dot) (same_id_true (record { dot = dot; offset = k }) x e))
 
 of_other_dot : (x : AtomIdValue) (dot : DotValue) (k : ℕ) (run : List (List ℕ)) → dot ≢ x.dot → atoms_with x (run_atoms_from dot k run) ≡ 0
 of_other_dot x dot k [] other = refl
@@ -128,7 +121,7 @@ once x dot k (atom ∷ run) = at (is_named x (named_by dot k atom)) refl (once x
   where
     at : (b : Bool) → is_named x (named_by dot k atom) ≡ b → OnceAtMost x dot (suc k) run → OnceAtMost x dot k (atom ∷ run)
     at true e ih =
-        let offset : k ≡ x.offset = ap (λ (y : AtomIdValue). y.offset) (equal_ids (record { dot = dot; offset = k }) x (is_equal _ e)) in
+        let offset : k ≡ x.offset = ap (λ (y : AtomIdValue). y.offset) (same_id_true (record { dot = dot; offset = k }) x e) in
         let rest = ih.1 (omega (arith, offset)) in
         (omega (arith, rest, one_more (is_named x) (named_by dot k atom) (run_atoms_from dot (suc k) run), ap one e), λ h. absurd (omega (arith, offset, h)))
     at false e ih =
@@ -140,19 +133,19 @@ none_of_dot x [] fresh = refl
 none_of_dot x (r ∷ rows) fresh = at (has_id x r) refl (none_of_dot x rows fresh.1)
   where
     at : (b : Bool) → has_id x r ≡ b → rows_with x rows ≡ 0 → rows_with x (r ∷ rows) ≡ 0
-    at true e ih = absurd (fresh.0 (ap (λ (y : AtomIdValue). y.dot) (equal_ids (row_id r) x (is_equal _ e))))
+    at true e ih = absurd (fresh.0 (ap (λ (y : AtomIdValue). y.dot) (same_id_true (row_id r) x e)))
     at false e ih = omega (arith, ih, one_more (has_id x) r rows, ap one e)
 
-new_run_at : (rows : List DocRow) (dot : DotValue) (run : List (List ℕ)) (x : AtomIdValue) (b : Bool) → is_eq (dot_cmp dot x.dot) ≡ b → IsFresh rows dot → (rows_with x rows ≡ 0) ⊎ (atoms_with x (run_atoms dot run) ≡ 0)
+new_run_at : (rows : List DocRow) (dot : DotValue) (run : List (List ℕ)) (x : AtomIdValue) (b : Bool) → same_dot dot x.dot ≡ b → IsFresh rows dot → (rows_with x rows ≡ 0) ⊎ (atoms_with x (run_atoms dot run) ≡ 0)
 new_run_at rows dot run x true e fresh =
-    let same : dot ≡ x.dot = equal_dots dot x.dot (is_equal _ e) in
+    let same : dot ≡ x.dot = same_dot_true dot x.dot e in
     inl (none_of_dot x rows (subst (IsFresh rows) same fresh))
 new_run_at rows dot run x false e fresh =
-    let other : dot ≢ x.dot = λ h. true≢false (sym (ap is_eq (tied_itself dot_total dot)) ∙ ap (λ (d : DotValue). is_eq (dot_cmp dot d)) h ∙ e) in
+    let other : dot ≢ x.dot = λ h. true≢false (sym (same_dot_refl dot) ∙ ap (λ (d : DotValue). same_dot dot d) h ∙ e) in
     inr (of_other_dot x dot 0 run other)
 
 pub new_run : (rows : List DocRow) (dot : DotValue) (run : List (List ℕ)) → IsFresh rows dot → AreNew rows (run_atoms dot run)
-new_run rows dot run fresh x = ((once x dot 0 run).0, new_run_at rows dot run x (is_eq (dot_cmp dot x.dot)) refl fresh)
+new_run rows dot run fresh x = ((once x dot 0 run).0, new_run_at rows dot run x (same_dot dot x.dot) refl fresh)
 
 -- a flatten
 

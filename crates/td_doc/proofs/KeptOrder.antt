@@ -7,7 +7,8 @@ use Rattle.td_base.proofs.Lists.{In-filter, In-map, map_In, all_in}
 use Rattle.td_path.specs.declared.slot.Slot.{Slot}
 use Rattle.td_doc.specs.Document.{DocRow, row_id, find_row, is_live, IsDocument}
 use Rattle.td_doc.specs.Slots.{slot_path}
-use Rattle.td_doc.specs.Array.{NamedAtom, named}
+use Rattle.td_doc.specs.Array.{named}
+use Rattle.td_base.specs.RunAtoms.{NamedAtom}
 use Rattle.td_doc.specs.Flatten.{flatten}
 use Rattle.td_doc.specs.Answers.{IsRow}
 use Rattle.td_doc.specs.Stretches.{StandsBefore, is_in, kept_rows}

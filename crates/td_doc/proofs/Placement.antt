@@ -3,8 +3,6 @@ use Rattle.std.proofs.Common.{◌≡◌, ◌≢◌, ◌⊎◌, ℕ, List, [], �
 use Rattle.std.specs.Prelude.{IsSome, MatchOption}
 use Rattle.std.specs.Option.{option_map}
 use Rattle.std.specs.declared.cmp.Ordering.TheVariants.{Less}
-use Rattle.std.specs.Ordering.{is_eq}
-use Rattle.std.proofs.lemmas.Cmp.{tied_itself}
 use Rattle.std.proofs.lemmas.Bool.{cases_Bool}
 use Rattle.td_base.specs.declared.bit.Bit.{Bit}
 use Rattle.td_base.specs.declared.bit.Bit.TheVariants.{Left, Right}
@@ -17,25 +15,27 @@ use Rattle.td_path.specs.declared.slot.Slot.{Slot}
 use Rattle.td_path.specs.declared.slot.Slot.TheVariants.{At}
 use Rattle.td_path.specs.declared.slot_path.SlotPath.{SlotPath}
 use Rattle.td_path.specs.declared.slot_path.SlotPath.TheVariants.{Whole, Below}
-use Rattle.td_path.proofs.InfixOrder.{path_total, id_total, equal_ids, is_eq_true, left_before, right_after, between_left, between_right, goes_on_parts}
+use Rattle.td_path.proofs.InfixOrder.{path_total, left_before, right_after, between_left, between_right, goes_on_parts}
 use Rattle.td_doc.specs.Document.{DocRow, row_id, has_id, find_row, is_empty_list, IsDocument}
 use Rattle.td_doc.specs.Slots.{slot_path, rows_below, is_empty_slot}
 use Rattle.td_doc.specs.Allocation.{first_id, next_id, slot_before, alloc}
-use Rattle.td_doc.specs.Array.{NamedAtom, row_in, array, run_atoms}
+use Rattle.td_doc.specs.Array.{row_in, array}
+use Rattle.td_base.specs.RunAtoms.{NamedAtom, run_atoms}
 use Rattle.td_doc.specs.Insertion.{put_rows, put_below, put_array_below, insert_atom, insert_run, IsNew, ComesBetween}
 use Rattle.td_doc.specs.Stretches.{RunBetween}
 use Rattle.td_doc.proofs.PathEnds.{last_id-append}
 use Rattle.td_doc.proofs.PutRows.{Before, Differ, not_before_itself, not_both_before, three_ways, put_between, put_before}
 use Rattle.td_doc.proofs.ArrayRows.{array_starts, array_ascends, array_names, array_live, array_of_one, starts_contained}
 use Rattle.td_doc.proofs.SlotRows.{filter_none, false_of}
+use Rattle.td_base.proofs.Equals.{same_id_true, same_id_refl}
 
 -- finding a row
 
 pub self_id : (r : DocRow) → has_id (row_id r) r ≡ true
-self_id r = ap is_eq (tied_itself id_total (row_id r))
+self_id r = same_id_refl (row_id r)
 
 pub has_id-true : (x : AtomIdValue) (r : DocRow) → has_id x r ≡ true → row_id r ≡ x
-has_id-true x r h = equal_ids (row_id r) x (is_eq_true _ h)
+has_id-true x r h = same_id_true (row_id r) x h
 
 pub has_id-false : (x : AtomIdValue) (r : DocRow) → row_id r ≢ x → has_id x r ≡ false
 has_id-false x r n = ⊎_elim (λ (h : has_id x r ≡ true). absurd (n (has_id-true x r h))) (λ (h : has_id x r ≡ false). h) (cases_Bool (has_id x r))

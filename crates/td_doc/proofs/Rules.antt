@@ -18,7 +18,8 @@ use Rattle.td_path.specs.declared.slot_path.SlotPath.TheVariants.{Whole, Below}
 use Rattle.td_doc.specs.Document.{DocRow, last_id, row_id, has_id, find_row, IsPath, IsDocument}
 use Rattle.td_doc.specs.Slots.{slot_path, is_empty_slot}
 use Rattle.td_doc.specs.Allocation.{first_id, next_id, slot_before, alloc}
-use Rattle.td_doc.specs.Array.{NamedAtom, named, array, run_atoms_from, run_atoms}
+use Rattle.td_doc.specs.Array.{named, array}
+use Rattle.td_base.specs.RunAtoms.{NamedAtom, run_atoms_from, run_atoms}
 use Rattle.td_doc.specs.Insertion.{put_rows, put_array_below, insert_atom, insert_run}
 use Rattle.td_doc.specs.Answers.{IsRow, IsRooted, IsFresh}
 use Rattle.td_doc.proofs.PutRows.{Before, Differ, IsOther, in_puts, puts_in, ascending_puts, apart_puts}

@@ -8,7 +8,7 @@ use Rattle.std.proofs.lemmas.Option.{slice_get-get_or}
 use Rattle.td_base.specs.Value.{DotValue}
 use Rattle.td_base.specs.Atom.{IsAtom}
 use Rattle.td_base.specs.Run.{IsRun}
-use Rattle.td_doc.specs.Array.{NamedAtom, run_atoms_from}
+use Rattle.td_base.specs.RunAtoms.{NamedAtom, run_atoms_from}
 
 -- each atom has a byte
 no_more_than_bytes : (atoms : List (List ℕ)) → All IsAtom atoms → length atoms ≤ length (concat atoms)

@@ -2,25 +2,25 @@
 use Rattle.std.proofs.Common.{◌≡◌, ◌⊎◌, List, [], ◌∷◌, ◌++◌, Bool, true, false, ◌&&◌, cond, map, filter, refl, sym, ap, ◌∙◌, subst, inl, inr, ⊎_elim, true≢false}
 use Rattle.std.specs.Prelude.{IsSome, is_some, Option, Some, None}
 use Rattle.std.specs.Option.{option_map}
-use Rattle.std.specs.Ordering.{is_eq}
 use Rattle.std.specs.declared.cmp.Ordering.TheVariants.{Less}
 use Rattle.td_base.specs.declared.bit.Bit.{Bit}
 use Rattle.td_base.specs.declared.bit.Bit.TheVariants.{Left, Right}
-use Rattle.td_base.specs.Order.{bit_cmp}
 use Rattle.td_base.specs.Value.{AtomIdValue}
 use Rattle.td_base.specs.Lists.{In, Successive}
 use Rattle.td_base.proofs.Lists.{In-front, In-back, In-filter, filter_In, In-map, map_In, all_in}
-use Rattle.td_path.specs.Infix.{Pair, Pairs, pair_cmp, same_pair, path_cmp}
+use Rattle.td_path.specs.Infix.{Pair, Pairs, same_pair, path_cmp}
 use Rattle.td_path.specs.SlotPaths.{goes_on, slot_contains}
 use Rattle.td_path.specs.declared.slot.Slot.{Slot}
 use Rattle.td_path.specs.declared.slot.Slot.TheVariants.{Root, At}
 use Rattle.td_path.specs.declared.slot_path.SlotPath.{SlotPath}
 use Rattle.td_path.specs.declared.slot_path.SlotPath.TheVariants.{Whole, Below}
-use Rattle.td_path.proofs.InfixOrder.{first_pairs, same_pairs, equal_pairs, is_eq_true, both_true}
+use Rattle.td_path.proofs.InfixOrder.{first_pairs, same_pair_true, same_pair_from, same_pair_refl}
+use Rattle.std.proofs.lemmas.Bool.{and_parts}
 use Rattle.td_path.proofs.SlotOverlap.{none_empty}
 use Rattle.td_doc.specs.Document.{DocRow, row_id, find_row, is_live, live_rows, IsDocument}
 use Rattle.td_doc.specs.Slots.{slot_path, rows_below, is_within}
-use Rattle.td_doc.specs.Array.{NamedAtom, named, array}
+use Rattle.td_doc.specs.Array.{named, array}
+use Rattle.td_base.specs.RunAtoms.{NamedAtom}
 use Rattle.td_doc.specs.Flatten.{rows_beside, flatten_below, flatten}
 use Rattle.td_doc.specs.Answers.{IsRow}
 use Rattle.td_doc.specs.Stretches.{IsStretch}
@@ -30,6 +30,7 @@ use Rattle.td_doc.proofs.ArrayRows.{array_names}
 use Rattle.td_doc.proofs.Rules.{found, in_found}
 use Rattle.td_doc.proofs.SlotRows.{contained_in, false_of}
 use Rattle.td_doc.proofs.Flattened.{same_row, beside, stays_beside, not_in_own_slots, contains_more, flatten_document}
+use Rattle.td_base.specs.Equality.{same_bit}
 
 -- what stands between two of a subtree is in it
 
@@ -42,17 +43,17 @@ begins_between [] p q r a b h k = refl
 begins_between (c ∷ node) [] q r a b h k = absurd (true≢false (sym a))
 begins_between (c ∷ node) (x ∷ p) q [] a b h k = absurd (true≢false (sym b))
 begins_between (c ∷ node) (x ∷ p) [] (z ∷ r) a b h k =
-    let e = both_true _ _ a in
-    let f = both_true _ _ b in
-    let same : x ≡ z = sym (equal_pairs c x (is_eq_true _ e.0)) ∙ equal_pairs c z (is_eq_true _ f.0) in
+    let e = and_parts _ _ a in
+    let f = and_parts _ _ b in
+    let same : x ≡ z = sym (same_pair_true c x e.0) ∙ same_pair_true c z f.0 in
     absurd (no_path_between z p r (subst (λ (w : Pair). path_cmp (w ∷ p) [] ≡ Less) same h) k)
 begins_between (c ∷ node) (x ∷ p) (y ∷ q) (z ∷ r) a b h k =
-    let e = both_true _ _ a in
-    let f = both_true _ _ b in
-    let first : c ≡ x = equal_pairs c x (is_eq_true _ e.0) in
-    let last : c ≡ z = equal_pairs c z (is_eq_true _ f.0) in
+    let e = and_parts _ _ a in
+    let f = and_parts _ _ b in
+    let first : c ≡ x = same_pair_true c x e.0 in
+    let last : c ≡ z = same_pair_true c z f.0 in
     let both = first_pairs c y (path_cmp p q) (path_cmp q r) (subst (λ (w : Pair). path_cmp (w ∷ p) (y ∷ q) ≡ Less) (sym first) h) (subst (λ (w : Pair). path_cmp (y ∷ q) (w ∷ r) ≡ Less) (sym last) k) in
-    ap (λ o. is_eq o && begins node q) both.0 ∙ begins_between node p q r e.1 f.1 both.1 both.2
+    ap (λ (t : Bool). t && begins node q) (same_pair_from c y both.0) ∙ begins_between node p q r e.1 f.1 both.1 both.2
 
 -- rows of which all between two are such rows
 
@@ -97,8 +98,8 @@ subtree_stretch rows b up = stretch_at rows (find_row b rows) up
 and_false : (a b : Bool) → a ≡ false → (a && b) ≡ false
 and_false a b e = ap (λ c. c && b) e
 
-first_other : (c p : Pair) (bit : Bit) → is_eq (bit_cmp c.0 bit) ≡ false → is_eq (bit_cmp p.0 bit) ≡ true → same_pair c p ≡ false
-first_other c p bit n y = false_of (same_pair c p) (λ h. true≢false (sym y ∙ ap (λ (q : Pair). is_eq (bit_cmp q.0 bit)) (sym (equal_pairs c p (is_eq_true _ h))) ∙ n))
+first_other : (c p : Pair) (bit : Bit) → same_bit c.0 bit ≡ false → same_bit p.0 bit ≡ true → same_pair c p ≡ false
+first_other c p bit n y = false_of (same_pair c p) (λ h. true≢false (sym y ∙ ap (λ (q : Pair). same_bit q.0 bit) (sym (same_pair_true c p h)) ∙ n))
 
 begins_alike : (front : Pairs) (bit : Bit) (node p q : Pairs) → goes_on front bit p ≡ true → goes_on front bit q ≡ true → goes_on front bit node ≡ false → begins node p ≡ begins node q
 begins_alike front bit [] p q h k n = refl
@@ -106,15 +107,15 @@ begins_alike front bit (c ∷ node) [] q h k n = absurd (none_empty front bit h)
 begins_alike front bit (c ∷ node) (x ∷ p) [] h k n = absurd (none_empty front bit k)
 begins_alike [] bit (c ∷ node) (x ∷ p) (y ∷ q) h k n = and_false (same_pair c x) (begins node p) (first_other c x bit n h) ∙ sym (and_false (same_pair c y) (begins node q) (first_other c y bit n k))
 begins_alike (g ∷ front) bit (c ∷ node) (x ∷ p) (y ∷ q) h k n =
-    let a = both_true _ _ h in
-    let b = both_true _ _ k in
-    let first : g ≡ x = equal_pairs g x (is_eq_true _ a.0) in
-    let second : g ≡ y = equal_pairs g y (is_eq_true _ b.0) in
+    let a = and_parts _ _ h in
+    let b = and_parts _ _ k in
+    let first : g ≡ x = same_pair_true g x a.0 in
+    let second : g ≡ y = same_pair_true g y b.0 in
     (λ i. same_pair c (sym first i) && begins node p)
     ∙ at (same_pair c g) refl (begins_alike front bit node p q a.1 b.1) ∙ (λ i. same_pair c (second i) && begins node q)
   where
     inner : same_pair c g ≡ true → goes_on front bit node ≡ false
-    inner e = ap (λ o. is_eq o && goes_on front bit node) (sym (ap (pair_cmp g) (equal_pairs c g (is_eq_true _ e)) ∙ same_pairs g)) ∙ n
+    inner e = ap (λ (t : Bool). t && goes_on front bit node) (sym (ap (same_pair g) (same_pair_true c g e) ∙ same_pair_refl g)) ∙ n
 
     at : (b : Bool) → same_pair c g ≡ b → (goes_on front bit node ≡ false → begins node p ≡ begins node q) → (same_pair c g && begins node p) ≡ (same_pair c g && begins node q)
     at true e ih = ap (λ o. same_pair c g && o) (ih (inner e))
@@ -214,9 +215,9 @@ begins_parts : (node p : Pairs) → begins node p ≡ true → (more : Pairs) ×
 begins_parts [] p h = (p, refl)
 begins_parts (c ∷ node) [] h = absurd (true≢false (sym h))
 begins_parts (c ∷ node) (x ∷ p) h =
-    let a = both_true _ _ h in
+    let a = and_parts _ _ h in
     let m = begins_parts node p a.1 in
-    (m.0, λ i. sym (equal_pairs c x (is_eq_true _ a.0)) i ∷ m.1 i)
+    (m.0, λ i. sym (same_pair_true c x a.0) i ∷ m.1 i)
 
 outside_at : (p node : Pairs) (bit : Bit) → begins node p ≡ true → goes_on p bit node ≡ false
 outside_at p node bit h =

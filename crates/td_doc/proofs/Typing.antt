@@ -13,7 +13,8 @@ use Rattle.td_base.proofs.Lists.{In-back}
 use Rattle.td_doc.specs.Document.{DocRow, row_id, is_live, is_empty_list, live_rows, live_atoms, live_id_at, IsDocument}
 use Rattle.td_doc.specs.Allocation.{alloc, anchor}
 use Rattle.td_doc.specs.Insertion.{insert_atom, insert_run, IsNew, ComesBetween}
-use Rattle.td_doc.specs.Array.{NamedAtom, named, run_atoms_from, run_atoms}
+use Rattle.td_doc.specs.Array.{named}
+use Rattle.td_base.specs.RunAtoms.{NamedAtom, run_atoms_from, run_atoms}
 use Rattle.td_doc.specs.Stretches.{RunBetween}
 use Rattle.td_doc.specs.Answers.{IsRow}
 use Rattle.td_doc.proofs.Rules.{in_found}

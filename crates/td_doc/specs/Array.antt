@@ -1,17 +1,13 @@
 -- Arrays: how a list of atoms becomes a subtree (the "explode" of Preguiça et al. 2009).
 use Rattle.std.specs.Prelude.{ℕ, zero, suc, ◌/◌, List, [], ◌∷◌, ◌++◌, length, take, drop}
 use Rattle.td_base.specs.declared.bit.Bit.TheVariants.{Left, Right}
-use Rattle.td_base.specs.Value.{DotValue, AtomIdValue}
+use Rattle.td_base.specs.RunAtoms.{NamedAtom}
 use Rattle.td_path.specs.SlotPaths.{path_in}
 use Rattle.td_path.specs.declared.slot_path.SlotPath.{SlotPath}
 use Rattle.td_path.specs.declared.slot_path.SlotPath.TheVariants.{Below}
 use Rattle.td_doc.specs.Document.{DocRow, row_id}
 
--- an atom with its identity
-pub record NamedAtom : Type 0 where
-  pub id : AtomIdValue
-  pub atom : List ℕ
-
+-- the atom of a row, with its identity
 abbrev pub named : DocRow → NamedAtom
 named r = record { id = row_id r; atom = r.atom }
 
@@ -32,11 +28,3 @@ array_upto (suc n) slot atoms = around (array_upto n) slot (take (length atoms /
 
 abbrev pub array : SlotPath → List NamedAtom → List DocRow
 array slot atoms = array_upto (length atoms) slot atoms
-
--- the atoms of an insert: those of its run, whose identities are its dot and their places
-abbrev pub run_atoms_from : DotValue → ℕ → List (List ℕ) → List NamedAtom
-run_atoms_from dot offset [] = []
-run_atoms_from dot offset (atom ∷ run) = record { id = record { dot = dot; offset = offset }; atom = atom } ∷ run_atoms_from dot (suc offset) run
-
-abbrev pub run_atoms : DotValue → List (List ℕ) → List NamedAtom
-run_atoms dot run = run_atoms_from dot 0 run

@@ -3,11 +3,11 @@ use Rattle.std.specs.Prelude.{◌≡◌, ◌≢◌, ℕ, List, [], ◌∷◌, �
 use Rattle.std.specs.declared.cmp.Ordering.TheVariants.{Less}
 use Rattle.std.specs.List.{concat}
 use Rattle.std.specs.Option.{option_map}
-use Rattle.std.specs.Ordering.{is_eq}
 use Rattle.td_base.specs.declared.bit.Bit.TheVariants.{Right}
 use Rattle.td_base.specs.Lists.{In, Successive}
 use Rattle.td_base.specs.Value.{DotValue, AtomIdValue}
-use Rattle.td_base.specs.Order.{dot_cmp, id_cmp}
+use Rattle.td_base.specs.Order.{dot_cmp}
+use Rattle.td_base.specs.Equality.{same_id}
 use Rattle.td_path.specs.Infix.{Pair, Pairs, path_cmp}
 
 -- a row: its path, its atom, and the dots of the deletes that named it, in their order
@@ -49,7 +49,7 @@ abbrev pub live_id_at : List DocRow → ℕ → Option AtomIdValue
 live_id_at rows index = option_map row_id (slice_get (live_rows rows) index)
 
 abbrev pub has_id : AtomIdValue → DocRow → Bool
-has_id x r = is_eq (id_cmp (row_id r) x)
+has_id x r = same_id (row_id r) x
 
 abbrev pub find_row : AtomIdValue → List DocRow → Option DocRow
 find_row x rows = find (has_id x) rows

@@ -7,7 +7,8 @@ use Rattle.td_path.specs.declared.slot.Slot.{Slot}
 use Rattle.td_path.specs.declared.slot_path.SlotPath.{SlotPath}
 use Rattle.td_doc.specs.Document.{DocRow, row_id}
 use Rattle.td_doc.specs.Slots.{slot_path}
-use Rattle.td_doc.specs.Array.{NamedAtom, row_in, array, run_atoms}
+use Rattle.td_doc.specs.Array.{row_in, array}
+use Rattle.td_base.specs.RunAtoms.{NamedAtom, run_atoms}
 
 -- the row put where the infix order has it
 abbrev pub put_row : DocRow → List DocRow → List DocRow

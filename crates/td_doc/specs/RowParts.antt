@@ -1,17 +1,16 @@
 -- What a `Rows` keeps of its rows: there are fewer than 2^32, and no two have one identity.
 use Rattle.std.specs.Prelude.{◌≡◌, ◌⊎◌, ℕ, ◌<◌, ◌≤◌, ◌^◌, List, Bool, filter, length}
-use Rattle.std.specs.Ordering.{is_eq}
 use Rattle.td_base.specs.Value.{AtomIdValue}
-use Rattle.td_base.specs.Order.{id_cmp}
+use Rattle.td_base.specs.Equality.{same_id}
 use Rattle.td_doc.specs.Document.{DocRow, has_id}
-use Rattle.td_doc.specs.Array.{NamedAtom}
+use Rattle.td_base.specs.RunAtoms.{NamedAtom}
 
 -- how many rows have the identity
 abbrev pub rows_with : AtomIdValue → List DocRow → ℕ
 rows_with x rows = length (filter (has_id x) rows)
 
 abbrev pub is_named : AtomIdValue → NamedAtom → Bool
-is_named x a = is_eq (id_cmp a.id x)
+is_named x a = same_id a.id x
 
 -- how many atoms have it
 abbrev pub atoms_with : AtomIdValue → List NamedAtom → ℕ

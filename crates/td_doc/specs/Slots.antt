@@ -1,12 +1,11 @@
 -- Slots, read in one document.
-use Rattle.std.specs.Prelude.{ℕ, List, [], ◌∷◌, Bool, true, false, ◌&&◌, ◌||◌, filter, Option, Some, None}
+use Rattle.std.specs.Prelude.{ℕ, List, [], ◌∷◌, Bool, false, ◌&&◌, ◌||◌, filter, Option, Some, None}
 use Rattle.std.specs.List.{list_all}
 use Rattle.std.specs.Option.{option_map, is_some}
-use Rattle.std.specs.Ordering.{is_eq}
 use Rattle.td_base.specs.Value.{AtomIdValue}
-use Rattle.td_base.specs.Order.{id_cmp, bit_cmp}
 use Rattle.td_clock.specs.Vector.{vector_has}
 use Rattle.td_path.specs.Infix.{Pairs}
+use Rattle.td_path.specs.Slot.{same_slot, is_root}
 use Rattle.td_path.specs.SlotPaths.{slot_contains}
 use Rattle.td_path.specs.declared.slot.Slot.{Slot}
 use Rattle.td_path.specs.declared.slot.Slot.TheVariants.{Root, At}
@@ -44,20 +43,10 @@ own_slot r = last_slot Root r.path
 abbrev pub is_within : List DocRow → AtomIdValue → Slot → Bool
 is_within rows x slot = is_some (find_row x (rows_in_slot rows slot))
 
-abbrev pub same_slot : Slot → Slot → Bool
-same_slot Root Root = true
-same_slot Root (At y c) = false
-same_slot (At x b) Root = false
-same_slot (At x b) (At y c) = is_eq (id_cmp x y) && is_eq (bit_cmp b c)
-
 -- whether the slot's atom is a row in s
 abbrev pub is_atom_within : List DocRow → Slot → Slot → Bool
 is_atom_within rows s Root = false
 is_atom_within rows s (At y bit) = is_within rows y s
-
-abbrev pub is_root : Slot → Bool
-is_root Root = true
-is_root (At x bit) = false
 
 -- whether the slot s contains the slot t: they are one, or s is the root, or the atom of t is a row in s
 abbrev pub contains_slot : List DocRow → Slot → Slot → Bool

@@ -6,7 +6,8 @@ use Rattle.td_path.specs.declared.slot.Slot.{Slot}
 use Rattle.td_path.specs.declared.slot_path.SlotPath.{SlotPath}
 use Rattle.td_doc.specs.Document.{DocRow, is_live, live_rows}
 use Rattle.td_doc.specs.Slots.{slot_path}
-use Rattle.td_doc.specs.Array.{NamedAtom, named}
+use Rattle.td_doc.specs.Array.{named}
+use Rattle.td_base.specs.RunAtoms.{NamedAtom}
 
 -- the part is a stretch of the rows: its rows stand there next to each other
 pub record IsStretch (part rows : List DocRow) : Type 0 where

@@ -2,13 +2,13 @@
 ghost use Rattle.std.specs.Prelude.{◌≡◌, ◌<◌, ◌∷◌, ◌++◌, [], length, IfOk, slice_get, Some};
 ghost use Rattle.td_base.specs.Value.{AtomIdValue};
 ghost use Rattle.td_path.specs.SlotPaths.{path_in};
-ghost use Rattle.td_doc.specs.Array.{array, run_atoms};
+ghost use Rattle.td_doc.specs.Array.{array};
+ghost use Rattle.td_base.specs.RunAtoms.{run_atoms};
 
-use crate::named_atom::NamedAtom;
 use crate::path_row::PathRow;
 use std::alloc::Global;
 use std::cmp::Ordering;
-use td_base::{AtomId, Bit, Dot, Memory, Run};
+use td_base::{AtomId, Bit, Dot, Memory, NamedAtom, Run};
 use td_path::{Path, SlotPath};
 
 /// The rows of the array of these atoms in the slot (the "explode" of Preguiça et al. 2009).

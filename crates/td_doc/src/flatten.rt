@@ -7,10 +7,9 @@ ghost use Rattle.td_doc.specs.Flatten.{flatten_below};
 
 use crate::array::array;
 use crate::insertion::put_rows;
-use crate::named_atom::NamedAtom;
 use crate::path_row::PathRow;
 use std::alloc::Global;
-use td_base::Memory;
+use td_base::{Memory, NamedAtom};
 use td_path::{SlotPath, contains};
 
 /// Makes an array of the live rows in the slot, and drops its tombstones. The rows that go leave room for the new ones.

@@ -13,7 +13,6 @@ mod dots;
 mod flatten;
 mod insertion;
 mod laws;
-mod named_atom;
 mod path_row;
 mod rows;
 mod search;

@@ -5,10 +5,9 @@ ghost use Rattle.td_doc.specs.Array.{named};
 ghost use Rattle.td_doc.specs.Deletion.{add_dot};
 
 use crate::dots::{add_dot, has_all};
-use crate::named_atom::NamedAtom;
 use std::alloc::Global;
 use std::marker::Model;
-use td_base::{Atom, AtomId, Dot, Memory};
+use td_base::{Atom, AtomId, Dot, Memory, NamedAtom};
 use td_clock::Vector;
 use td_path::{Path, Slot};
 
@@ -54,7 +53,7 @@ impl PathRow {
     pub fn has_id(&self, id: AtomId) -> bool
         ensures { result ≡ has_id id self.now }
     {
-        self.id().cmp(&id).is_eq()
+        self.id() == id
     }
 
     pub fn is_live(&self) -> bool

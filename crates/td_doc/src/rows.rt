@@ -8,13 +8,12 @@ use crate::array::{array, run_atoms};
 use crate::doc::{Doc, DocFault, Row};
 use crate::flatten::flatten_rows;
 use crate::insertion::{make_room, put_rows};
-use crate::named_atom::NamedAtom;
 use crate::path_row::PathRow;
 use crate::search::{count_live, find_row, live_at, live_before, next_id, place_of_id};
 use crate::slots::{is_known, is_within, slot_is_empty, slot_path, slots_overlap};
 use std::alloc::Global;
 use std::marker::Model;
-use td_base::{Atom, AtomId, Dot, Memory, Run};
+use td_base::{Atom, AtomId, Dot, Memory, NamedAtom, Run};
 use td_clock::Vector;
 use td_path::Slot;
 

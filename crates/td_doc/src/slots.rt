@@ -3,7 +3,8 @@ ghost use Rattle.std.specs.Prelude.{◌≡◌, ◌||◌, ◌&&◌, not, IfErr, I
 ghost use Rattle.std.specs.List.{list_any, list_all};
 ghost use Rattle.td_path.specs.SlotPaths.{goes_on};
 ghost use Rattle.td_doc.specs.Document.{DocRow, has_id};
-ghost use Rattle.td_doc.specs.Slots.{contains_slot, is_empty_slot, is_known, is_known_row, is_within, overlaps, same_slot, slot_path};
+ghost use Rattle.td_doc.specs.Slots.{contains_slot, is_empty_slot, is_known, is_known_row, is_within, overlaps, slot_path};
+ghost use Rattle.td_path.specs.Slot.{same_slot};
 ghost use Rattle.td_doc.specs.Answers.{IsRooted, IsSlotFault};
 
 use crate::doc::DocFault;

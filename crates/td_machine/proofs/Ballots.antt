@@ -4,12 +4,10 @@ use Rattle.std.proofs.lemmas.Cmp.{tied_itself}
 use Rattle.std.specs.List.{find}
 use Rattle.std.specs.Ordering.{is_eq}
 use Rattle.td_base.specs.Value.{DotValue}
-use Rattle.td_path.proofs.InfixOrder.{dot_total}
-use Rattle.td_machine.specs.Ready.{same_dot}
+use Rattle.td_base.proofs.Orders.{dot_total}
+use Rattle.td_base.specs.Equality.{same_dot}
 use Rattle.td_machine.specs.Decision.{Ballot, is_on, is_open, counted, count_open, revise, close}
-
-pub same_dot_itself : (d : DotValue) → same_dot d d ≡ true
-same_dot_itself d = ap is_eq (tied_itself dot_total d)
+use Rattle.td_base.proofs.Equals.{same_dot_refl}
 
 -- ---- ballots
 

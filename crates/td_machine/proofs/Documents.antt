@@ -16,7 +16,8 @@ use Rattle.td_op.specs.declared.body.Body.TheVariants.{Insert, Delete, Propose, 
 use Rattle.td_op.specs.declared.input.Input.{Input}
 use Rattle.td_op.specs.Op.{OpValue}
 use Rattle.td_doc.specs.Document.{DocRow, row_id, IsDocument, find_row, has_id, is_live}
-use Rattle.td_doc.specs.Array.{NamedAtom, named, run_atoms_from, run_atoms}
+use Rattle.td_doc.specs.Array.{named}
+use Rattle.td_base.specs.RunAtoms.{NamedAtom, run_atoms_from, run_atoms}
 use Rattle.td_doc.specs.Insertion.{insert_run, put_array_below}
 use Rattle.td_doc.specs.Deletion.{delete, mark_deleted, add_dot}
 use Rattle.td_doc.specs.Flatten.{flatten}
@@ -36,6 +37,7 @@ use Rattle.td_machine.specs.History.{History, after, IsLegalFrom}
 use Rattle.td_machine.proofs.Walk.{IsKept, closed, walk}
 use Rattle.td_machine.proofs.Causal.{IsOffered, At, counting, own_next, ready_next, offered_here, start_at, valid_op, foreign_offered, waiting_offered}
 use Rattle.td_machine.proofs.Vectors.{bump_same, bump_covers}
+use Rattle.td_base.proofs.RunIds.{run_atom_dot}
 
 -- ---- rows by their dots
 
@@ -46,11 +48,6 @@ RowsOf Has rows = (r : DocRow) → In r rows → Has (row_id r).dot
 fresh_of : (rows : List DocRow) (dot : DotValue) → ((r : DocRow) → In r rows → (row_id r).dot ≢ dot) → IsFresh rows dot
 fresh_of [] dot h = tt
 fresh_of (r ∷ rows) dot h = (h r (inl refl), fresh_of rows dot (λ s i. h s (inr i)))
-
-run_dots : (dot : DotValue) (k : ℕ) (run : List (List ℕ)) (a : NamedAtom) → In a (run_atoms_from dot k run) → a.id.dot ≡ dot
-run_dots dot k [] a i = absurd i
-run_dots dot k (atom ∷ run) a (inl e) = ap (λ (b : NamedAtom). b.id.dot) e
-run_dots dot k (atom ∷ run) a (inr i) = run_dots dot (suc k) run a i
 
 insert_document : (slot : Slot) (dot : DotValue) (run : List (List ℕ)) (rows : List DocRow) → IsDocument rows → IsFresh rows dot → IsDocument (insert_run slot dot run rows)
 insert_document Root dot run rows d fresh = run_keeps rows Root dot run d fresh tt
@@ -68,7 +65,7 @@ Obeys Has rows = IsDocument rows × RowsOf Has rows
 insert_obeys : (Has : DotValue → Type 0) (slot : Slot) (dot : DotValue) (run : List (List ℕ)) (rows : List DocRow) → Obeys Has rows → (Has dot → ⊥) → Obeys (λ (d : DotValue). Has d ⊎ (d ≡ dot)) (insert_run slot dot run rows)
 insert_obeys Has slot dot run rows o new = (
   insert_document slot dot run rows o.0 (fresh_of rows dot (λ r i e. new (subst Has e (o.1 r i)))),
-  (λ r i. ⊎_elim (λ (j : In r rows). inl (o.1 r j)) (λ (j : In (named r) (run_atoms_from dot 0 run)). inr (run_dots dot 0 run (named r) j)) (run_adds slot dot run rows r i)),
+  (λ r i. ⊎_elim (λ (j : In r rows). inl (o.1 r j)) (λ (j : In (named r) (run_atoms_from dot 0 run)). inr (run_atom_dot dot 0 run (named r) j)) (run_adds slot dot run rows r i)),
 )
 
 delete_obeys : (Has : DotValue → Type 0) (x : AtomIdValue) (by : DotValue) (rows : List DocRow) → Obeys Has rows → Obeys Has (delete x by rows)

@@ -16,12 +16,12 @@ use Rattle.td_op.specs.declared.message.Message.TheVariants.{Op as AnOp, Vote as
 use Rattle.td_op.specs.declared.body.Body.{Body}
 use Rattle.td_op.specs.declared.body.Body.TheVariants.{Insert}
 use Rattle.td_op.specs.declared.vote.Vote.{Vote}
-use Rattle.td_op.specs.Op.{OpValue, IsOp}
+use Rattle.td_op.specs.Op.{OpValue, IsOp, named_atom}
 use Rattle.td_op.specs.Past.{in_past, op_sum}
 use Rattle.td_op.specs.Message.{IsOpValue}
 use Rattle.td_op.specs.Input.{IsInput}
 use Rattle.td_machine.specs.Ready.{has_dot}
-use Rattle.td_machine.specs.Naming.{Inserts, named_atom}
+use Rattle.td_op.specs.Insertion.{Inserts}
 use Rattle.td_machine.specs.Counts.{counts, ops_of, IsNext, IsCausal}
 use Rattle.td_machine.specs.Machine.{Machine, start, next_op}
 use Rattle.td_machine.specs.Step.{step}

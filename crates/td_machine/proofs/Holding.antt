@@ -9,7 +9,7 @@ use Rattle.td_base.specs.Lists.{In, Successive}
 use Rattle.td_base.proofs.Lists.{In-filter, all_in, all_of, any_found, any_none, successive_filter}
 use Rattle.td_clock.specs.Vector.{vector_get, vector_has, vector_bump}
 use Rattle.td_clock.proofs.VectorLemmas.{covered_dots}
-use Rattle.td_path.proofs.InfixOrder.{equal_dots, is_eq_true}
+use Rattle.td_base.proofs.Orders.{equal_dots, is_eq_true}
 use Rattle.td_path.specs.declared.slot.Slot.{Slot}
 use Rattle.td_path.specs.declared.slot.Slot.TheVariants.{Root, At as AtSlot}
 use Rattle.td_op.specs.declared.body.Body.{Body}
@@ -24,7 +24,8 @@ use Rattle.td_doc.specs.Deletion.{delete}
 use Rattle.td_doc.specs.Flatten.{flatten}
 use Rattle.td_doc.proofs.ApartSlots.{overlaps_mutual}
 use Rattle.td_op.specs.Input.{IsInput}
-use Rattle.td_machine.specs.Ready.{same_dot, is_ready}
+use Rattle.td_machine.specs.Ready.{is_ready}
+use Rattle.td_base.specs.Equality.{same_dot}
 use Rattle.td_machine.specs.Log.{Committed, proposed, proposed_slot, commits, is_undecided_of}
 use Rattle.td_machine.specs.Hold.{Hold, least_dot, held_by, is_of, is_held, release}
 use Rattle.td_machine.specs.Vote.{is_rooted, is_apart}
@@ -36,7 +37,8 @@ use Rattle.td_machine.specs.Taking.{body_misfit, vote_on, answer}
 use Rattle.td_machine.specs.Step.{step}
 use Rattle.td_machine.specs.History.{History, after, IsLegalFrom}
 use Rattle.td_machine.proofs.Vectors.{bump_same, bump_covers}
-use Rattle.td_machine.proofs.Ballots.{same_dot_itself, counted_open}
+use Rattle.td_machine.proofs.Ballots.{counted_open}
+use Rattle.td_base.proofs.Equals.{same_dot_refl, same_dot_true, same_dot_other}
 use Rattle.td_machine.proofs.Aims.{IsOpenAt}
 use Rattle.td_machine.proofs.Walk.{IsEdit, IsFreeSlot, proposed_here, decision_of, IsClosed, closed, walk}
 use Rattle.td_machine.proofs.Causal.{IsOffered, IsCounted, At, own_next, ready_next, offered_here, valid_op, foreign_offered, waiting_offered}
@@ -44,16 +46,6 @@ use Rattle.td_machine.proofs.Documents.{HasDocument, documents, start_document}
 use Rattle.td_machine.proofs.Stays.{SlotStays, insert_stays, delete_stays, rooted_stays, overlap_same, apart_stays}
 
 -- ---- dots and holds
-
-pub same_dot_true : (d e : DotValue) → same_dot d e ≡ true → d ≡ e
-same_dot_true d e h = equal_dots d e (is_eq_true (dot_cmp d e) h)
-
-other_dot : (d e : DotValue) → d ≢ e → same_dot d e ≡ false
-other_dot d e h = at (same_dot d e) refl
-  where
-    at : (b : Bool) → same_dot d e ≡ b → same_dot d e ≡ false
-    at true k = absurd (h (same_dot_true d e k))
-    at false k = k
 
 -- no hold passes where no least one is found
 held_none : (test : Slot → Bool) (holds : List Hold) → held_by test holds ≡ None → (h : Hold) → In h holds → test h.slot ≡ false
@@ -108,7 +100,7 @@ kept_holding x rows after have log holds some ballots open_ones d e next s up ap
     record {
       rooted = λ h i. rooted_stays rows after h.slot (s.rooted h (up h i)) (stays h i);
       apart = successive_in rows after some (λ g h i j k. overlap_same rows after d e g.slot h.slot (s.rooted g (up g i)) (s.rooted h (up h j)) (stays g i) (stays h j) ∙ k) apart;
-      known = λ h i. ap (λ (b : Bool). cond b (proposed x.body) (proposed_slot h.proposal log)) (other_dot x.dot h.proposal (new h (s.had h (up h i)))) ∙ s.known h (up h i);
+      known = λ h i. ap (λ (b : Bool). cond b (proposed x.body) (proposed_slot h.proposal log)) (same_dot_other x.dot h.proposal (new h (s.had h (up h i)))) ∙ s.known h (up h i);
       had = λ h i. covered_dots (vector_bump have x.dot.site) have (bump_covers have x.dot.site next.some next.within) h.proposal (s.had h (up h i));
       held = open_held;
     }
@@ -223,7 +215,7 @@ had_now x have next =
     le-leb x.dot.seq (vector_get (vector_bump have x.dot.site) x.dot.site) (omega (arith, number, now))
 
 newest_slot : (x : OpValue) (log : List OpValue) → proposed_slot x.dot (x ∷ log) ≡ proposed x.body
-newest_slot x log = ap (λ (b : Bool). cond b (proposed x.body) (proposed_slot x.dot log)) (same_dot_itself x.dot)
+newest_slot x log = ap (λ (b : Bool). cond b (proposed x.body) (proposed_slot x.dot log)) (same_dot_refl x.dot)
 
 -- ---- ballots
 
@@ -322,7 +314,7 @@ propose_holding slot m k d free s =
       apart = h.apart;
       known = h.known;
       had = h.had;
-      held = λ b i o. ⊎_elim (λ (e : b ≡ new_ballot p). subst (λ (c : Ballot). is_held c.proposal ((record { proposal = p; slot = slot }) ∷ m.holds) ≡ true) (sym e) (ap (λ (t : Bool). t || is_held p m.holds) (same_dot_itself p)))
+      held = λ b i o. ⊎_elim (λ (e : b ≡ new_ballot p). subst (λ (c : Ballot). is_held c.proposal ((record { proposal = p; slot = slot }) ∷ m.holds) ≡ true) (sym e) (ap (λ (t : Bool). t || is_held p m.holds) (same_dot_refl p)))
           (λ (j : In b m.ballots). h.held b j o) i;
     }
 

@@ -11,9 +11,10 @@ use Rattle.td_path.specs.declared.slot.Slot.TheVariants.{Root, At as AtSlot}
 use Rattle.td_op.specs.declared.body.Body.{Body}
 use Rattle.td_op.specs.declared.body.Body.TheVariants.{Insert, Delete, Propose, Commit, Abort}
 use Rattle.td_op.specs.declared.input.Input.{Input}
-use Rattle.td_op.specs.Op.{OpValue, IsOp, body_site}
+use Rattle.td_op.specs.Op.{OpValue, IsOp, body_site, named_atom}
 use Rattle.td_doc.specs.Document.{DocRow, row_id, find_row, has_id, is_live, IsDocument}
-use Rattle.td_doc.specs.Array.{NamedAtom, named, run_atoms, run_atoms_from}
+use Rattle.td_doc.specs.Array.{named}
+use Rattle.td_base.specs.RunAtoms.{NamedAtom, run_atoms, run_atoms_from}
 use Rattle.td_doc.specs.Insertion.{insert_run}
 use Rattle.td_doc.specs.Deletion.{delete, mark_deleted, add_dot}
 use Rattle.td_doc.specs.Flatten.{flatten}
@@ -25,7 +26,8 @@ use Rattle.td_op.specs.Message.{IsOpValue, IsBody}
 use Rattle.td_op.specs.Input.{IsInput}
 use Rattle.td_machine.specs.Ready.{is_ready, has_dot}
 use Rattle.td_machine.specs.Log.{proposed_slot}
-use Rattle.td_machine.specs.Naming.{Inserts, slot_atom, named_atom}
+use Rattle.td_op.specs.Insertion.{Inserts, insertion_by}
+use Rattle.td_path.specs.Slot.{slot_atom}
 use Rattle.td_machine.specs.Vote.{is_rooted}
 use Rattle.td_machine.specs.Decision.{Ballot, is_on, revise, close, new_ballot}
 use Rattle.td_machine.specs.Counts.{counts, IsCausal}
@@ -40,7 +42,9 @@ use Rattle.td_machine.proofs.Walk.{IsEdit, IsFreeSlot, proposed_here, decision_o
 use Rattle.td_machine.proofs.Causal.{IsOffered, IsCounted, length_counts, length_have, own_next, valid_op, foreign_offered, waiting_offered}
 use Rattle.td_machine.proofs.Counting.{older_causal}
 use Rattle.td_machine.proofs.Documents.{HasDocument, documents, start_document}
-use Rattle.td_machine.proofs.Holding.{same_dot_true, find_ballot, counted_in}
+use Rattle.td_machine.proofs.Holding.{find_ballot, counted_in}
+use Rattle.td_base.proofs.Equals.{same_dot_true}
+use Rattle.td_op.proofs.InsertionLemmas.{inserted_dot}
 
 -- ---- the identities of rows after an operation
 
@@ -110,7 +114,11 @@ longer x log z h = (h.0, inr h.1, h.2)
 done_atoms : (x : OpValue) (m : Machine) → IsDocument m.doc → ((r : DocRow) → In r m.doc → IsInserted m.log (row_id r)) → (r : DocRow) → In r (done x m).doc → IsInserted (x ∷ m.log) (row_id r)
 done_atoms x m d h =
     after_effect (IsInserted (x ∷ m.log)) m.log x.dot x.body m.doc d (λ r i. longer x m.log (row_id r) (h r i))
-    (λ slot run e a i. (x, inl refl, record { slot = slot; run = run; is = e; atom = a; among = i; named = refl }))
+    (λ slot run e a i. (x, inl refl, record {
+        insertion = record { dot = x.dot; deps = x.deps; slot = slot; run = run };
+        is = ap (insertion_by x.dot x.deps) e;
+        among = In-map (λ (b : NamedAtom). b.id) a (run_atoms x.dot run) i;
+      }))
 
 close_names : (p : DotValue) (commit : Bool) (ballots : List Ballot) (site : ℕ) → ((b : Ballot) → In b ballots → b.proposal.site ≡ site) → (b : Ballot) → In b (revise p (close commit) ballots) → b.proposal.site ≡ site
 close_names p commit ballots site h b i =
@@ -128,11 +136,6 @@ body_ballots (Propose slot) ballots site h b i = h b i
 body_ballots (Commit p) ballots site h b i = close_names p true ballots site h b i
 body_ballots (Abort p) ballots site h b i = close_names p false ballots site h b i
 
-run_dot : (dot : DotValue) (k : ℕ) (run : List (List ℕ)) (a : NamedAtom) → In a (run_atoms_from dot k run) → a.id.dot ≡ dot
-run_dot dot k [] a i = absurd i
-run_dot dot k (atom ∷ run) a (inl e) = ap (λ (b : NamedAtom). b.id.dot) e
-run_dot dot k (atom ∷ run) a (inr i) = run_dot dot (suc k) run a i
-
 -- an inserted atom is of a site of the machine
 inserted_site : (m : Machine) → IsCounted m → (z : AtomIdValue) → IsInserted m.log z → z.dot.site ≤ length m.have
 inserted_site m s z h =
@@ -141,8 +144,7 @@ inserted_site m s z h =
     let within : h.0.dot.site ≤ length (counts m.size split.back) = next.within in
     let size : length (counts m.size split.back) ≡ m.size = length_counts m.size split.back in
     let long : length m.have ≡ m.size = length_have m s in
-    let dot : h.2.atom.id.dot ≡ h.0.dot = run_dot h.0.dot 0 h.2.run h.2.atom h.2.among in
-    let same : z.dot.site ≡ h.0.dot.site = sym (ap (λ (y : AtomIdValue). y.dot.site) h.2.named) ∙ ap (λ (d : DotValue). d.site) dot in
+    let same : z.dot.site ≡ h.0.dot.site = ap (λ (d : DotValue). d.site) (inserted_dot h.0 z h.2) in
     omega (arith, within, size, long, same)
 
 -- the site that a body names is that of its atom, or of an own proposal

@@ -12,8 +12,10 @@ use Rattle.td_path.specs.declared.slot.Slot.TheVariants.{Root, At}
 use Rattle.td_path.specs.declared.slot_path.SlotPath.{SlotPath}
 use Rattle.td_path.specs.declared.slot_path.SlotPath.TheVariants.{Whole, Below}
 use Rattle.td_doc.specs.Document.{DocRow, row_id, IsDocument, find_row, live_rows, has_id}
-use Rattle.td_doc.specs.Slots.{slot_path, rows_below, is_within, same_slot, is_root, is_atom_within, contains_slot, overlaps}
-use Rattle.td_doc.specs.Array.{named, array, run_atoms}
+use Rattle.td_doc.specs.Slots.{slot_path, rows_below, is_within, is_atom_within, contains_slot, overlaps}
+use Rattle.td_path.specs.Slot.{same_slot, is_root}
+use Rattle.td_doc.specs.Array.{named, array}
+use Rattle.td_base.specs.RunAtoms.{run_atoms}
 use Rattle.td_doc.specs.Insertion.{put_array_below, insert_run}
 use Rattle.td_doc.specs.Deletion.{delete, mark_deleted, add_dot}
 use Rattle.td_doc.specs.Flatten.{rows_beside, flatten_below, flatten}

@@ -35,7 +35,8 @@ use Rattle.td_machine.specs.Request.{Aim, Refuse, Do, GiveUp, aim, judge, perfor
 use Rattle.td_machine.specs.Step.{step}
 use Rattle.td_machine.proofs.Basics.{either}
 use Rattle.td_machine.proofs.Aims.{IsAllocated, IsOpenAt, FitsAim, aimed}
-use Rattle.td_machine.proofs.Ballots.{same_dot_itself, counted_open, found_counted}
+use Rattle.td_machine.proofs.Ballots.{counted_open, found_counted}
+use Rattle.td_base.proofs.Equals.{same_dot_refl}
 
 -- an operation that is offered passes as one of another site and of this size
 pub record IsForeign (m : Machine) (x : OpValue) : Type 0 where
@@ -114,7 +115,7 @@ module _ (P : Machine → Type 0) (Passes : OpValue → Type 0) (c : IsClosed P 
       decided p (outcome m.size true (new_ballot p)) (proposed_here slot m)
       (record {
         ballot = new_ballot p;
-        found = ap (λ (b : Bool). cond b (Some (new_ballot p)) (find (is_on p) (make (ProposeOf slot) m).ballots)) (same_dot_itself p);
+        found = ap (λ (b : Bool). cond b (Some (new_ballot p)) (find (is_on p) (make (ProposeOf slot) m).ballots)) (same_dot_refl p);
         open_ = refl;
       })
       (c.proposes slot m (record { rooted = f.rooted; free = sym f.holder ∙ free; room = omega (arith, r, two) }) h)

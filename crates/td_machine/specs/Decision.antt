@@ -3,7 +3,7 @@ use Rattle.std.specs.Prelude.{ℕ, List, [], ◌∷◌, Bool, true, false, ◌||
 use Rattle.std.specs.List.{list_any}
 use Rattle.std.specs.Option.{is_some, is_none}
 use Rattle.td_base.specs.Value.{DotValue}
-use Rattle.td_machine.specs.Ready.{same_dot}
+use Rattle.td_base.specs.Equality.{same_dot}
 
 -- an own proposal: the sites whose Yes is counted, and the decision, true for a commit
 pub record Ballot : Type 0 where

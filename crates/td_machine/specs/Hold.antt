@@ -1,13 +1,12 @@
 -- Holds: the proposals to which a replica said Yes, with their slots, until it takes the decisions.
 use Rattle.std.specs.Prelude.{List, [], ◌∷◌, Bool, not, cond, filter, map, Option, Some, None}
 use Rattle.std.specs.List.{list_any}
-use Rattle.std.specs.Ordering.{is_lt}
 use Rattle.td_base.specs.Value.{DotValue, AtomIdValue}
-use Rattle.td_base.specs.Order.{dot_cmp}
+use Rattle.td_base.specs.Order.{dot_lt}
 use Rattle.td_path.specs.declared.slot.Slot.{Slot}
 use Rattle.td_doc.specs.Document.{DocRow}
 use Rattle.td_doc.specs.Slots.{is_within, contains_slot, overlaps}
-use Rattle.td_machine.specs.Ready.{same_dot}
+use Rattle.td_base.specs.Equality.{same_dot}
 
 pub record Hold : Type 0 where
   pub proposal : DotValue
@@ -15,7 +14,7 @@ pub record Hold : Type 0 where
 
 abbrev pub smaller : DotValue → Option DotValue → DotValue
 smaller d None = d
-smaller d (Some e) = cond (is_lt (dot_cmp e d)) e d
+smaller d (Some e) = cond (dot_lt e d) e d
 
 abbrev pub least_dot : List DotValue → Option DotValue
 least_dot [] = None

@@ -10,7 +10,6 @@ pub mod Taking
 pub mod Request
 pub mod Step
 pub mod History
-pub mod Naming
 pub mod Touches
 pub mod Stage
 pub mod Examples

@@ -7,7 +7,7 @@ use Rattle.td_path.specs.declared.slot.Slot.{Slot}
 use Rattle.td_op.specs.declared.body.Body.{Body}
 use Rattle.td_op.specs.declared.body.Body.TheVariants.{Insert, Delete, Propose, Commit, Abort}
 use Rattle.td_op.specs.Op.{OpValue}
-use Rattle.td_machine.specs.Ready.{same_dot}
+use Rattle.td_base.specs.Equality.{same_dot}
 
 -- the slot that a proposal asks for
 abbrev pub proposed : Body → Option Slot

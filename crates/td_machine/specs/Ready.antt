@@ -1,14 +1,11 @@
 -- Causal delivery by vectors (after Lamport 1978): which operations a replica has, and which of those that wait it may take.
 use Rattle.std.specs.Prelude.{ℕ, List, [], ◌∷◌, Bool, ◌&&◌, not, cond, filter, Option, Some, None}
 use Rattle.std.specs.List.{list_any}
-use Rattle.std.specs.Ordering.{is_lt, is_eq}
 use Rattle.td_base.specs.Value.{DotValue}
-use Rattle.td_base.specs.Order.{dot_cmp}
+use Rattle.td_base.specs.Order.{dot_lt}
+use Rattle.td_base.specs.Equality.{same_dot}
 use Rattle.td_clock.specs.Vector.{vector_has, vector_covers}
 use Rattle.td_op.specs.Op.{OpValue}
-
-abbrev pub same_dot : DotValue → DotValue → Bool
-same_dot d e = is_eq (dot_cmp d e)
 
 -- the operation was made or taken
 abbrev pub is_had : List ℕ → OpValue → Bool
@@ -20,7 +17,7 @@ is_ready have x = not (is_had have x) && vector_covers have x.deps
 
 abbrev pub smaller_dot : OpValue → Option OpValue → OpValue
 smaller_dot x None = x
-smaller_dot x (Some y) = cond (is_lt (dot_cmp y.dot x.dot)) y x
+smaller_dot x (Some y) = cond (dot_lt y.dot x.dot) y x
 
 -- the operation with the least dot
 abbrev pub least_op : List OpValue → Option OpValue

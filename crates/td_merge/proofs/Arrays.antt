@@ -10,9 +10,9 @@ use Rattle.td_path.specs.Infix.{Pair, Pairs}
 use Rattle.td_path.specs.declared.slot_path.SlotPath.{SlotPath}
 use Rattle.td_path.specs.declared.slot_path.SlotPath.TheVariants.{Whole, Below}
 use Rattle.td_doc.specs.Document.{DocRow, row_id}
-use Rattle.td_doc.specs.Array.{NamedAtom, named, around, array_upto, run_atoms_from}
+use Rattle.td_doc.specs.Array.{named, around, array_upto}
+use Rattle.td_base.specs.RunAtoms.{NamedAtom, run_atoms_from, run_ids_from}
 use Rattle.td_doc.proofs.ArrayRows.{array_named}
-use Rattle.td_order.specs.Insertions.{ids_from}
 
 -- the row as far below the path as it was below the root
 abbrev pub shift : Pairs → DocRow → DocRow
@@ -100,11 +100,3 @@ ids_by_name (r ∷ rows) = ap (λ z. row_id r ∷ z) (ids_by_name rows)
 
 pub array_ids : (n : ℕ) (slot : SlotPath) (atoms : List NamedAtom) → length atoms ≤ n → map row_id (array_upto n slot atoms) ≡ map (λ (a : NamedAtom). a.id) atoms
 array_ids n slot atoms h = ids_by_name (array_upto n slot atoms) ∙ ap (map (λ (a : NamedAtom). a.id)) (array_named n slot atoms h)
-
-pub named_ids : (dot : DotValue) (offset : ℕ) (run : List (List ℕ)) → map (λ (a : NamedAtom). a.id) (run_atoms_from dot offset run) ≡ ids_from dot offset run
-named_ids dot offset [] = refl
-named_ids dot offset (atom ∷ run) = ap (λ z. record { dot = dot; offset = offset } ∷ z) (named_ids dot (suc offset) run)
-
-pub named_dot : (dot : DotValue) (offset : ℕ) (run : List (List ℕ)) (a : NamedAtom) → In a (run_atoms_from dot offset run) → a.id.dot ≡ dot
-named_dot dot offset [] a h = absurd h
-named_dot dot offset (atom ∷ run) a h = ⊎_elim (λ e. ap (λ (z : NamedAtom). z.id.dot) e) (λ i. named_dot dot (suc offset) run a i) h

@@ -17,12 +17,13 @@ use Rattle.td_op.specs.declared.body.Body.TheVariants.{Insert, Delete, Propose, 
 use Rattle.td_op.specs.Op.{OpValue}
 use Rattle.td_doc.specs.Document.{DocRow, row_id, has_id, find_row, is_empty_list}
 use Rattle.td_doc.specs.Slots.{slot_path, rows_below, is_empty_slot}
-use Rattle.td_doc.specs.Array.{NamedAtom, run_atoms, array}
+use Rattle.td_doc.specs.Array.{array}
+use Rattle.td_base.specs.RunAtoms.{NamedAtom, run_atoms}
 use Rattle.td_doc.specs.Insertion.{put_row, put_rows, put_array_below, insert_run}
 use Rattle.td_doc.specs.Deletion.{add_dot, delete}
 use Rattle.td_doc.proofs.ArrayRows.{array_bare}
 use Rattle.td_machine.specs.Making.{effect}
-use Rattle.td_order.specs.Insertions.{insertion_by, insertions}
+use Rattle.td_op.specs.Insertion.{insertion_by, insertions}
 use Rattle.td_merge.specs.Log.{doc_of, NoCommit}
 use Rattle.td_merge.proofs.Logs.{rows_left}
 

@@ -11,11 +11,13 @@ use Rattle.td_op.specs.declared.body.Body.TheVariants.{Delete, Commit}
 use Rattle.td_op.specs.Op.{OpValue}
 use Rattle.td_op.specs.Past.{in_past}
 use Rattle.td_doc.specs.Slots.{is_empty_slot}
-use Rattle.td_order.specs.declared.insertion.Insertion.{Insertion}
-use Rattle.td_order.specs.Insertions.{IsAtomOf, IsInsertionOf, insertions, same_dot}
+use Rattle.td_op.specs.declared.insertion.Insertion.{Insertion}
+use Rattle.td_order.specs.Insertions.{IsAtomOf, IsInsertionOf}
+use Rattle.td_op.specs.Insertion.{insertions}
+use Rattle.td_base.specs.Equality.{same_dot}
 use Rattle.td_order.specs.LineUp.{DotsDiffer, has_dot}
 use Rattle.td_order.specs.Causal.{IsWellRooted}
-use Rattle.td_order.proofs.PassedTests.{same_dot_true, same_dot_refl}
+use Rattle.td_base.proofs.Equals.{same_dot_true, same_dot_refl}
 use Rattle.td_order.proofs.InsertionLemmas.{of_insertion}
 use Rattle.td_order.proofs.SetOfOps.{one_op}
 use Rattle.td_order.proofs.Conditions.{each_passes, implies, differ_from, well_rooted_from}

@@ -7,7 +7,7 @@ use Rattle.td_base.specs.Lists.{In}
 use Rattle.td_path.specs.Infix.{Pair, Pairs}
 use Rattle.td_path.specs.declared.slot.Slot.TheVariants.{Root, At}
 use Rattle.td_doc.specs.Document.{DocRow, row_id}
-use Rattle.td_order.specs.declared.insertion.Insertion.{Insertion}
+use Rattle.td_op.specs.declared.insertion.Insertion.{Insertion}
 use Rattle.td_order.specs.Under.{under}
 use Rattle.td_order.specs.Place.{precedes}
 use Rattle.td_order.proofs.Keys.{id_of}

@@ -13,14 +13,16 @@ use Rattle.td_path.specs.declared.slot.Slot.{Slot}
 use Rattle.td_path.specs.declared.slot.Slot.TheVariants.{Root, At}
 use Rattle.td_path.specs.declared.slot_path.SlotPath.TheVariants.{Below}
 use Rattle.td_doc.specs.Document.{DocRow, row_id, find_row, IsDocument}
-use Rattle.td_doc.specs.Array.{NamedAtom, run_atoms, array_upto}
+use Rattle.td_doc.specs.Array.{array_upto}
+use Rattle.td_base.specs.RunAtoms.{NamedAtom, run_atoms}
 use Rattle.td_doc.specs.Insertion.{put_rows, put_array_below, insert_run}
 use Rattle.td_doc.specs.Answers.{IsRooted as IsRootedIn}
 use Rattle.td_doc.proofs.Rules.{found, in_found, run_keeps}
-use Rattle.td_order.specs.declared.insertion.Insertion.{Insertion}
-use Rattle.td_order.specs.Insertions.{same_dot, ids_of}
+use Rattle.td_op.specs.declared.insertion.Insertion.{Insertion}
+use Rattle.td_base.specs.Equality.{same_dot}
+use Rattle.td_op.specs.Insertion.{ids_of}
 use Rattle.td_order.specs.Under.{under, names_under}
-use Rattle.td_order.proofs.PassedTests.{same_dot_true}
+use Rattle.td_base.proofs.Equals.{same_dot_true}
 use Rattle.td_order.proofs.Family.{Names, IsRooted, AllFollow}
 use Rattle.td_merge.proofs.Paths.{in_split}
 use Rattle.td_merge.proofs.Arrays.{shift, array_at_root}

@@ -12,15 +12,16 @@ use Rattle.td_doc.specs.Array.{array_upto}
 use Rattle.td_doc.specs.Insertion.{put_rows}
 use Rattle.td_doc.proofs.PutRows.{in_puts, puts_in}
 use Rattle.td_doc.proofs.ArrayRows.{array_starts}
-use Rattle.td_order.specs.declared.insertion.Insertion.{Insertion}
-use Rattle.td_order.specs.Insertions.{ids_of}
+use Rattle.td_op.specs.declared.insertion.Insertion.{Insertion}
+use Rattle.td_op.specs.Insertion.{ids_of}
 use Rattle.td_order.specs.Under.{under}
 use Rattle.td_order.proofs.Family.{Names, AllFollow}
 use Rattle.td_merge.proofs.Paths.{IsBelow, fork, head_pair, cancel, no_pairs, In-pair}
-use Rattle.td_merge.proofs.Arrays.{shift, array_base, array_there, base_pairs, array_ids, named_ids, named_dot}
+use Rattle.td_merge.proofs.Arrays.{shift, array_base, array_there, base_pairs, array_ids}
 use Rattle.td_merge.proofs.Under.{dot_in, under_itself, under_slot_atom, under_root}
 use Rattle.td_merge.proofs.DocumentFacts.{by_path, first_pair}
 use Rattle.td_merge.proofs.Logs.{rows_left, atoms_of, side_of, rows_of, Comes, IsTaken, not_under, Top, RootTop, Lies, in_root, in_slot, HasRows, no_rows, each_pair, Anchor, anchor, next_document}
+use Rattle.td_base.proofs.RunIds.{run_atom_dot}
 
 module _ (all : List Insertion) (F : AllFollow all) where
   module _ (a : Insertion) (os : List Insertion) (c : Comes all F a os) (tk : IsTaken all F os) (b : HasRows all F os (rows_left os)) (n : Anchor all F a os) where
@@ -43,7 +44,7 @@ module _ (all : List Insertion) (F : AllFollow all) where
     split r i = ⊎_elim (λ k. inl k) (λ k. inr k) (in_puts news old r i)
 
     ids : map row_id news ≡ ids_of a
-    ids = array_ids size (Below n.path side) (atoms_of a) (omega arith) ∙ named_ids a.dot 0 a.run
+    ids = array_ids size (Below n.path side) (atoms_of a) (omega arith)
 
     pub new_id : (r : DocRow) → In r news → In (row_id r) (ids_of a)
     new_id r i = subst (λ l. In (row_id r) l) ids (In-map row_id r news i)
@@ -74,7 +75,7 @@ module _ (all : List Insertion) (F : AllFollow all) where
           rest = s.rest;
           path = s.is;
           by = refl;
-          steps = λ t j. let q = base_pairs size side (atoms_of a) k.0 k.1 t j in ap (λ (y : AtomIdValue). y.dot) q.2 ∙ named_dot a.dot 0 a.run q.0 q.1;
+          steps = λ t j. let q = base_pairs size side (atoms_of a) k.0 k.1 t j in ap (λ (y : AtomIdValue). y.dot) q.2 ∙ run_atom_dot a.dot 0 a.run q.0 q.1;
         }
 
     pub new_path : (r : DocRow) → (w : NewRow r) → r.path ≡ n.path ++ (w.first ∷ w.rest)

@@ -7,14 +7,14 @@ use Rattle.std.proofs.lemmas.Cmp.{tied_itself}
 use Rattle.td_base.specs.declared.bit.Bit.{Bit}
 use Rattle.td_base.specs.declared.bit.Bit.TheVariants.{Left, Right}
 use Rattle.td_base.specs.Value.{AtomIdValue}
-use Rattle.td_base.specs.Order.{dot_cmp, id_cmp, bit_cmp}
+use Rattle.td_base.specs.Order.{dot_cmp, id_cmp, bit_cmp, dot_lt}
 use Rattle.td_base.specs.Lists.{In}
 use Rattle.td_base.proofs.Lists.{In-back}
 use Rattle.td_path.specs.Infix.{Pair, Pairs, pair_cmp, path_cmp}
-use Rattle.td_path.proofs.InfixOrder.{path_total, bit_total, equal_pairs, same_pairs, left_before, right_after}
+use Rattle.td_path.proofs.InfixOrder.{path_total, equal_pairs, same_pairs, left_before, right_after}
+use Rattle.td_base.proofs.Orders.{bit_total}
 use Rattle.td_doc.specs.Document.{DocRow, last_id}
 use Rattle.td_doc.proofs.PutRows.{not_before_itself, less_of}
-use Rattle.td_order.specs.Insertions.{dot_lt}
 
 abbrev pub PathLt : Pairs → Pairs → Type 0
 PathLt p q = path_cmp p q ≡ Less

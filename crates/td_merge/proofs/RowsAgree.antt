@@ -14,12 +14,14 @@ use Rattle.td_doc.specs.Array.{array_upto}
 use Rattle.td_doc.specs.Insertion.{put_rows}
 use Rattle.td_doc.proofs.PutRows.{in_puts}
 use Rattle.td_doc.proofs.ArrayRows.{array_ascends}
-use Rattle.td_order.specs.declared.insertion.Insertion.{Insertion}
-use Rattle.td_order.specs.Insertions.{ids_of, same_dot}
+use Rattle.td_op.specs.declared.insertion.Insertion.{Insertion}
+use Rattle.td_op.specs.Insertion.{ids_of}
+use Rattle.td_base.specs.Equality.{same_dot}
 use Rattle.td_order.specs.Under.{under}
 use Rattle.td_order.specs.Place.{precedes}
 use Rattle.td_order.specs.Order.{placed}
-use Rattle.td_order.proofs.Keys.{Key, key_strict, same_dot_true, same_dot_refl}
+use Rattle.td_order.proofs.Keys.{Key, key_strict}
+use Rattle.td_base.proofs.Equals.{same_dot_true, same_dot_refl}
 use Rattle.td_order.proofs.Family.{Names, AllFollow}
 use Rattle.td_order.proofs.Fits.{OlderRank, AllFit, fits_at, ids_dot}
 use Rattle.td_order.proofs.Placing.{IdLt, id_trans, In-placed, placed-In, ids_rise_from}
@@ -28,7 +30,7 @@ use Rattle.td_order.proofs.Ranks.{key_in, key_fits}
 use Rattle.td_merge.proofs.Lists.{both_rise}
 use Rattle.td_order.proofs.Sublists.{one_rising}
 use Rattle.td_merge.proofs.Paths.{RowLt, path_not, path_trans}
-use Rattle.td_merge.proofs.Arrays.{array_ids, named_ids}
+use Rattle.td_merge.proofs.Arrays.{array_ids}
 use Rattle.td_merge.proofs.Under.{dot_in, same_insertion}
 use Rattle.td_merge.proofs.DocumentFacts.{by_id, first_pair, doc_rises}
 use Rattle.td_merge.proofs.Beside.{Both, New, Inside, root_both, right_both, left_both}
@@ -193,7 +195,7 @@ module _ (all : List Insertion) (F : AllFollow all) (free : (a : Insertion) → 
         n.how
 
     new_ids : map row_id news ≡ ids_of a
-    new_ids = array_ids (length (atoms_of a)) (Below n.path side) (atoms_of a) (omega arith) ∙ named_ids a.dot 0 a.run
+    new_ids = array_ids (length (atoms_of a)) (Below n.path side) (atoms_of a) (omega arith)
 
     news_agree : (r q : DocRow) → In r news → In q news → RowLt r q → Lt (row_id r) (row_id q)
     news_agree r q i j h =

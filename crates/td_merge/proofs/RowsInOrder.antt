@@ -8,14 +8,15 @@ use Rattle.td_path.specs.declared.slot.Slot.TheVariants.{Root, At}
 use Rattle.td_op.specs.Op.{OpValue}
 use Rattle.td_doc.specs.Document.{row_id}
 use Rattle.td_doc.specs.Slots.{is_empty_slot}
-use Rattle.td_order.specs.declared.insertion.Insertion.{Insertion}
-use Rattle.td_order.specs.Insertions.{IsInsertionOf, insertion_of, insertions}
+use Rattle.td_op.specs.declared.insertion.Insertion.{Insertion}
+use Rattle.td_order.specs.Insertions.{IsInsertionOf}
+use Rattle.td_op.specs.Insertion.{insertion_of, insertions}
 use Rattle.td_order.specs.LineUp.{line_up}
 use Rattle.td_order.specs.Place.{precedes}
 use Rattle.td_order.specs.Order.{order}
 use Rattle.td_order.specs.Causal.{IsRootedIn, IsWellRooted}
 use Rattle.td_order.proofs.Family.{IsRooted, AllFollow}
-use Rattle.td_order.proofs.InsertionLemmas.{from_op, In-insertions, insertions-In}
+use Rattle.td_op.proofs.InsertionLemmas.{from_op, In-insertions, insertions-In}
 use Rattle.td_order.proofs.LineUpLemmas.{In-line_up, line_up-In}
 use Rattle.td_order.proofs.OrderOfPart.{line_up_causal, whole_is_closed}
 use Rattle.td_order.proofs.SetOfOps.{one_op}

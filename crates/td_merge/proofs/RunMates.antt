@@ -10,11 +10,11 @@ use Rattle.td_path.specs.declared.slot_path.SlotPath.TheVariants.{Below}
 use Rattle.td_doc.specs.Document.{DocRow, row_id, last_id}
 use Rattle.td_doc.specs.Array.{array_upto}
 use Rattle.td_doc.proofs.ArrayRows.{array_starts}
-use Rattle.td_order.specs.declared.insertion.Insertion.{Insertion}
-use Rattle.td_order.specs.Insertions.{ids_of}
+use Rattle.td_op.specs.declared.insertion.Insertion.{Insertion}
+use Rattle.td_op.specs.Insertion.{ids_of}
 use Rattle.td_order.proofs.Family.{Names, IsRooted, AllFollow}
 use Rattle.td_merge.proofs.Paths.{cancel, last_more}
-use Rattle.td_merge.proofs.Arrays.{shift, array_base, array_ids, named_ids}
+use Rattle.td_merge.proofs.Arrays.{shift, array_base, array_ids}
 use Rattle.td_merge.proofs.Under.{dot_in, same_insertion}
 use Rattle.td_merge.proofs.DocumentFacts.{nobody, id_at, by_id, on_the_way}
 use Rattle.td_merge.proofs.Logs.{rows_left, atoms_of, side_of, rows_of, IsTaken, taken_in, HasRows}
@@ -34,7 +34,7 @@ module _ (all : List Insertion) (F : AllFollow all) where
   array_row log b c i y j k =
       let p = (b.arrays c i).0 in
       let size = length (atoms_of c) in
-      let ids : map row_id (array_upto size (Below p (side_of c.slot)) (atoms_of c)) ≡ ids_of c = array_ids size (Below p (side_of c.slot)) (atoms_of c) (omega arith) ∙ named_ids c.dot 0 c.run in
+      let ids : map row_id (array_upto size (Below p (side_of c.slot)) (atoms_of c)) ≡ ids_of c = array_ids size (Below p (side_of c.slot)) (atoms_of c) (omega arith) in
       let z = map_In row_id (row_id y) (array_upto size (Below p (side_of c.slot)) (atoms_of c)) (subst (λ l. In (row_id y) l) (sym ids) k) in
       let base = array_base size p (side_of c.slot) (atoms_of c) z.0 z.1 in
       let inside : In z.0 (rows_left log) = subst (λ q. In q (rows_left log)) (sym base.2) ((b.arrays c i).1 base.0 base.1) in

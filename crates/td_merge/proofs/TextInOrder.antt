@@ -7,14 +7,15 @@ use Rattle.td_base.specs.Lists.{In}
 use Rattle.td_base.proofs.Lists.{map_In, In-map, any_found, any_from}
 use Rattle.td_path.specs.declared.slot.Slot.{Slot}
 use Rattle.td_path.specs.declared.slot_path.SlotPath.{SlotPath}
-use Rattle.td_path.proofs.InfixOrder.{equal_ids, is_eq_true}
+use Rattle.td_base.proofs.Orders.{equal_ids, is_eq_true}
 use Rattle.td_op.specs.declared.body.Body.{Body}
 use Rattle.td_op.specs.declared.body.Body.TheVariants.{Insert, Delete, Propose, Commit, Abort}
 use Rattle.td_op.specs.Op.{OpValue}
 use Rattle.td_op.specs.Past.{in_past}
 use Rattle.td_doc.specs.Document.{DocRow, row_id, has_id, is_live, is_empty_list, text_of}
 use Rattle.td_doc.specs.Slots.{slot_path}
-use Rattle.td_doc.specs.Array.{NamedAtom, named, array, run_atoms, run_atoms_from}
+use Rattle.td_doc.specs.Array.{named, array}
+use Rattle.td_base.specs.RunAtoms.{NamedAtom, run_atoms, run_atoms_from}
 use Rattle.td_doc.specs.Insertion.{put_array_below, insert_run}
 use Rattle.td_doc.specs.Deletion.{add_dot, mark_deleted, delete}
 use Rattle.td_doc.proofs.PutRows.{in_puts}
@@ -22,18 +23,20 @@ use Rattle.td_doc.proofs.ArrayRows.{array_bare, array_names}
 use Rattle.td_doc.proofs.Placement.{self_id}
 use Rattle.td_doc.proofs.Deleted.{delete_marks, delete_names}
 use Rattle.td_machine.specs.Making.{effect}
-use Rattle.td_order.specs.declared.insertion.Insertion.{Insertion}
-use Rattle.td_order.specs.Insertions.{IsInsertionOf, insertion_by, insertion_of, insertions, same_dot, same_id}
+use Rattle.td_op.specs.declared.insertion.Insertion.{Insertion}
+use Rattle.td_order.specs.Insertions.{IsInsertionOf}
+use Rattle.td_op.specs.Insertion.{insertion_by, insertion_of, insertions}
+use Rattle.td_base.specs.Equality.{same_dot, same_id}
 use Rattle.td_order.specs.Order.{order}
 use Rattle.td_order.specs.Show.{atom_of, deletes, is_deleted, show}
 use Rattle.td_order.specs.Causal.{IsWellRooted}
-use Rattle.td_order.proofs.PassedTests.{same_dot_true, same_dot_refl, same_id_true, same_id_refl}
-use Rattle.td_order.proofs.InsertionLemmas.{from_op, In-insertions, insertions-In}
+use Rattle.td_base.proofs.Equals.{same_dot_true, same_dot_refl, same_id_true, same_id_refl}
+use Rattle.td_op.proofs.InsertionLemmas.{from_op, In-insertions, insertions-In}
 use Rattle.td_order.proofs.LineUpLemmas.{both_tests}
 use Rattle.td_order.proofs.SetOfOps.{one_op}
 use Rattle.td_merge.specs.Log.{doc_of, IsCausalLog, NoCommit, DeletesAtoms, WasFree}
 use Rattle.td_merge.proofs.Filters.{filter_mapped, map_again, same_kept, find_one}
-use Rattle.td_merge.proofs.Arrays.{named_dot}
+use Rattle.td_base.proofs.RunIds.{run_atom_dot}
 use Rattle.td_merge.proofs.Under.{dot_in}
 use Rattle.td_merge.proofs.RowsInOrder.{log_inside, rows_in_order}
 
@@ -68,9 +71,6 @@ below_live (Some slot) atoms rows r i =
 
 inserted : (slot : Slot) (dot : DotValue) (run : List (List ℕ)) (rows : List DocRow) (r : DocRow) → In r (insert_run slot dot run rows) → In r rows ⊎ ((r.deletes ≡ []) × In (named r) (run_atoms dot run))
 inserted slot dot run rows r i = below_live (slot_path rows slot) (run_atoms dot run) rows r i
-
-has_id_true : (x : AtomIdValue) (r : DocRow) → has_id x r ≡ true → row_id r ≡ x
-has_id_true x r h = equal_ids (row_id r) x (is_eq_true _ h)
 
 -- the place of an atom in a run
 place_in : (dot : DotValue) (offset : ℕ) (run : List (List ℕ)) (n : NamedAtom) → In n (run_atoms_from dot offset run) → (k : ℕ) × (n.id.offset ≡ offset + k) × (slice_get run k ≡ Some n.atom)
@@ -118,13 +118,13 @@ module _ (ops : List OpValue) (W : IsWellRooted ops) (N : NoCommit ops) (D : Del
       ⊎_elim (λ (k : In r rows). ih r k)
       (λ (k : (r.deletes ≡ []) × In (named r) (run_atoms x.dot run)).
       let a : Insertion = record { dot = x.dot; deps = x.deps; slot = slot; run = run } in
-      ap is_empty_list k.0 ∙ sym (ap not (not_deleted x a log (ap (insertion_by x.dot x.deps) e) h (row_id r) (named_dot x.dot 0 run (named r) k.1))))
+      ap is_empty_list k.0 ∙ sym (ap not (not_deleted x a log (ap (insertion_by x.dot x.deps) e) h (row_id r) (run_atom_dot x.dot 0 run (named r) k.1))))
       (inserted slot x.dot run rows r i)
 
   lives_deleted_at : (x : OpValue) (log : List OpValue) (rows : List DocRow) → Lives log rows → (t : AtomIdValue) (m r : DocRow) → In m rows → In r (delete t x.dot rows) → (b : Bool) → has_id t m ≡ b → r ≡ cond b (record { path = m.path; atom = m.atom; deletes = add_dot x.dot m.deletes }) m
       → is_live r ≡ not (same_id t (row_id r) || is_deleted log (row_id r))
   lives_deleted_at x log rows ih t m r j i true h e =
-      let named : row_id r ≡ t = ap row_id e ∙ has_id_true t m h in
+      let named : row_id r ≡ t = ap row_id e ∙ same_id_true (row_id m) t h in
       let hit : same_id t (row_id r) ≡ true = subst (λ z. same_id t z ≡ true) (sym named) (same_id_refl t) in
       not_live r x.dot (delete_marks t x.dot rows r i named) ∙ sym (ap (λ c. not (c || is_deleted log (row_id r))) hit)
   lives_deleted_at x log rows ih t m r j i false h e =
@@ -176,7 +176,7 @@ module _ (ops : List OpValue) (W : IsWellRooted ops) (N : NoCommit ops) (D : Del
       let o = In-insertions log a m.inside in
       let at = place_in a.dot 0 a.run (named r) m.among in
       let place : (row_id r).offset ≡ at.0 = omega (arith, at.1) in
-      let dot : (row_id r).dot ≡ a.dot = named_dot a.dot 0 a.run (named r) m.among in
+      let dot : (row_id r).dot ≡ a.dot = run_atom_dot a.dot 0 a.run (named r) m.among in
       let one : find (λ (c : Insertion). same_dot c.dot (row_id r).dot) (insertions ops) ≡ Some a =
       find_one (λ (c : Insertion). same_dot c.dot (row_id r).dot) (insertions ops) a (insertions-In ops o.0 a (log_inside ops log h o.0 o.1) o.2) (subst (λ d. same_dot a.dot d ≡ true) (sym dot) (same_dot_refl a.dot))
       (λ c j t.

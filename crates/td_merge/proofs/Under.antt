@@ -6,11 +6,12 @@ use Rattle.td_base.specs.Value.{DotValue, AtomIdValue}
 use Rattle.td_base.specs.Lists.{In}
 use Rattle.td_path.specs.declared.slot.Slot.{Slot}
 use Rattle.td_path.specs.declared.slot.Slot.TheVariants.{Root, At}
-use Rattle.td_order.specs.declared.insertion.Insertion.{Insertion}
-use Rattle.td_order.specs.Insertions.{ids_of, same_dot}
+use Rattle.td_op.specs.declared.insertion.Insertion.{Insertion}
+use Rattle.td_op.specs.Insertion.{ids_of}
+use Rattle.td_base.specs.Equality.{same_dot}
 use Rattle.td_order.specs.Under.{under, names_under}
 use Rattle.td_order.specs.Place.{has_some}
-use Rattle.td_order.proofs.PassedTests.{same_dot_true, same_dot_refl}
+use Rattle.td_base.proofs.Equals.{same_dot_true, same_dot_refl}
 use Rattle.td_order.proofs.Family.{IsRooted, AllFollow}
 use Rattle.td_order.proofs.Fits.{ids_dot, under_tail}
 

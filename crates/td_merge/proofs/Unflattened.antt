@@ -26,7 +26,7 @@ use Rattle.td_machine.proofs.Causal.{IsOffered, valid_op, foreign_offered, waiti
 use Rattle.td_machine.proofs.Counting.{older_causal}
 use Rattle.td_machine.proofs.Documents.{HasDocument, documents, start_document}
 use Rattle.td_machine.proofs.Family.{not_older, log_causal, past_in_older, past_in_log, older_in_past, made_at}
-use Rattle.td_order.specs.declared.insertion.Insertion.{Insertion}
+use Rattle.td_op.specs.declared.insertion.Insertion.{Insertion}
 use Rattle.td_order.specs.Insertions.{IsInsertionOf}
 use Rattle.td_order.specs.Order.{order}
 use Rattle.td_order.specs.Show.{show}

@@ -9,19 +9,20 @@ use Rattle.td_path.specs.declared.slot.Slot.{Slot}
 use Rattle.td_path.specs.declared.slot.Slot.TheVariants.{Root, At}
 use Rattle.td_op.specs.declared.body.Body.{Body}
 use Rattle.td_op.specs.declared.body.Body.TheVariants.{Insert, Delete, Propose, Commit, Abort}
-use Rattle.td_op.specs.Op.{OpValue}
-use Rattle.td_doc.specs.Array.{NamedAtom, run_atoms_from}
+use Rattle.td_op.specs.Op.{OpValue, named_atom}
+use Rattle.td_base.specs.RunAtoms.{NamedAtom, run_atoms_from, run_ids_from}
 use Rattle.td_machine.specs.Counts.{IsCausal as IsCausalLog}
-use Rattle.td_machine.specs.Naming.{Inserts, named_atom}
+use Rattle.td_op.specs.Insertion.{Inserts, insertion_by, insertion_of}
 use Rattle.td_machine.specs.History.{Family, IsConsistent, IsOpOf, log_of}
 use Rattle.td_machine.proofs.Family.{not_older, valid_of, full_of, named_of_past, size_of, log_causal, past_covered, past_in_log}
-use Rattle.td_order.specs.declared.insertion.Insertion.{Insertion}
-use Rattle.td_order.specs.Insertions.{insertion_by, insertion_of, ids_from, IsInsertionOf, IsAtomOf}
+use Rattle.td_op.specs.declared.insertion.Insertion.{Insertion}
+use Rattle.td_order.specs.Insertions.{IsInsertionOf, IsAtomOf}
 use Rattle.td_order.specs.LineUp.{DotsDiffer, line_up}
 use Rattle.td_order.proofs.OrderOfPart.{past_before}
 use Rattle.td_op.specs.Past.{in_past}
 use Rattle.td_order.specs.Causal.{IsCausal, IsRootedIn, IsWellRooted}
 use Rattle.td_merge.specs.Log.{DeletesAtoms}
+use Rattle.td_op.proofs.InsertionLemmas.{from_op}
 
 dots_differ : (n : ℕ) (log : List OpValue) → IsCausalLog n log → DotsDiffer log
 dots_differ n [] c = tt
@@ -52,12 +53,6 @@ insertion_parts x a e = at x.body refl e
     at (Commit p) f k = absurd cc
     at (Abort p) f k = absurd cc
 
--- the atoms of a run, by their identities
-among : (dot : DotValue) (k : ℕ) (run : List (List ℕ)) (a : NamedAtom) → In a (run_atoms_from dot k run) → In a.id (ids_from dot k run)
-among dot k [] a i = absurd i
-among dot k (atom ∷ run) a (inl e) = inl (ap (λ (b : NamedAtom). b.id) e)
-among dot k (atom ∷ run) a (inr i) = inr (among dot (suc k) run a i)
-
 module _ (family : Family) (c : IsConsistent family) (site : ℕ) (some : 0 < site) (within : site ≤ length family) where
   abbrev log : List OpValue
   log = log_of family site
@@ -84,9 +79,9 @@ module _ (family : Family) (c : IsConsistent family) (site : ℕ) (some : 0 < si
   put_by : (y : OpValue) (z : AtomIdValue) → In y log → Inserts y z → IsAtomOf log z
   put_by y z i h =
       record {
-        insertion = record { dot = y.dot; deps = y.deps; slot = h.slot; run = h.run };
-        inside = record { op = y; inside = i; is = ap (λ (b : Body). insertion_by y.dot y.deps b) h.is };
-        among = subst (λ (x : AtomIdValue). In x (ids_from y.dot 0 h.run)) h.named (among y.dot 0 h.run h.atom h.among);
+        insertion = h.insertion;
+        inside = record { op = y; inside = i; is = h.is };
+        among = h.among;
       }
 
   rooted : (a : Insertion) → IsInsertionOf log a → IsRootedIn log a a.slot
@@ -99,7 +94,9 @@ module _ (family : Family) (c : IsConsistent family) (site : ℕ) (some : 0 < si
           let p = insertion_parts i.op a i.is in
           let h = named_of_past family c i.op (op_of i.op i.inside) z (ap named_atom e) in
           let inside = past_in_log family c site some within i.op h.0 i.inside h.1 h.2 in
-          (put_by h.0 z inside h.3, subst (λ (v : List ℕ). IsTrue (vector_has v h.0.dot)) (sym p.deps) h.2)
+          let before : IsTrue (vector_has a.deps h.0.dot) = subst (λ (v : List ℕ). IsTrue (vector_has v h.0.dot)) (sym p.deps) h.2 in
+          let dot : h.3.insertion.dot ≡ h.0.dot = (from_op h.0 h.3.insertion h.3.is).dot in
+          (put_by h.0 z inside h.3, subst (λ (d : DotValue). IsTrue (vector_has a.deps d)) (sym dot) before)
 
   -- each delete names an atom that an insert in its past put
   pub deletes_atoms : DeletesAtoms log

@@ -9,7 +9,7 @@ use Rattle.td_op.specs.Past.{in_past}
 use Rattle.td_doc.specs.Document.{DocRow}
 use Rattle.td_doc.specs.Slots.{is_empty_slot}
 use Rattle.td_machine.specs.Making.{effect}
-use Rattle.td_order.specs.declared.insertion.Insertion.{Insertion}
+use Rattle.td_op.specs.declared.insertion.Insertion.{Insertion}
 use Rattle.td_order.specs.Insertions.{IsAtomOf}
 
 -- the document after these operations

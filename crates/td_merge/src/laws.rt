@@ -5,7 +5,7 @@ ghost use Rattle.td_op.specs.Op.{OpValue};
 ghost use Rattle.td_doc.specs.Document.{row_id, text_of};
 ghost use Rattle.td_machine.specs.Machine.{Machine};
 ghost use Rattle.td_machine.specs.History.{IsReached};
-ghost use Rattle.td_order.specs.declared.insertion.Insertion.{Insertion};
+ghost use Rattle.td_op.specs.declared.insertion.Insertion.{Insertion};
 ghost use Rattle.td_order.specs.Insertions.{IsInsertionOf};
 ghost use Rattle.td_order.specs.Order.{order};
 ghost use Rattle.td_order.specs.Show.{show};

@@ -1,4 +1,5 @@
 pub mod Op
+pub mod Insertion
 pub mod Message
 pub mod Input
 pub mod Past

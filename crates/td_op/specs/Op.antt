@@ -1,9 +1,8 @@
 -- Operations as records: what one names, and which are operations.
 use Rattle.std.specs.Prelude.{◌≡◌, ◌≤◌, ◌+◌, ℕ, List, length, Option, Some, None, IfSome}
-use Rattle.td_base.specs.Value.{DotValue}
+use Rattle.td_base.specs.Value.{DotValue, AtomIdValue}
 use Rattle.td_clock.specs.Vector.{vector_get}
-use Rattle.td_path.specs.declared.slot.Slot.{Slot}
-use Rattle.td_path.specs.declared.slot.Slot.TheVariants.{Root, At}
+use Rattle.td_path.specs.Slot.{slot_atom, slot_site}
 use Rattle.td_op.specs.declared.body.Body.{Body}
 use Rattle.td_op.specs.declared.body.Body.TheVariants.{Insert, Delete, Propose, Commit, Abort}
 
@@ -13,10 +12,13 @@ pub record OpValue : Type 0 where
   pub deps : List ℕ
   pub body : Body
 
--- the site of a slot's atom
-abbrev pub slot_site : Slot → Option ℕ
-slot_site Root = None
-slot_site (At atom bit) = Some atom.dot.site
+-- the atom that a body names: that of its slot, or its target
+abbrev pub named_atom : Body → Option AtomIdValue
+named_atom (Insert slot run) = slot_atom slot
+named_atom (Delete target) = Some target
+named_atom (Propose slot) = slot_atom slot
+named_atom (Commit proposal) = None
+named_atom (Abort proposal) = None
 
 -- the site that a body names: of the slot's atom, of the target or of the proposal
 abbrev pub body_site : Body → Option ℕ

@@ -1,5 +1,5 @@
 ghost use Rattle.std.specs.Prelude.{◌≡◌};
-ghost use Rattle.td_op.specs.Op.{body_site, slot_site};
+ghost use Rattle.td_op.specs.Op.{body_site};
 
 use td_base::{AtomId, Dot, Run, Site};
 use td_path::Slot;
@@ -26,18 +26,9 @@ impl Body {
         ensures { result ≡ body_site self.now }
     {
         match *self {
-            Body::Insert { slot, .. } | Body::Propose { slot } => slot_site(slot),
+            Body::Insert { slot, .. } | Body::Propose { slot } => slot.site(),
             Body::Delete { target } => Some(target.dot.site),
             Body::Commit { proposal } | Body::Abort { proposal } => Some(proposal.site),
         }
-    }
-}
-
-fn slot_site(slot: Slot) -> Option<Site>
-    ensures { result ≡ slot_site slot }
-{
-    match slot {
-        Slot::Root => None,
-        Slot::At { atom, .. } => Some(atom.dot.site),
     }
 }

@@ -91,6 +91,22 @@ fn an_operation_is_read_back(rt: HostRuntime) -> Result<(), Fail> {
 }
 
 #[test]
+fn an_insertion_names_its_atoms(rt: HostRuntime) -> Result<(), Fail> {
+    let run = Run::new(&[letter(b'x')?, letter(b'y')?])
+        .ok()
+        .ok_or("a run")?;
+    let slot = Slot::Root;
+    let op = Op::new(dot(2, 3)?, deps()?, Body::Insert { slot, run }).ok_or("an operation")?;
+    let insertion = Insertion::of(&op).ok_or("an insertion")?;
+    let ids = insertion.ids(rt.alloc())?;
+    let second = AtomId::new(dot(2, 3)?, 1).ok_or("an identity")?;
+    assert_eq!(rt; ids.as_slice(), [AtomId::of(dot(2, 3)?), second].as_slice());
+    let other = Op::new(dot(2, 3)?, deps()?, Body::Propose { slot }).ok_or("an operation")?;
+    assert_eq!(rt; Insertion::of(&other), None);
+    Ok(())
+}
+
+#[test]
 fn changes_are_done_at_their_index(rt: HostRuntime) -> Result<(), Fail> {
     let run = Run::new(&[letter(b'x')?, letter(b'y')?, letter(b'z')?])
         .ok()

@@ -10,13 +10,16 @@ use Rattle.td_path.specs.declared.slot.Slot.{Slot}
 use Rattle.td_path.specs.declared.slot.Slot.TheVariants.{Root, At}
 use Rattle.td_op.specs.Op.{OpValue, IsOp, body_site}
 use Rattle.td_op.specs.Past.{in_past}
-use Rattle.td_order.specs.declared.insertion.Insertion.{Insertion}
-use Rattle.td_order.specs.Insertions.{ids_of, insertions, same_dot, same_id, same_slot}
+use Rattle.td_op.specs.declared.insertion.Insertion.{Insertion}
+use Rattle.td_op.specs.Insertion.{ids_of, insertions}
+use Rattle.td_base.specs.Equality.{same_dot, same_id}
+use Rattle.td_path.specs.Slot.{same_slot}
 use Rattle.td_order.specs.Lists.{IsSublist, done, kept, left_out}
 use Rattle.td_order.specs.LineUp.{DotsDiffer}
 use Rattle.td_order.specs.Place.{precedes, has_some}
 use Rattle.td_order.specs.Causal.{HasEpochs, IsCausal, IsPart, IsRootedIn, IsWellRooted}
-use Rattle.td_order.proofs.PassedTests.{same_dot_true, same_dot_refl, same_id_true, same_slot_refl}
+use Rattle.td_base.proofs.Equals.{same_dot_true, same_dot_refl, same_id_true}
+use Rattle.td_path.proofs.SlotEquals.{same_slot_refl}
 use Rattle.td_order.proofs.InsertionLemmas.{of_insertion, to_insertion}
 use Rattle.td_order.proofs.SetOfOps.{one_op}
 use Rattle.td_order.proofs.LineUpLemmas.{OtherDot}

@@ -7,9 +7,9 @@ use Rattle.std.proofs.Math.Seq.{take-length}
 use Rattle.td_base.specs.Lists.{In}
 use Rattle.td_base.proofs.Lists.{any_found, any_none, all_in, all_of}
 use Rattle.td_op.specs.Op.{OpValue}
-use Rattle.td_order.specs.Insertions.{same_dot}
+use Rattle.td_base.specs.Equality.{same_dot}
 use Rattle.td_order.specs.LineUp.{DotsDiffer}
-use Rattle.td_order.proofs.PassedTests.{same_dot_true, same_dot_refl}
+use Rattle.td_base.proofs.Equals.{same_dot_true, same_dot_refl}
 use Rattle.td_order.proofs.LineUpLemmas.{OtherDot}
 
 pub to_end : {X : Type 0} (k : ℕ) (xs : List X) → take (length xs - k) (drop k xs) ≡ drop k xs

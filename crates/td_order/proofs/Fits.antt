@@ -1,15 +1,17 @@
 -- Keys that fit a list of insertions: how a key is made up of the insertions above an atom.
 use Rattle.std.proofs.Common.{◌≡◌, ◌<◌, ◌≤◌, ℕ, suc, List, [], ◌∷◌, ◌++◌, true, false, cond, ◌||◌, refl, sym, ap, ◌∙◌, subst, inl, inr, ⊎_elim, true≢false, arith, append_assoc}
 use Rattle.std.proofs.lemmas.Bool.{cases_Bool, or_cases, or_left, or_right}
-use Rattle.td_order.proofs.Keys.{Key, step, id_of, same_dot_true, same_dot_refl}
+use Rattle.td_order.proofs.Keys.{Key, step, id_of}
+use Rattle.td_base.proofs.Equals.{same_dot_true, same_dot_refl}
 use Rattle.td_base.specs.Value.{DotValue, AtomIdValue}
 use Rattle.td_base.specs.declared.bit.Bit.{Bit}
 use Rattle.td_base.specs.declared.bit.Bit.TheVariants.{Left, Right}
 use Rattle.td_base.specs.Lists.{In}
 use Rattle.td_path.specs.declared.slot.Slot.{Slot}
 use Rattle.td_path.specs.declared.slot.Slot.TheVariants.{Root, At}
-use Rattle.td_order.specs.declared.insertion.Insertion.{Insertion}
-use Rattle.td_order.specs.Insertions.{same_dot, ids_from}
+use Rattle.td_op.specs.declared.insertion.Insertion.{Insertion}
+use Rattle.td_base.specs.Equality.{same_dot}
+use Rattle.td_base.specs.RunAtoms.{run_ids_from}
 pub use Rattle.td_order.proofs.Family.{Names, IsRooted}
 use Rattle.td_order.specs.Under.{under, names_under}
 use Rattle.td_order.specs.Place.{precedes, has_some}
@@ -38,11 +40,11 @@ abbrev pub AllFit : (AtomIdValue → ℕ → Key) → (Insertion → ℕ) → Li
 AllFit K rank [] = Unit {0}
 AllFit K rank (a ∷ os) = Fits K rank a os × AllFit K rank os
 
-pub ids_dot : (d : DotValue) (k : ℕ) (run : List (List ℕ)) (y : AtomIdValue) → In y (ids_from d k run) → (offset : ℕ) × (y ≡ id_of d offset) × (k ≤ offset)
+pub ids_dot : (d : DotValue) (k : ℕ) (run : List (List ℕ)) (y : AtomIdValue) → In y (run_ids_from d k run) → (offset : ℕ) × (y ≡ id_of d offset) × (k ≤ offset)
 ids_dot d k [] y h = absurd h
 ids_dot d k (x ∷ run) y h = ⊎_elim (λ e. (k, e, omega arith)) (λ i. let r = ids_dot d (suc k) run y i in let le : k ≤ r.0 = omega arith in (r.0, r.1, le)) h
 
-pub first_id : (d : DotValue) (run : List (List ℕ)) → has_some run ≡ true → In (id_of d 0) (ids_from d 0 run)
+pub first_id : (d : DotValue) (run : List (List ℕ)) → has_some run ≡ true → In (id_of d 0) (run_ids_from d 0 run)
 first_id d [] h = absurd (true≢false (sym h))
 first_id d (x ∷ run) h = inl refl
 

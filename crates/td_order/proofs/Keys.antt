@@ -3,8 +3,8 @@
 use Rattle.std.proofs.Common.{◌≡◌, ◌⊎◌, ◌<◌, ℕ, List, [], ◌∷◌, true, inl, inr, ⊎_elim}
 use Rattle.td_order.proofs.Lex.{Strict, Lex, lex_strict, Below, nat_strict}
 use Rattle.td_base.specs.Value.{DotValue, AtomIdValue}
-use Rattle.td_order.specs.Insertions.{dot_lt}
-pub use Rattle.td_order.proofs.PassedTests.{same_dot_true, same_dot_refl, same_id_true, same_id_refl, same_slot_true, same_slot_refl, dot_lt_true, dot_lt_from}
+use Rattle.td_base.specs.Order.{dot_lt}
+use Rattle.td_base.proofs.Orders.{dot_lt_true, dot_lt_from}
 
 abbrev pub Key : Type 0
 Key = List (List ℕ)

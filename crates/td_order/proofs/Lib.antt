@@ -1,7 +1,5 @@
 pub mod ListLemmas
 pub mod Splices
-pub mod RunIds
-pub mod PassedTests
 pub mod Lex
 pub mod LineUpLemmas
 pub mod Keys

@@ -16,8 +16,9 @@ use Rattle.td_op.specs.Op.{OpValue}
 use Rattle.td_order.specs.LineUp.{comes_before, lined_up_with, line_up, DotsDiffer}
 use Rattle.td_order.proofs.Lex.{Tri, below, same, above, Lex, lex_irrefl, lex_trans, lex_tri, Below, nat_strict}
 use Rattle.td_order.proofs.Sublists.{one_rising}
-use Rattle.td_order.specs.Insertions.{same_dot}
-use Rattle.td_order.proofs.PassedTests.{same_dot_true, same_dot_refl, Compares, compares, dot_lt_true, dot_lt_from}
+use Rattle.td_base.specs.Equality.{same_dot}
+use Rattle.td_base.proofs.Equals.{same_dot_true, same_dot_refl}
+use Rattle.td_base.proofs.Orders.{Compares, compares, dot_lt_true, dot_lt_from}
 
 -- an operation's place in line-up
 abbrev place_of : OpValue → List ℕ

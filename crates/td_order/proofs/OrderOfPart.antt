@@ -11,15 +11,16 @@ use Rattle.std.proofs.lemmas.Bool.{cases_Bool}
 use Rattle.td_base.specs.Lists.{In, Successive}
 use Rattle.td_base.proofs.Lists.{all_in, all_of}
 use Rattle.td_op.proofs.PastLemmas.{not_in_own_past, past_along, past_sum as sums_grow}
-use Rattle.td_order.specs.declared.insertion.Insertion.{Insertion}
-use Rattle.td_order.specs.Insertions.{IsInsertionOf, insertion_of, insertions}
+use Rattle.td_op.specs.declared.insertion.Insertion.{Insertion}
+use Rattle.td_order.specs.Insertions.{IsInsertionOf}
+use Rattle.td_op.specs.Insertion.{insertion_of, insertions}
 use Rattle.td_order.specs.Lists.{IsSublist}
 use Rattle.td_order.specs.LineUp.{comes_before, line_up, DotsDiffer}
 use Rattle.td_order.specs.Place.{precedes, has_some}
 use Rattle.td_order.specs.Order.{order}
 use Rattle.td_order.specs.Causal.{HasEpochs, IsCausal, IsPart, IsRootedIn, IsWellRooted}
 use Rattle.td_order.proofs.Family.{IsRooted, AllFollow, HasPasts}
-use Rattle.td_order.proofs.InsertionLemmas.{from_op, In-insertions, insertions-In}
+use Rattle.td_op.proofs.InsertionLemmas.{from_op, In-insertions, insertions-In}
 use Rattle.td_order.proofs.LineUpLemmas.{NotBefore, smaller_sum, falls, In-line_up, line_up-In, apart_line_up, OtherDot}
 use Rattle.td_order.proofs.Ranks.{placed_part}
 

@@ -3,7 +3,9 @@ use Rattle.std.proofs.Common.{◌≡◌, ◌⊎◌, ◌<◌, ◌≤◌, ℕ, Lis
 use Rattle.std.proofs.lemmas.Bool.{cases_Bool}
 use Rattle.td_order.proofs.Lex.{Tri, below, same, above, lex_append, lex_cancel, lex_between, Below, nat_strict}
 use Rattle.td_order.proofs.ListLemmas.{none_of, some_of, rises_after_last, rises_before_first}
-use Rattle.td_order.proofs.Keys.{Key, StepLt, KeyLt, key_strict, step_strict, step, id_of, same_id_true, same_id_refl, dot_lt_from, first_step, rank_first, dot_first}
+use Rattle.td_order.proofs.Keys.{Key, StepLt, KeyLt, key_strict, step_strict, step, id_of, first_step, rank_first, dot_first}
+use Rattle.td_base.proofs.Equals.{same_id_true, same_id_refl}
+use Rattle.td_base.proofs.Orders.{dot_lt_from}
 use Rattle.td_order.proofs.Fits.{slot_key, OlderRank, Names, IsRooted, Fits, AllFit, first_id, fits_at, full_at, same_insert, key_end, Found, find, under_key, under_self, Mate, mate}
 use Rattle.td_order.proofs.Placing.{Sibling, sibling_of, of_sibling, smaller_of, of_smaller, dot_apart, older_apart, In-placed, placed-In, IdLt, id_trans, atom_key, ids_rise_from}
 use Rattle.td_base.specs.Value.{DotValue, AtomIdValue}
@@ -12,8 +14,10 @@ use Rattle.td_base.specs.Lists.{In, Successive}
 use Rattle.td_base.proofs.Lists.{any_found, any_from, successive_append}
 use Rattle.td_path.specs.declared.slot.Slot.{Slot}
 use Rattle.td_path.specs.declared.slot.Slot.TheVariants.{Root, At}
-use Rattle.td_order.specs.declared.insertion.Insertion.{Insertion}
-use Rattle.td_order.specs.Insertions.{dot_lt, same_id, ids_of}
+use Rattle.td_op.specs.declared.insertion.Insertion.{Insertion}
+use Rattle.td_base.specs.Order.{dot_lt}
+use Rattle.td_base.specs.Equality.{same_id}
+use Rattle.td_op.specs.Insertion.{ids_of}
 use Rattle.td_order.specs.Under.{under, is_under_any}
 use Rattle.td_order.specs.Place.{precedes, siblings, smaller_siblings, place, put_beside, has_some, put_after_last, put_before_first}
 use Rattle.td_order.specs.Order.{placed}

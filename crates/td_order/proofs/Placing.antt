@@ -3,7 +3,9 @@ use Rattle.std.proofs.Common.{◌≡◌, ◌⊎◌, ◌<◌, ℕ, suc, List, [],
 use Rattle.std.proofs.lemmas.Bool.{and_parts, and_from, not-true, not_from_false}
 use Rattle.td_order.proofs.Lex.{lex_append}
 use Rattle.td_order.proofs.ListLemmas.{In-put_after_last, In-put_before_first, put_after_last-In, put_before_first-In}
-use Rattle.td_order.proofs.Keys.{Key, StepLt, KeyLt, key_strict, step_strict, step, id_of, same_slot_true, same_slot_refl, dot_lt_true}
+use Rattle.td_order.proofs.Keys.{Key, StepLt, KeyLt, key_strict, step_strict, step, id_of}
+use Rattle.td_path.proofs.SlotEquals.{same_slot_true, same_slot_refl}
+use Rattle.td_base.proofs.Orders.{dot_lt_true}
 use Rattle.td_order.proofs.Fits.{slot_key, OlderRank, Names, Fits, ids_dot}
 use Rattle.td_base.specs.Value.{DotValue, AtomIdValue}
 use Rattle.td_base.specs.declared.bit.Bit.TheVariants.{Left, Right}
@@ -11,8 +13,12 @@ use Rattle.td_base.specs.Lists.{In, Successive}
 use Rattle.td_base.proofs.Lists.{In-filter, filter_In, In-append, In-front, In-back, all_of}
 use Rattle.td_path.specs.declared.slot.Slot.{Slot}
 use Rattle.td_path.specs.declared.slot.Slot.TheVariants.{Root, At}
-use Rattle.td_order.specs.declared.insertion.Insertion.{Insertion}
-use Rattle.td_order.specs.Insertions.{dot_lt, same_id, same_slot, ids_from, ids_of}
+use Rattle.td_op.specs.declared.insertion.Insertion.{Insertion}
+use Rattle.td_base.specs.Order.{dot_lt}
+use Rattle.td_base.specs.Equality.{same_id}
+use Rattle.td_path.specs.Slot.{same_slot}
+use Rattle.td_base.specs.RunAtoms.{run_ids_from}
+use Rattle.td_op.specs.Insertion.{ids_of}
 use Rattle.td_order.specs.Place.{precedes, siblings, smaller_siblings, place, put_beside, has_some}
 use Rattle.td_order.specs.Order.{placed}
 
@@ -98,10 +104,10 @@ module _ (K : AtomIdValue → ℕ → Key) (rank : Insertion → ℕ) where
   atom_key os a f z i = let o = ids_dot a.dot 0 a.run z i in (o.0, ap (λ x. K x 1) o.1 ∙ f.key o.0 1)
 
   pub ids_rise_from : (a : Insertion) → ((offset side : ℕ) → K (id_of a.dot offset) side ≡ slot_key K a.slot ++ (step (rank a) a.dot offset side ∷ []))
-      → (k : ℕ) (run : List (List ℕ)) → Successive IdLt (ids_from a.dot k run)
+      → (k : ℕ) (run : List (List ℕ)) → Successive IdLt (run_ids_from a.dot k run)
   ids_rise_from a key k [] = tt
   ids_rise_from a key k (x ∷ run) = (
-    all_of (IdLt (id_of a.dot k)) (ids_from a.dot (suc k) run) (λ y i.
+    all_of (IdLt (id_of a.dot k)) (run_ids_from a.dot (suc k) run) (λ y i.
         let o = ids_dot a.dot (suc k) run y i in
         let lt : k < o.0 = omega (arith, o.2) in
         let less : KeyLt (slot_key K a.slot ++ (step (rank a) a.dot k 1 ∷ [])) (slot_key K a.slot ++ (step (rank a) a.dot o.0 1 ∷ [])) =

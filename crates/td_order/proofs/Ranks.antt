@@ -8,11 +8,14 @@ use Rattle.td_base.specs.declared.bit.Bit.TheVariants.{Left, Right}
 use Rattle.td_base.specs.Lists.{In}
 use Rattle.td_path.specs.declared.slot.Slot.{Slot}
 use Rattle.td_path.specs.declared.slot.Slot.TheVariants.{Root, At}
-use Rattle.td_order.specs.declared.insertion.Insertion.{Insertion}
-use Rattle.td_order.specs.Insertions.{same_dot, same_slot}
+use Rattle.td_op.specs.declared.insertion.Insertion.{Insertion}
+use Rattle.td_base.specs.Equality.{same_dot}
+use Rattle.td_path.specs.Slot.{same_slot}
 use Rattle.td_order.specs.Place.{precedes}
 use Rattle.td_order.specs.Order.{placed}
-use Rattle.td_order.proofs.Keys.{Key, key_strict, step, id_of, same_dot_true, same_dot_refl, same_slot_true, same_slot_refl}
+use Rattle.td_order.proofs.Keys.{Key, key_strict, step, id_of}
+use Rattle.td_base.proofs.Equals.{same_dot_true, same_dot_refl}
+use Rattle.td_path.proofs.SlotEquals.{same_slot_true, same_slot_refl}
 use Rattle.td_order.proofs.Fits.{slot_key, OlderRank, AllFit, ids_dot}
 use Rattle.td_order.proofs.Placing.{IdLt, id_trans, In-placed, placed-In}
 use Rattle.td_order.proofs.PlaceRises.{placed_rises}

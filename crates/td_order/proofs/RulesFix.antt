@@ -8,8 +8,10 @@ use Rattle.td_base.proofs.Lists.{all_in, all_of}
 use Rattle.td_path.specs.declared.slot.Slot.{Slot}
 use Rattle.td_path.specs.declared.slot.Slot.TheVariants.{Root, At}
 use Rattle.td_op.specs.Op.{OpValue}
-use Rattle.td_order.specs.declared.insertion.Insertion.{Insertion}
-use Rattle.td_order.specs.Insertions.{IsInsertionOf, dot_lt, ids_of}
+use Rattle.td_op.specs.declared.insertion.Insertion.{Insertion}
+use Rattle.td_order.specs.Insertions.{IsInsertionOf}
+use Rattle.td_base.specs.Order.{dot_lt}
+use Rattle.td_op.specs.Insertion.{ids_of}
 use Rattle.td_order.specs.LineUp.{line_up}
 use Rattle.td_order.specs.Under.{under}
 use Rattle.td_order.specs.Place.{precedes}
@@ -17,13 +19,14 @@ use Rattle.td_order.specs.Order.{order}
 use Rattle.td_order.specs.Causal.{HasEpochs, IsWellRooted}
 use Rattle.td_order.specs.Standing.{HangsAt, HangsOn, the_atom, on_a_side, ObeysRules, StandsBefore, StandsNearer, StandsOnSide}
 use Rattle.td_order.proofs.Lex.{Tri, below, same, above}
-use Rattle.td_order.proofs.Keys.{Key, StepLt, KeyLt, key_strict, step, id_of, dot_lt_from}
+use Rattle.td_order.proofs.Keys.{Key, StepLt, KeyLt, key_strict, step, id_of}
+use Rattle.td_base.proofs.Orders.{dot_lt_from}
 use Rattle.td_order.proofs.Family.{Names, IsRooted}
 use Rattle.td_order.proofs.Fits.{slot_key, OlderRank, Found, find, key_end, ids_dot, rooted_at, same_insert, slot_key_same, snoc_last, snoc_not_nil}
 use Rattle.td_order.proofs.Placing.{IdLt, id_trans, older_apart, placed-In}
 use Rattle.td_order.proofs.PlaceRises.{cons_nil}
 use Rattle.td_order.proofs.Sublists.{one_rising}
-use Rattle.td_order.proofs.InsertionLemmas.{In-insertions}
+use Rattle.td_op.proofs.InsertionLemmas.{In-insertions}
 use Rattle.td_order.proofs.LineUpLemmas.{In-line_up}
 use Rattle.td_order.proofs.UnderLemmas.{under_by_slots}
 use Rattle.td_order.proofs.StandingLemmas.{line, rank, K, fits, rises, in_line, same_rank, older_rank, sides_kept, runs_kept, concurrent_by_dot, newer_is_nearer}

@@ -1,7 +1,6 @@
 -- The order and the text are those of a set of operations: in which order a list has them does not matter.
-use Rattle.std.specs.Prelude.{◌↔◌}
+use Rattle.std.specs.Prelude.{◌↔◌, unwrap_or, find, slice_get, option_and_then}
 use Rattle.std.proofs.Common.{◌≡◌, List, [], ◌∷◌, Bool, true, false, cond, not, map, filter, Option, Some, None, refl, sym, ap, ◌∙◌, subst, inl, inr, ⊎_elim, true≢false}
-use Rattle.std.specs.Prelude.{unwrap_or, find, slice_get, option_and_then}
 use Rattle.std.specs.List.{concat, list_any}
 use Rattle.std.specs.List.Sorted.{IsPermutation}
 use Rattle.std.proofs.lemmas.List.Sorted.{IsPermutation-sym}
@@ -9,13 +8,14 @@ use Rattle.td_base.specs.Value.{AtomIdValue}
 use Rattle.td_base.specs.Lists.{In}
 use Rattle.td_base.proofs.Lists.{any_found, any_from, all_in}
 use Rattle.td_op.specs.Op.{OpValue}
-use Rattle.td_order.specs.declared.insertion.Insertion.{Insertion}
-use Rattle.td_order.specs.Insertions.{insertion_of, insertions, same_dot}
+use Rattle.td_op.specs.declared.insertion.Insertion.{Insertion}
+use Rattle.td_op.specs.Insertion.{insertion_of, insertions}
+use Rattle.td_base.specs.Equality.{same_dot}
 use Rattle.td_order.specs.LineUp.{DotsDiffer}
 use Rattle.td_order.specs.Order.{placed, order}
 use Rattle.td_order.specs.Show.{atom_of, deletes, is_deleted, show}
-use Rattle.td_order.proofs.PassedTests.{same_dot_true}
-use Rattle.td_order.proofs.InsertionLemmas.{from_op, In-insertions, insertions-In}
+use Rattle.td_base.proofs.Equals.{same_dot_true}
+use Rattle.td_op.proofs.InsertionLemmas.{from_op, In-insertions, insertions-In}
 use Rattle.td_order.proofs.LineUpLemmas.{both_tests, one_line_up, differ_permuted, permuted, OtherDot}
 
 found_at : {X : Type 0} (test : X → Bool) (y : X) (ys : List X) (b : Bool) (x : X) → test y ≡ b → (find test ys ≡ Some x → In x ys × (test x ≡ true)) → cond b (Some y) (find test ys) ≡ Some x → In x (y ∷ ys) × (test x ≡ true)

@@ -10,15 +10,18 @@ use Rattle.td_base.proofs.Lists.{In-front, In-back, In-append, successive_append
 use Rattle.td_path.specs.declared.slot.Slot.{Slot}
 use Rattle.td_path.specs.declared.slot.Slot.TheVariants.{Root, At}
 use Rattle.td_op.specs.Op.{OpValue}
-use Rattle.td_order.specs.declared.insertion.Insertion.{Insertion}
-use Rattle.td_order.specs.Insertions.{IsAtomOf, ids_from, ids_of, insertion_of, insertions, same_id}
+use Rattle.td_op.specs.declared.insertion.Insertion.{Insertion}
+use Rattle.td_order.specs.Insertions.{IsAtomOf}
+use Rattle.td_base.specs.RunAtoms.{run_ids_from}
+use Rattle.td_op.specs.Insertion.{ids_of, insertion_of, insertions}
+use Rattle.td_base.specs.Equality.{same_id}
 use Rattle.td_order.specs.Lists.{IsSpliced}
 use Rattle.td_order.specs.LineUp.{line_up, DotsDiffer}
 use Rattle.td_order.specs.Place.{place, put_after_last, put_before_first, put_beside, siblings, smaller_siblings, has_some}
 use Rattle.td_order.specs.Order.{placed, order}
 use Rattle.td_order.proofs.Fits.{ids_dot}
 use Rattle.td_order.proofs.Placing.{In-placed, placed-In}
-use Rattle.td_order.proofs.InsertionLemmas.{from_op, In-insertions, insertions-In}
+use Rattle.td_op.proofs.InsertionLemmas.{from_op, In-insertions, insertions-In}
 use Rattle.td_order.proofs.LineUpLemmas.{In-line_up, line_up-In, apart_line_up}
 use Rattle.td_order.proofs.Keys.{id_of}
 
@@ -74,10 +77,10 @@ spliced_distinct {X} xs list all s d e n =
     (append_distinct s.front (xs ++ s.back) (successive_front D s.front s.back whole) end
     (λ x i j. ⊎_elim (λ k. n x k (In-append_at x s.front s.back list s.was (inl i))) (λ k. across D s.front s.back whole x x i k refl) (In-append x xs s.back j)))
 
-ids_distinct : (d : DotValue) (k : ℕ) (run : List (List ℕ)) → Distinct (ids_from d k run)
+ids_distinct : (d : DotValue) (k : ℕ) (run : List (List ℕ)) → Distinct (run_ids_from d k run)
 ids_distinct d k [] = tt
 ids_distinct d k (atom ∷ run) = (
-  all_of (λ (y : AtomIdValue). id_of d k ≢ y) (ids_from d (suc k) run) (λ y i e.
+  all_of (λ (y : AtomIdValue). id_of d k ≢ y) (run_ids_from d (suc k) run) (λ y i e.
       let o = ids_dot d (suc k) run y i in
       let same : k ≡ o.0 = ap (λ (x : AtomIdValue). x.offset) (e ∙ o.1) in
       omega (arith, same, o.2)),

@@ -10,8 +10,10 @@ use Rattle.td_base.proofs.Lists.{all_in}
 use Rattle.td_path.specs.declared.slot.Slot.{Slot}
 use Rattle.td_path.specs.declared.slot.Slot.TheVariants.{Root, At}
 use Rattle.td_op.specs.Op.{OpValue}
-use Rattle.td_order.specs.declared.insertion.Insertion.{Insertion}
-use Rattle.td_order.specs.Insertions.{IsInsertionOf, dot_lt, ids_of, insertions}
+use Rattle.td_op.specs.declared.insertion.Insertion.{Insertion}
+use Rattle.td_order.specs.Insertions.{IsInsertionOf}
+use Rattle.td_base.specs.Order.{dot_lt}
+use Rattle.td_op.specs.Insertion.{ids_of, insertions}
 use Rattle.td_order.specs.LineUp.{line_up}
 use Rattle.td_order.specs.Under.{under}
 use Rattle.td_order.specs.Place.{precedes}
@@ -25,7 +27,7 @@ use Rattle.td_order.proofs.Fits.{slot_key, OlderRank, AllFit, fits_at, key_end, 
 use Rattle.td_order.proofs.Placing.{IdLt, id_trans, placed-In}
 use Rattle.td_order.proofs.PlaceRises.{placed_rises}
 use Rattle.td_order.proofs.Ranks.{before, count_length, equally, fewer, older_by, rank_at, rank_of, key_in, fits_part}
-use Rattle.td_order.proofs.InsertionLemmas.{insertions-In}
+use Rattle.td_op.proofs.InsertionLemmas.{insertions-In}
 use Rattle.td_order.proofs.LineUpLemmas.{line_up-In}
 use Rattle.td_order.proofs.OrderOfPart.{line_up_causal, pasts, whole_is_closed}
 use Rattle.td_order.proofs.UnderLemmas.{under_by_slots}

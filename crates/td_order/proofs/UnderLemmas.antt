@@ -7,15 +7,17 @@ use Rattle.td_base.specs.Lists.{In}
 use Rattle.td_path.specs.declared.slot.Slot.{Slot}
 use Rattle.td_path.specs.declared.slot.Slot.TheVariants.{Root, At}
 use Rattle.td_op.specs.Op.{OpValue}
-use Rattle.td_order.specs.declared.insertion.Insertion.{Insertion}
-use Rattle.td_order.specs.Insertions.{IsInsertionOf, ids_of, insertion_of, insertions, same_dot}
+use Rattle.td_op.specs.declared.insertion.Insertion.{Insertion}
+use Rattle.td_order.specs.Insertions.{IsInsertionOf}
+use Rattle.td_op.specs.Insertion.{ids_of, insertion_of, insertions}
+use Rattle.td_base.specs.Equality.{same_dot}
 use Rattle.td_order.specs.LineUp.{line_up}
 use Rattle.td_order.specs.Under.{IsUnder, NamesAtomOf, itself, by_slot, names_under, under}
 use Rattle.td_order.specs.Causal.{IsWellRooted}
-use Rattle.td_order.proofs.PassedTests.{same_dot_true, same_dot_refl}
+use Rattle.td_base.proofs.Equals.{same_dot_true, same_dot_refl}
 use Rattle.td_order.proofs.Family.{Names, IsRooted, AllFollow}
 use Rattle.td_order.proofs.Fits.{ids_dot, under_head, under_tail}
-use Rattle.td_order.proofs.InsertionLemmas.{from_op, In-insertions, insertions-In}
+use Rattle.td_op.proofs.InsertionLemmas.{from_op, In-insertions, insertions-In}
 use Rattle.td_order.proofs.LineUpLemmas.{In-line_up, line_up-In}
 use Rattle.td_order.proofs.OrderOfPart.{line_up_causal, whole_is_closed}
 use Rattle.td_order.proofs.SetOfOps.{one_op}

@@ -6,7 +6,7 @@ use Rattle.td_path.specs.declared.slot.Slot.{Slot}
 use Rattle.td_path.specs.declared.slot.Slot.TheVariants.{Root, At}
 use Rattle.td_op.specs.Op.{OpValue, IsOp}
 use Rattle.td_op.specs.Past.{in_past}
-use Rattle.td_order.specs.declared.insertion.Insertion.{Insertion}
+use Rattle.td_op.specs.declared.insertion.Insertion.{Insertion}
 use Rattle.td_order.specs.Insertions.{IsAtomOf, IsInsertionOf}
 use Rattle.td_order.specs.LineUp.{DotsDiffer}
 use Rattle.td_order.specs.Place.{precedes}

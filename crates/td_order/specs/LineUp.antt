@@ -9,7 +9,7 @@ use Rattle.td_base.specs.Order.{dot_cmp}
 use Rattle.td_base.specs.Lists.{Successive}
 use Rattle.td_op.specs.Op.{OpValue}
 use Rattle.td_op.specs.Past.{op_sum}
-use Rattle.td_order.specs.Insertions.{same_dot}
+use Rattle.td_base.specs.Equality.{same_dot}
 
 -- by sum, then by dot
 abbrev pub line_up_cmp : OpValue → OpValue → Ordering

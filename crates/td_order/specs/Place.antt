@@ -7,8 +7,11 @@ use Rattle.td_base.specs.Value.{AtomIdValue}
 use Rattle.td_clock.specs.Vector.{vector_has}
 use Rattle.td_path.specs.declared.slot.Slot.{Slot}
 use Rattle.td_path.specs.declared.slot.Slot.TheVariants.{Root, At}
-use Rattle.td_order.specs.declared.insertion.Insertion.{Insertion}
-use Rattle.td_order.specs.Insertions.{dot_lt, ids_of, same_id, same_slot}
+use Rattle.td_op.specs.declared.insertion.Insertion.{Insertion}
+use Rattle.td_base.specs.Order.{dot_lt}
+use Rattle.td_op.specs.Insertion.{ids_of}
+use Rattle.td_base.specs.Equality.{same_id}
+use Rattle.td_path.specs.Slot.{same_slot}
 use Rattle.td_order.specs.Under.{is_under_any}
 
 -- c is in the past of a: a depends on it

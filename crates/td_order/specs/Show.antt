@@ -5,8 +5,9 @@ use Rattle.td_base.specs.Value.{AtomIdValue}
 use Rattle.td_op.specs.declared.body.Body.{Body}
 use Rattle.td_op.specs.declared.body.Body.TheVariants.{Insert, Delete, Propose, Commit, Abort}
 use Rattle.td_op.specs.Op.{OpValue}
-use Rattle.td_order.specs.declared.insertion.Insertion.{Insertion}
-use Rattle.td_order.specs.Insertions.{insertions, same_dot, same_id}
+use Rattle.td_op.specs.declared.insertion.Insertion.{Insertion}
+use Rattle.td_op.specs.Insertion.{insertions}
+use Rattle.td_base.specs.Equality.{same_dot, same_id}
 use Rattle.td_order.specs.Order.{order}
 
 -- the body deletes the atom

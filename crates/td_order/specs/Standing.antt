@@ -7,8 +7,10 @@ use Rattle.td_base.specs.Lists.{In, Successive}
 use Rattle.td_path.specs.declared.slot.Slot.{Slot}
 use Rattle.td_path.specs.declared.slot.Slot.TheVariants.{Root, At}
 use Rattle.td_op.specs.Op.{OpValue}
-use Rattle.td_order.specs.declared.insertion.Insertion.{Insertion}
-use Rattle.td_order.specs.Insertions.{IsAtomOf, IsInsertionOf, dot_lt, ids_of}
+use Rattle.td_op.specs.declared.insertion.Insertion.{Insertion}
+use Rattle.td_order.specs.Insertions.{IsAtomOf, IsInsertionOf}
+use Rattle.td_base.specs.Order.{dot_lt}
+use Rattle.td_op.specs.Insertion.{ids_of}
 use Rattle.td_order.specs.Under.{IsUnder}
 use Rattle.td_order.specs.Place.{precedes}
 

@@ -6,8 +6,10 @@ use Rattle.td_base.specs.Lists.{In}
 use Rattle.td_path.specs.declared.slot.Slot.{Slot}
 use Rattle.td_path.specs.declared.slot.Slot.TheVariants.{Root, At}
 use Rattle.td_op.specs.Op.{OpValue}
-use Rattle.td_order.specs.declared.insertion.Insertion.{Insertion}
-use Rattle.td_order.specs.Insertions.{IsInsertionOf, ids_of, same_dot}
+use Rattle.td_op.specs.declared.insertion.Insertion.{Insertion}
+use Rattle.td_order.specs.Insertions.{IsInsertionOf}
+use Rattle.td_op.specs.Insertion.{ids_of}
+use Rattle.td_base.specs.Equality.{same_dot}
 
 -- the slot names an atom of the insertion
 abbrev pub NamesAtomOf : Slot → Insertion → Type 0

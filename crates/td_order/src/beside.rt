@@ -1,7 +1,7 @@
 ghost use Rattle.std.specs.Prelude.{◌≡◌, ◌<◌, ◌≤◌, ◌++◌, List, IfSome, length, take, drop};
 ghost use Rattle.std.specs.List.{position};
 ghost use Rattle.td_base.specs.Value.{AtomIdValue};
-ghost use Rattle.td_order.specs.Insertions.{same_id};
+ghost use Rattle.td_base.specs.Equality.{same_id};
 ghost use Rattle.td_order.specs.Place.{put_after_last, put_before_first, put_beside};
 
 use td_base::{AtomId, Bit};
@@ -35,7 +35,7 @@ fn place_of(atom: AtomId, list: &[AtomId]) -> Option<usize>
     ensures value { result ≡ position (same_id atom) list.now }
     ensures bound { IfSome result (λ at. at < length list.now) }
 {
-    list.iter().position(|id| atom.cmp(id).is_eq())
+    list.iter().position(|id| atom == *id)
 }
 
 // The place right after an atom, or the start.
@@ -46,7 +46,7 @@ fn after_atom(atom: AtomId, list: &[AtomId]) -> usize
 {
     let mut at = 0;
     for (i, id) in list.iter().enumerate() {
-        if atom.cmp(id).is_eq() {
+        if atom == *id {
             at = i + 1;
         }
     }

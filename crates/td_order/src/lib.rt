@@ -9,7 +9,7 @@
 
 mod atom_ids;
 mod beside;
-mod insertion;
+mod insertions;
 mod laws;
 mod line_up;
 mod order;
@@ -21,7 +21,6 @@ mod standing;
 mod under;
 
 pub use atom_ids::AtomIds;
-pub use insertion::Insertion;
 pub use laws::{
     line_up_follows_the_past, line_up_is_in_order, order_has_each_atom_once, order_is_of_a_set,
     placing_moves_no_atom,

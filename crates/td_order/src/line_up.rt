@@ -32,5 +32,5 @@ pub fn dots_differ(ops: &[Op]) -> bool
 fn has_dot(dot: Dot, ops: &[Op]) -> bool
     ensures { result ≡ has_dot dot ops.now }
 {
-    ops.iter().any(|op| op.dot().cmp(&dot).is_eq())
+    ops.iter().any(|op| op.dot() == dot)
 }

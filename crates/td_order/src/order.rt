@@ -3,12 +3,12 @@ ghost use Rattle.td_order.specs.LineUp.{DotsDiffer};
 ghost use Rattle.td_order.specs.Order.{order, placed};
 
 use crate::atom_ids::AtomIds;
-use crate::insertion::{Insertion, insertions_of};
+use crate::insertions::insertions_of;
 use crate::line_up::line_up;
 use crate::place::place;
 use std::alloc::Global;
 use td_base::{AtomId, Memory};
-use td_op::Op;
+use td_op::{Insertion, Op};
 
 /// The atoms of all insertions in the one order that the operations give them, deleted ones too. It looks through all atoms
 /// for each insertion, so it is for small lists and for comparison.

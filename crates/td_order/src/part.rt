@@ -1,7 +1,7 @@
 // A part of the operations has the order of the whole; each law is the contract of a function with an empty body.
 ghost use Rattle.std.specs.Prelude.{◌≡◌, List, [], ◌∷◌, IsTrue};
 ghost use Rattle.td_op.specs.Op.{OpValue};
-ghost use Rattle.td_order.specs.declared.insertion.Insertion.{Insertion};
+ghost use Rattle.td_op.specs.declared.insertion.Insertion.{Insertion};
 ghost use Rattle.td_order.specs.Lists.{IsSublist};
 ghost use Rattle.td_order.specs.Insertions.{IsInsertionOf};
 ghost use Rattle.td_order.specs.Place.{precedes};

@@ -5,11 +5,11 @@ ghost use Rattle.td_order.specs.Under.{is_under_any};
 ghost use Rattle.td_order.specs.Place.{place, put_after_last, put_before_first};
 
 use crate::beside::beside;
-use crate::insertion::Insertion;
 use crate::siblings::{siblings, smaller};
 use crate::under::is_under_any;
 use std::alloc::Global;
 use td_base::{AtomId, Memory};
+use td_op::Insertion;
 
 /// The list with the atoms of the new insertion, where `placed` are the insertions whose atoms it has, the last in line-up
 /// first.

@@ -1,16 +1,16 @@
 ghost use Rattle.std.specs.Prelude.{◌≡◌, IfOk};
 ghost use Rattle.std.specs.List.{find};
 ghost use Rattle.std.specs.Option.{option_copied};
-ghost use Rattle.td_order.specs.declared.insertion.Insertion.{Insertion};
-ghost use Rattle.td_order.specs.Insertions.{same_dot};
+ghost use Rattle.td_op.specs.declared.insertion.Insertion.{Insertion};
+ghost use Rattle.td_base.specs.Equality.{same_dot};
 ghost use Rattle.td_order.specs.LineUp.{DotsDiffer};
 ghost use Rattle.td_order.specs.Show.{atom_in, deletes, is_deleted, show};
 
-use crate::insertion::{Insertion, insertions_of};
+use crate::insertions::insertions_of;
 use crate::order::order_of;
 use std::alloc::Global;
 use td_base::{Atom, AtomId, Bytes, Dot, Memory};
-use td_op::{Body, Op};
+use td_op::{Body, Insertion, Op};
 
 /// The text that the operations make: the atoms of `order_of` that no delete among the operations names, joined.
 pub fn show_of(alloc: Global, ops: &[Op]) -> Result<Bytes, Memory>
@@ -41,7 +41,7 @@ fn deletes(body: Body, id: AtomId) -> bool
     ensures { result ≡ deletes id body }
 {
     match body {
-        Body::Delete { target } => target.cmp(&id).is_eq(),
+        Body::Delete { target } => target == id,
         Body::Insert { .. } | Body::Propose { .. } => false,
         Body::Commit { .. } | Body::Abort { .. } => false,
     }
@@ -63,5 +63,5 @@ fn insertion_with(insertions: &[Insertion], dot: Dot) -> Option<&Insertion>
 {
     insertions
         .iter()
-        .find(|insertion| insertion.dot.cmp(&dot).is_eq())
+        .find(|insertion| insertion.dot == dot)
 }

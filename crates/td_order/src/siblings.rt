@@ -1,11 +1,9 @@
 ghost use Rattle.std.specs.Prelude.{◌≡◌, IfOk, filter};
-ghost use Rattle.td_order.specs.Insertions.{same_slot};
 ghost use Rattle.td_order.specs.Place.{is_sibling, is_smaller, siblings};
 
-use crate::insertion::Insertion;
 use std::alloc::Global;
 use td_base::Memory;
-use td_path::Slot;
+use td_op::Insertion;
 
 /// Of the placed insertions those that wrote the slot of the new one and are not in its past.
 pub fn siblings(
@@ -27,22 +25,7 @@ pub fn siblings(
 fn is_sibling(new: &Insertion, other: &Insertion) -> bool
     ensures { result ≡ is_sibling new.now other.now }
 {
-    same_slot(other.slot, new.slot) && !new.deps.has(other.dot)
-}
-
-fn same_slot(slot: Slot, other: Slot) -> bool
-    ensures { result ≡ same_slot slot other }
-{
-    match slot {
-        Slot::Root => match other {
-            Slot::Root => true,
-            Slot::At { .. } => false,
-        },
-        Slot::At { atom, bit } => match other {
-            Slot::Root => false,
-            Slot::At { atom: x, bit: b } => atom.cmp(&x).is_eq() && bit.cmp(&b).is_eq(),
-        },
-    }
+    other.slot == new.slot && !new.deps.has(other.dot)
 }
 
 /// Of these insertions those that have a smaller dot than the new one.
@@ -55,7 +38,7 @@ pub fn smaller(
 {
     let mut found = Vec::new(alloc);
     for other in others {
-        if other.dot.cmp(&new.dot).is_lt() {
+        if other.dot < new.dot {
             found.push(*other)?;
         }
     }

@@ -2,8 +2,9 @@
 ghost use Rattle.std.specs.Prelude.{◌≡◌, ◌↔◌, List, IsTrue};
 ghost use Rattle.td_base.specs.Value.{AtomIdValue};
 ghost use Rattle.td_op.specs.Op.{OpValue};
-ghost use Rattle.td_order.specs.declared.insertion.Insertion.{Insertion};
-ghost use Rattle.td_order.specs.Insertions.{IsInsertionOf, insertions};
+ghost use Rattle.td_op.specs.declared.insertion.Insertion.{Insertion};
+ghost use Rattle.td_order.specs.Insertions.{IsInsertionOf};
+ghost use Rattle.td_op.specs.Insertion.{insertions};
 ghost use Rattle.td_order.specs.LineUp.{line_up};
 ghost use Rattle.td_order.specs.Under.{IsUnder, under};
 ghost use Rattle.td_order.specs.Order.{order};

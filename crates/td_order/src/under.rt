@@ -1,8 +1,8 @@
 ghost use Rattle.std.specs.Prelude.{◌≡◌};
 ghost use Rattle.td_order.specs.Under.{is_under_any, under};
 
-use crate::insertion::Insertion;
 use td_base::{AtomId, Dot};
+use td_op::Insertion;
 use td_path::Slot;
 
 /// Of these insertions, the last in line-up first: whether the one with the dot is under the one with the dot `top`. It walks
@@ -12,8 +12,8 @@ pub fn is_under(placed: &[Insertion], top: Dot, dot: Dot) -> bool
 {
     let mut at = dot;
     for insertion in placed {
-        if insertion.dot.cmp(&at).is_eq() {
-            if at.cmp(&top).is_eq() {
+        if insertion.dot == at {
+            if at == top {
                 return true;
             }
             match insertion.slot {

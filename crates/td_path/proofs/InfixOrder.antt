@@ -1,16 +1,20 @@
 -- The infix order is a total order, and what lies between a node and what hangs below it hangs below it too.
-use Rattle.std.proofs.Common.{◌≡◌, ℕ, List, [], ◌∷◌, ◌++◌, Bool, true, false, ◌&&◌, refl, sym, ap, ◌∙◌, subst, true≢false}
+use Rattle.std.proofs.Common.{◌≡◌, ℕ, List, [], ◌∷◌, ◌++◌, true, refl, sym, ap, ◌∙◌, subst, true≢false}
 use Rattle.std.specs.declared.cmp.Ordering.{Ordering}
 use Rattle.std.specs.declared.cmp.Ordering.TheVariants.{Less, Equal, Greater}
-use Rattle.std.specs.Ordering.{is_eq, ordering_then, ordering_reverse, nat_cmp, on, then_cmp}
+use Rattle.std.specs.Ordering.{ordering_then, ordering_reverse, nat_cmp, on, then_cmp}
 use Rattle.std.specs.Cmp.{IsTotalOrder}
 use Rattle.std.specs.Cmp.Lexicographic.{slice_cmp}
-use Rattle.std.proofs.lemmas.Cmp.{nat_cmp_total, on_total, then_total, lists_total, tied_itself, ranked}
+use Rattle.std.proofs.lemmas.Bool.{and_parts, and_from}
+use Rattle.std.proofs.lemmas.Cmp.{nat_cmp_total, on_total, then_total, lists_total, tied_itself}
 use Rattle.td_base.specs.declared.bit.Bit.{Bit}
 use Rattle.td_base.specs.declared.bit.Bit.TheVariants.{Left, Right}
-use Rattle.td_base.specs.Value.{DotValue, AtomIdValue}
-use Rattle.td_base.specs.Order.{dot_cmp, id_cmp, bit_cmp}
-use Rattle.td_path.specs.Infix.{Pair, Pairs, pair_cmp, node_cmp, path_cmp}
+use Rattle.td_base.specs.Value.{AtomIdValue}
+use Rattle.td_base.specs.Order.{id_cmp}
+use Rattle.td_base.specs.Equality.{same_bit, same_id}
+use Rattle.td_base.proofs.Orders.{id_total, bit_total, then_equal, equal_ids, equal_bits}
+use Rattle.td_base.proofs.Equals.{same_bit_true, same_bit_refl, same_id_true, same_id_refl}
+use Rattle.td_path.specs.Infix.{Pair, Pairs, same_pair, pair_cmp, node_cmp, path_cmp}
 use Rattle.td_path.specs.SlotPaths.{goes_on}
 
 -- a path as a list that compares by its first difference: its end stands between left and right
@@ -31,12 +35,6 @@ side_number Right = 2
 abbrev marks : Pairs → List Mark
 marks [] = (1, nobody) ∷ []
 marks (p ∷ path) = (side_number p.0, p.1) ∷ marks path
-
-pub dot_total : IsTotalOrder dot_cmp
-dot_total = then_total (on_total (λ (d : DotValue). d.site) nat_cmp_total) (on_total (λ (d : DotValue). d.seq) nat_cmp_total)
-
-pub id_total : IsTotalOrder id_cmp
-id_total = then_total (on_total (λ (x : AtomIdValue). x.dot) dot_total) (on_total (λ (x : AtomIdValue). x.offset) nat_cmp_total)
 
 mark_total : IsTotalOrder mark_cmp
 mark_total = then_total (on_total (λ (m : Mark). m.0) nat_cmp_total) (on_total (λ (m : Mark). m.1) id_total)
@@ -66,49 +64,6 @@ path_total = subst (λ (f : Pairs → Pairs → Ordering). IsTotalOrder f) (λ i
 
 -- what the order does not tell apart is one
 
-then_equal : (o r : Ordering) → ordering_then o r ≡ Equal → (o ≡ Equal) × (r ≡ Equal)
-then_equal Less r e = absurd (less_equal e)
-  where
-    less_equal : Less ≡ Equal → ⊥
-    less_equal h = cc
-then_equal Equal r e = (refl, e)
-then_equal Greater r e = absurd (greater_equal e)
-  where
-    greater_equal : Greater ≡ Equal → ⊥
-    greater_equal h = cc
-
-equal_numbers : (x y : ℕ) → nat_cmp x y ≡ Equal → x ≡ y
-equal_numbers x y e = ranked x y Equal (sym e)
-
-pub equal_dots : (d e : DotValue) → dot_cmp d e ≡ Equal → d ≡ e
-equal_dots d e h =
-    let p = then_equal _ _ h in
-    let site = equal_numbers d.site e.site p.0 in
-    let seq = equal_numbers d.seq e.seq p.1 in
-    λ i. record { site = site i; seq = seq i }
-
-pub equal_ids : (x y : AtomIdValue) → id_cmp x y ≡ Equal → x ≡ y
-equal_ids x y h =
-    let p = then_equal _ _ h in
-    let dot = equal_dots x.dot y.dot p.0 in
-    let offset = equal_numbers x.offset y.offset p.1 in
-    λ i. record { dot = dot i; offset = offset i }
-
-pub equal_bits : (b c : Bit) → bit_cmp b c ≡ Equal → b ≡ c
-equal_bits Left Left h = refl
-equal_bits Left Right h = cc
-equal_bits Right Left h = cc
-equal_bits Right Right h = refl
-
-bit_numbers : (b c : Bit) → bit_cmp b c ≡ nat_cmp (side_number b) (side_number c)
-bit_numbers Left Left = refl
-bit_numbers Left Right = refl
-bit_numbers Right Left = refl
-bit_numbers Right Right = refl
-
-pub bit_total : IsTotalOrder bit_cmp
-bit_total = subst (λ (f : Bit → Bit → Ordering). IsTotalOrder f) (λ i b c. sym (bit_numbers b c) i) (on_total side_number nat_cmp_total)
-
 pair_total : IsTotalOrder pair_cmp
 pair_total = then_total (on_total (λ (p : Pair). p.0) bit_total) (on_total (λ (p : Pair). p.1) id_total)
 
@@ -134,26 +89,33 @@ equal_paths (a ∷ p) (b ∷ q) h =
     let rest = equal_paths p q e.1 in
     λ i. pair i ∷ rest i
 
-pub is_eq_true : (o : Ordering) → is_eq o ≡ true → o ≡ Equal
-is_eq_true Equal h = refl
-is_eq_true Less h = absurd (true≢false (sym h))
-is_eq_true Greater h = absurd (true≢false (sym h))
+-- pairs that are equal part by part are one
+
+pub same_pair_true : (p q : Pair) → same_pair p q ≡ true → p ≡ q
+same_pair_true p q h =
+    let both = and_parts (same_bit p.0 q.0) (same_id p.1 q.1) h in
+    let bit = same_bit_true p.0 q.0 both.0 in
+    let id = same_id_true p.1 q.1 both.1 in
+    λ i. (bit i, id i)
+
+pub same_pair_refl : (p : Pair) → same_pair p p ≡ true
+same_pair_refl p = and_from (same_bit p.0 p.0) (same_id p.1 p.1) (same_bit_refl p.0) (same_id_refl p.1)
+
+pub same_pair_from : (p q : Pair) → pair_cmp p q ≡ Equal → same_pair p q ≡ true
+same_pair_from p q e = ap (λ (r : Pair). same_pair p r) (sym (equal_pairs p q e)) ∙ same_pair_refl p
 
 -- a node, and what hangs below it on one side
 
 pub goes_on_from : (front : Pairs) (bit : Bit) (x : AtomIdValue) (rest : Pairs) → goes_on front bit (front ++ (bit, x) ∷ rest) ≡ true
-goes_on_from [] bit x rest = ap is_eq (tied_itself bit_total bit)
-goes_on_from (q ∷ front) bit x rest = ap (λ (o : Ordering). is_eq o && goes_on front bit (front ++ (bit, x) ∷ rest)) (same_pairs q) ∙ goes_on_from front bit x rest
+goes_on_from [] bit x rest = same_bit_refl bit
+goes_on_from (q ∷ front) bit x rest =
+    and_from (same_pair q q) (goes_on front bit (front ++ (bit, x) ∷ rest)) (same_pair_refl q) (goes_on_from front bit x rest)
 
 -- the path begins with the front and one pair with the bit
 pub record GoesOn (front : Pairs) (bit : Bit) (path : Pairs) : Type 0 where
   pub id : AtomIdValue
   pub rest : Pairs
   pub is : path ≡ front ++ (bit, id) ∷ rest
-
-pub both_true : (b c : Bool) → (b && c) ≡ true → (b ≡ true) × (c ≡ true)
-both_true true c h = (refl, h)
-both_true false c h = absurd (true≢false (sym h))
 
 pub goes_on_parts : (front : Pairs) (bit : Bit) (path : Pairs) → goes_on front bit path ≡ true → GoesOn front bit path
 goes_on_parts front bit [] h = absurd (none front h)
@@ -162,11 +124,11 @@ goes_on_parts front bit [] h = absurd (none front h)
     none [] k = true≢false (sym k)
     none (q ∷ front) k = true≢false (sym k)
 goes_on_parts [] bit (p ∷ path) h =
-    let e = equal_bits p.0 bit (is_eq_true _ h) in
+    let e = same_bit_true p.0 bit h in
     record { id = p.1; rest = path; is = λ i. (e i, p.1) ∷ path }
 goes_on_parts (q ∷ front) bit (p ∷ path) h =
-    let b = both_true _ _ h in
-    let e = equal_pairs q p (is_eq_true _ b.0) in
+    let b = and_parts _ _ h in
+    let e = same_pair_true q p b.0 in
     let more = goes_on_parts front bit path b.1 in
     record { id = more.id; rest = more.rest; is = λ i. sym e i ∷ more.is i }
 
@@ -188,7 +150,8 @@ pub first_pairs : (a s : Pair) (m n : Ordering) → ordering_then (pair_cmp a s)
 first_pairs a s m n h k = less_both_ways (pair_cmp a s) m n h (ap (λ (o : Ordering). ordering_then o n) (sym (pair_total.antisymm s a)) ∙ k)
 
 goes_on_further : (a s : Pair) (front : Pairs) (bit : Bit) (q : Pairs) → pair_cmp a s ≡ Equal → goes_on front bit q ≡ true → goes_on (a ∷ front) bit (s ∷ q) ≡ true
-goes_on_further a s front bit q e h = ap (λ (o : Ordering). is_eq o && goes_on front bit q) e ∙ h
+goes_on_further a s front bit q e h =
+    and_from (same_pair a s) (goes_on front bit q) (same_pair_from a s e) h
 
 -- what stands between a node and what hangs on its right hangs on its right
 pub between_right : (front q : Pairs) (x : AtomIdValue) (rest : Pairs) → path_cmp front q ≡ Less → path_cmp q (front ++ (Right, x) ∷ rest) ≡ Less → goes_on front Right q ≡ true

@@ -1,3 +1,4 @@
 pub mod InfixOrder
 pub mod ArrayShape
 pub mod SlotOverlap
+pub mod SlotEquals

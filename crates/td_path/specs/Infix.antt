@@ -1,12 +1,13 @@
 -- Paths in the binary tree, and the infix walk of it (Preguiça et al. 2009).
-use Rattle.std.specs.Prelude.{List, [], ◌∷◌, Bool}
+use Rattle.std.specs.Prelude.{List, [], ◌∷◌, Bool, ◌&&◌}
 use Rattle.std.specs.declared.cmp.Ordering.{Ordering}
 use Rattle.std.specs.declared.cmp.Ordering.TheVariants.{Less, Equal, Greater}
-use Rattle.std.specs.Ordering.{is_eq, ordering_then, ordering_reverse}
+use Rattle.std.specs.Ordering.{ordering_then, ordering_reverse}
 use Rattle.td_base.specs.declared.bit.Bit.{Bit}
 use Rattle.td_base.specs.declared.bit.Bit.TheVariants.{Left, Right}
 use Rattle.td_base.specs.Value.{AtomIdValue}
 use Rattle.td_base.specs.Order.{id_cmp, bit_cmp}
+use Rattle.td_base.specs.Equality.{same_bit, same_id}
 
 -- one step down the tree: the bit, and the identity of the node reached
 abbrev pub Pair : Type 0
@@ -21,7 +22,7 @@ abbrev pub pair_cmp : Pair → Pair → Ordering
 pair_cmp p q = ordering_then (bit_cmp p.0 q.0) (id_cmp p.1 q.1)
 
 abbrev pub same_pair : Pair → Pair → Bool
-same_pair p q = is_eq (pair_cmp p q)
+same_pair p q = same_bit p.0 q.0 && same_id p.1 q.1
 
 -- a node against one that lies below it: after what is on its left, before what is on its right
 abbrev pub node_cmp : Bit → Ordering

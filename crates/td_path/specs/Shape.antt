@@ -1,12 +1,13 @@
 -- The shape of an array: the tree of bits into which a list of atoms explodes (Preguiça et al. 2009), which halves it at each node.
-use Rattle.std.specs.Prelude.{ℕ, zero, suc, ◌-◌, ◌/◌, nat_eq, List, [], ◌∷◌, ◌++◌, Bool, true, false, ◌&&◌, cond, map, Option}
+use Rattle.std.specs.Prelude.{ℕ, zero, suc, ◌-◌, ◌/◌, ◌==◌, List, [], ◌∷◌, ◌++◌, Bool, true, false, ◌&&◌, if◌then◌else◌, map, Option}
 use Rattle.std.specs.List.{position}
 use Rattle.std.specs.declared.cmp.Ordering.{Ordering}
 use Rattle.std.specs.declared.cmp.Ordering.TheVariants.{Equal}
-use Rattle.std.specs.Ordering.{is_eq, ordering_then, ordering_reverse}
+use Rattle.std.specs.Ordering.{ordering_then, ordering_reverse}
 use Rattle.td_base.specs.declared.bit.Bit.{Bit}
 use Rattle.td_base.specs.declared.bit.Bit.TheVariants.{Left, Right}
 use Rattle.td_base.specs.Order.{bit_cmp}
+use Rattle.td_base.specs.Equality.{same_bit}
 use Rattle.td_path.specs.Infix.{node_cmp}
 
 -- the bits from an array's top node down to one of its atoms
@@ -18,7 +19,9 @@ Bits = List Bit
 abbrev pub shape_upto : ℕ → ℕ → List Bits
 shape_upto zero k = []
 shape_upto (suc n) k =
-    cond (nat_eq k 0) [] (map (λ (bits : Bits). Left ∷ bits) (shape_upto n (k / 2)) ++ [] ∷ map (λ (bits : Bits). Right ∷ bits) (shape_upto n (k - k / 2 - 1)))
+    if k == 0 then []
+    else map (λ (bits : Bits). Left ∷ bits) (shape_upto n (k / 2))
+    ++ [] ∷ map (λ (bits : Bits). Right ∷ bits) (shape_upto n (k - k / 2 - 1))
 
 abbrev pub shape : ℕ → List Bits
 shape k = shape_upto k k
@@ -27,7 +30,7 @@ abbrev pub same_bits : Bits → Bits → Bool
 same_bits [] [] = true
 same_bits [] (c ∷ cs) = false
 same_bits (b ∷ bs) [] = false
-same_bits (b ∷ bs) (c ∷ cs) = is_eq (bit_cmp b c) && same_bits bs cs
+same_bits (b ∷ bs) (c ∷ cs) = same_bit b c && same_bits bs cs
 
 -- the atom of an array of k that has these bits
 abbrev pub shape_index : ℕ → Bits → Option ℕ

@@ -4,7 +4,7 @@ use Rattle.std.specs.Ordering.{is_eq}
 use Rattle.td_base.specs.declared.bit.Bit.{Bit}
 use Rattle.td_base.specs.declared.bit.Bit.TheVariants.{Right}
 use Rattle.td_base.specs.Value.{AtomIdValue}
-use Rattle.td_base.specs.Order.{bit_cmp}
+use Rattle.td_base.specs.Equality.{same_bit}
 use Rattle.td_path.specs.Infix.{Pairs, same_pair, path_cmp}
 use Rattle.td_path.specs.declared.slot_path.SlotPath.{SlotPath}
 use Rattle.td_path.specs.declared.slot_path.SlotPath.TheVariants.{Whole, Below}
@@ -12,7 +12,7 @@ use Rattle.td_path.specs.declared.slot_path.SlotPath.TheVariants.{Whole, Below}
 -- the path begins with the front, and goes on by the bit
 abbrev pub goes_on : Pairs → Bit → Pairs → Bool
 goes_on front bit [] = false
-goes_on [] bit (p ∷ path) = is_eq (bit_cmp p.0 bit)
+goes_on [] bit (p ∷ path) = same_bit p.0 bit
 goes_on (q ∷ front) bit (p ∷ path) = same_pair q p && goes_on front bit path
 
 -- the slot contains the row with this path
@@ -24,7 +24,8 @@ slot_contains (Below front bit) path = goes_on front bit path
 abbrev pub slot_contains_slot : SlotPath → SlotPath → Bool
 slot_contains_slot Whole t = true
 slot_contains_slot (Below front bit) Whole = false
-slot_contains_slot (Below front bit) (Below path side) = is_eq (path_cmp front path) && is_eq (bit_cmp bit side) || goes_on front bit path
+slot_contains_slot (Below front bit) (Below path side) =
+    is_eq (path_cmp front path) && same_bit bit side || goes_on front bit path
 
 -- one of the two contains the other
 abbrev pub slots_overlap : SlotPath → SlotPath → Bool

@@ -7,7 +7,11 @@ ghost use Rattle.td_base.specs.Value.{AtomIdValue};
 ghost use Rattle.td_path.specs.Infix.{Pairs, path_cmp};
 ghost use Rattle.td_path.specs.SlotPaths.{goes_on, slot_contains, slots_overlap};
 ghost use Rattle.td_path.specs.declared.slot_path.SlotPath.{SlotPath};
+ghost use Rattle.td_path.specs.declared.slot.Slot.{Slot};
+ghost use Rattle.td_path.specs.Slot.{same_slot};
 ghost use Rattle.td_path.specs.Shape.{Bits, shape, shape_index, bits_cmp};
+
+use crate::slot::Slot;
 
 /// The infix order is a total order, and tells different paths apart.
 #[tactic(auto, using(crate::proofs::InfixOrder::path_total, crate::proofs::InfixOrder::equal_paths))]
@@ -34,6 +38,13 @@ pub fn slots_that_do_not_overlap_are_apart()
     ensures mutual { (s t : SlotPath) → slots_overlap s t ≡ slots_overlap t s }
     ensures apart { (s t : SlotPath) (p : Pairs) → slots_overlap s t ≡ false → slot_contains s p ≡ true
         → slot_contains t p ≡ false }
+{}
+
+/// Slots are equal where their parts are, and then they are one.
+#[tactic(auto, using(crate::proofs::SlotEquals::same_slot_true))]
+pub fn equal_slots_are_one()
+    ensures same { (s t : Slot) → ⟦<Slot as PartialEq>⟧.eq s t ≡ same_slot s t }
+    ensures one { (s t : Slot) → same_slot s t ≡ true → s ≡ t }
 {}
 
 /// An array has one bit path for each atom, and the path leads back to the atom and to no other. Paths stand in the order of

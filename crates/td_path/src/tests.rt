@@ -58,6 +58,20 @@ fn a_slot_contains_what_goes_on_by_its_bit(rt: HostRuntime) -> Result<(), Fail> 
 }
 
 #[test]
+fn a_slot_names_an_atom_and_its_site(rt: HostRuntime) -> Result<(), Fail> {
+    let atom = id(3, 1)?;
+    let left = Slot::At {
+        atom,
+        bit: Bit::Left,
+    };
+    assert_eq!(rt; left.atom(), Some(atom));
+    assert_eq!(rt; left.site(), Some(atom.dot.site));
+    assert!(rt; Slot::Root.atom().is_none());
+    assert!(rt; Slot::Root.site().is_none());
+    Ok(())
+}
+
+#[test]
 fn arrays_of_up_to_nine_atoms_have_their_shapes(rt: HostRuntime) -> Result<(), Fail> {
     // for each number of atoms the bits of each, 0 to the left and 1 to the right
     let shapes = [

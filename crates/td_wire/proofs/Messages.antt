@@ -6,7 +6,7 @@ use Rattle.std.proofs.lemmas.List.Elements.{All-from_recursion, recursion_from_A
 use Rattle.td_base.specs.Value.{DotValue, AtomIdValue, IsDot, IsAtomId}
 use Rattle.td_base.specs.Run.{IsRun}
 use Rattle.td_clock.specs.Vector.{vector_get}
-use Rattle.td_path.specs.Slot.{IsSlot}
+use Rattle.td_path.specs.Slot.{IsSlot, slot_site}
 use Rattle.td_path.specs.declared.slot.Slot.{Slot}
 use Rattle.td_path.specs.declared.slot.Slot.TheVariants.{Root, At}
 use Rattle.td_op.specs.declared.body.Body.{Body}
@@ -15,7 +15,7 @@ use Rattle.td_op.specs.declared.message.Message.{Message}
 use Rattle.td_op.specs.declared.message.Message.TheVariants.{Op, Vote}
 use Rattle.td_op.specs.declared.vote.Vote.{Vote as VoteValue}
 use Rattle.td_op.specs.Message.{IsBody, IsOpValue, IsMessage}
-use Rattle.td_op.specs.Op.{OpValue, body_site, slot_site}
+use Rattle.td_op.specs.Op.{OpValue, body_site}
 use Rattle.td_wire.specs.declared.format.Format.{Format}
 use Rattle.td_wire.specs.declared.format.Format.TheVariants.{One, Two}
 use Rattle.td_wire.specs.Format.{IsFirst, IsOldSlot, IsOldBody, IsOld, CanSay}

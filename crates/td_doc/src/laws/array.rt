@@ -6,7 +6,8 @@ ghost use Rattle.td_path.specs.SlotPaths.{slot_contains};
 ghost use Rattle.td_path.specs.Shape.{shape};
 ghost use Rattle.td_path.specs.declared.slot_path.SlotPath.{SlotPath};
 ghost use Rattle.td_doc.specs.Document.{DocRow, live_rows};
-ghost use Rattle.td_doc.specs.Array.{NamedAtom, named, array};
+ghost use Rattle.td_doc.specs.Array.{named, array};
+ghost use Rattle.td_base.specs.RunAtoms.{NamedAtom};
 ghost use Rattle.td_doc.specs.Subtrees.{bits_in};
 
 /// The rows of an array have its atoms in their order. They are live, stand in infix order and all in the slot, and hang there by

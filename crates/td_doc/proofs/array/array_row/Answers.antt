@@ -5,7 +5,8 @@ use Rattle.std.proofs.lemmas.Cmp.{ranked}
 use Rattle.std.proofs.lemmas.List.{take_all, length-take-le, length-drop}
 use Rattle.td_base.specs.declared.bit.Bit.TheVariants.{Right}
 use Rattle.td_path.specs.declared.slot_path.SlotPath.TheVariants.{Below}
-use Rattle.td_doc.specs.Array.{NamedAtom, array}
+use Rattle.td_doc.specs.Array.{array}
+use Rattle.td_base.specs.RunAtoms.{NamedAtom}
 use Rattle.td_doc.proofs.ArrayPlaces.{array_front, step_left, step_right, arrived}
 use Rattle.td_doc.proofs.array.array_row.Goals as goal
 

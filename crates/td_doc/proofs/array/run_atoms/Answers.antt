@@ -1,5 +1,5 @@
 use Rattle.std.proofs.Common.{◌+◌, ◌++◌, List, drop, sym, ap, ◌∙◌, arith}
-use Rattle.td_doc.specs.Array.{NamedAtom, run_atoms_from}
+use Rattle.td_base.specs.RunAtoms.{NamedAtom, run_atoms_from}
 use Rattle.td_doc.proofs.RunAtoms.{offset_fits, has_atom, next_named}
 use Rattle.td_doc.proofs.array.run_atoms.Goals as goal
 use Rattle.td_doc.proofs.array.run_atoms.Goals.{in-Some+in_ok-push, in_default}

@@ -1,5 +1,5 @@
 use Rattle.std.proofs.Common.{◌≡◌, ◌++◌, drop}
-use Rattle.td_doc.specs.Array.{run_atoms_from, run_atoms}
+use Rattle.td_base.specs.RunAtoms.{run_atoms_from, run_atoms}
 use Rattle.td_doc.proofs.array.run_atoms.Given as goal
 
 abbrev pub invariant-loop-offset : goal.invariant-loop-offset

@@ -1,6 +1,6 @@
 use Rattle.std.proofs.Common.{◌≡◌, ◌≤◌, ◌++◌, List, take, drop}
 use Rattle.td_base.specs.Value.{AtomIdValue}
-use Rattle.td_order.specs.Insertions.{same_id}
+use Rattle.td_base.specs.Equality.{same_id}
 use Rattle.td_order.specs.Place.{put_after_last}
 use Rattle.td_order.proofs.beside.after_atom.Given as goal
 

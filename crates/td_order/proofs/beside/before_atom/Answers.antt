@@ -1,6 +1,6 @@
 use Rattle.std.proofs.Common.{◌∙◌, ap, length, Option, ℕ}
 use Rattle.std.specs.Prelude.{unwrap_or}
-use Rattle.td_order.specs.Insertions.{same_id}
+use Rattle.td_base.specs.Equality.{same_id}
 use Rattle.td_order.proofs.Splices.{placed_before}
 use Rattle.td_order.proofs.beside.before_atom.Goals as goal
 

@@ -1,13 +1,11 @@
-use Rattle.std.proofs.Common.{arith, refl, ap, sym, ◌∙◌, ◌≡◌, ◌<◌, [], length, take, drop, ℕ, ◌+◌, List, get_or}
+use Rattle.std.proofs.Common.{arith, refl, sym, ◌∙◌, ◌≡◌, ◌<◌, [], length, take, drop, ℕ, ◌+◌, List, get_or}
 use Rattle.std.specs.List.{concat}
-use Rattle.td_base.specs.Atom.{IsAtom}
 use Rattle.td_base.specs.Run.{IsRun}
 use Rattle.td_base.specs.RunParts.{ends_of, bytes_of}
-use Rattle.std.specs.Prelude.{Result, Ok, Err, Some}
-use Rattle.std.specs.Result.{OkIff, result_ok}
 use Rattle.std.specs.Int.Count.{count_trailing_zeros}
 use Rattle.std.proofs.lemmas.Option.{slice_get-get_or}
 use Rattle.td_base.proofs.RunLemmas.{IsNextAtom, next_atom, atom_bytes}
+use Rattle.td_base.proofs.AtomLemmas.{atom_read}
 use Rattle.td_base.proofs.run.Run.atom.Goals as goal
 
 -- the atom behind those that were passed
@@ -57,11 +55,6 @@ slice_bounds-new-end c =
     let next = passed c.args.self.now c.loop.counter c.loop.start c.loop.ends c.len.ensures.run (omega arith) c.loop.invariant.start c.loop.invariant.ends in
     omega (arith, next.1, next.0.short)
 
--- the bytes of an atom are taken
-taken : {E : Type 0} (answer : Result (List ℕ) E) (piece atom : List ℕ) → OkIff answer (IsAtom piece) piece → piece ≡ atom → IsAtom atom → result_ok answer ≡ Some atom
-taken (Ok x) piece atom h same is = ap Some (h.1 ∙ same)
-taken (Err e) piece atom h same is = absurd (h (rw same is))
-
 pub returns : goal.returns
 returns c =
     let atoms : List (List ℕ) = c.args.self.now in
@@ -72,4 +65,4 @@ returns c =
     let kept : c.self.inside.bytes ≡ bytes_of atoms = rw (← c.self.view_is) c.self.invariant.bytes_again in
     let end : ℕ = c.loop.start + count_trailing_zeros 64 c.loop.ends + 1 in
     let piece = atom_bytes atoms i c.loop.start end c.self.inside.bytes (omega arith) kept start (omega (arith, next.1, next.0.start)) in
-    c.ok.ensures.value ∙ taken c.new.result _ (get_or atoms i []) c.new.ensures.ok piece next.0.is ∙ sym (slice_get-get_or atoms i [] (omega arith))
+    c.ok.ensures.value ∙ atom_read c.new.result _ (get_or atoms i []) c.new.ensures.ok piece next.0.is ∙ sym (slice_get-get_or atoms i [] (omega arith))

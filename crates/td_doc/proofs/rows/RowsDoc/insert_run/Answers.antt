@@ -1,5 +1,5 @@
 use Rattle.std.proofs.Common.{List, sym, ◌∙◌, subst}
-use Rattle.td_doc.specs.Array.{NamedAtom}
+use Rattle.td_base.specs.RunAtoms.{NamedAtom}
 use Rattle.td_doc.specs.RowParts.{AreNew}
 use Rattle.td_doc.proofs.Identities.{new_run}
 use Rattle.td_doc.proofs.rows.RowsDoc.insert_run.Goals as goal

@@ -1,6 +1,6 @@
 use Rattle.std.proofs.Common.{◌≡◌, ◌++◌, drop}
-use Rattle.td_order.specs.Insertions.{insertions}
-use Rattle.td_order.proofs.insertion.insertions_of.Given as goal
+use Rattle.td_op.specs.Insertion.{insertions}
+use Rattle.td_order.proofs.insertions.insertions_of.Given as goal
 
 -- what is found and what is to be found
 abbrev pub invariant-loop-op : goal.invariant-loop-op

@@ -1,10 +1,11 @@
 ghost use Rattle.std.specs.Prelude.{◌≡◌, IfOk};
-ghost use Rattle.td_order.specs.Insertions.{ids_of, insertion_of, insertions};
+ghost use Rattle.td_op.specs.Insertion.{ids_of, insertion_of};
 
+use crate::body::Body;
+use crate::op::Op;
 use std::alloc::Global;
 use td_base::{AtomId, Dot, Memory, Run};
 use td_clock::Vector;
-use td_op::{Body, Op};
 use td_path::Slot;
 
 /// An operation that puts the atoms of a run into a slot.
@@ -46,17 +47,4 @@ impl Insertion {
         }
         Ok(ids)
     }
-}
-
-/// The insertions among the operations, in the same order.
-pub fn insertions_of(alloc: Global, ops: &[Op]) -> Result<Vec<Insertion>, Memory>
-    ensures { IfOk result (λ found. found.items ≡ insertions ops.now) }
-{
-    let mut found = Vec::new(alloc);
-    for op in ops {
-        if let Some(insertion) = Insertion::of(op) {
-            found.push(insertion)?;
-        }
-    }
-    Ok(found)
 }

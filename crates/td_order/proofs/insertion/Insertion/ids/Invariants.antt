@@ -1,7 +1,0 @@
-use Rattle.std.proofs.Common.{◌≡◌, take}
-use Rattle.td_order.specs.Insertions.{ids_from}
-use Rattle.td_order.proofs.insertion.Insertion.ids.Given as goal
-
--- the identities of the atoms so far
-abbrev pub invariant-loop-offset : goal.invariant-loop-offset
-invariant-loop-offset l = l.ids.items ≡ ids_from l.self.dot 0 (take l.offset l.self.run)
