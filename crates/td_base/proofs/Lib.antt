@@ -1,4 +1,6 @@
 pub mod Lists
+pub mod Rising
+pub mod Searches
 pub mod AtomLemmas
 pub mod RunLemmas
 pub mod RunPieces

@@ -1,6 +1,8 @@
 -- What is in a list, and lists of which each element stands in a relation to each that follows it.
-use Rattle.std.proofs.Common.{◌≡◌, ◌⊎◌, List, [], ◌∷◌, ◌++◌, Bool, true, false, cond, map, filter, refl, sym, ap, subst, inl, inr, ⊎_elim, true≢false}
-use Rattle.std.specs.List.{AllByRecursion, list_any}
+use Rattle.std.proofs.Common.{◌<◌, ℕ, zero, suc, length, get_or, arith, ◌≡◌, ◌⊎◌, List, [], ◌∷◌, ◌++◌, Bool, true, false, cond, map, filter, refl, sym, ap, subst, inl, inr, ⊎_elim, true≢false}
+use Rattle.std.specs.List.{AllByRecursion, Contains, list_any}
+use Rattle.std.specs.List.Sorted.{IsPermutation}
+use Rattle.std.proofs.lemmas.List.Sorted.{Contains-permutation}
 use Rattle.std.proofs.lemmas.Bool.{or_cases, or_left, or_right, or_parts}
 use Rattle.td_base.specs.Lists.{In, Successive}
 
@@ -120,3 +122,18 @@ successive_map S f (x ∷ xs) h = (all_of (S (f x)) (map f xs) (λ y i. let r = 
 pub map_successive : {X Y : Type 0} (S : Y → Y → Type 0) (f : X → Y) (xs : List X) → Successive S (map f xs) → Successive (λ (x y : X). S (f x) (f y)) xs
 map_successive S f [] h = tt
 map_successive S f (x ∷ xs) h = (all_of (λ y. S (f x) (f y)) xs (λ y i. all_in (S (f x)) (map f xs) h.0 (f y) (In-map f y xs i)), map_successive S f xs h.1)
+
+-- std's word for being in a list, and permutations
+
+pub In-Contains : {X : Type 0} (x : X) (xs : List X) → In x xs → Contains xs x
+In-Contains x [] h = absurd h
+In-Contains x (y ∷ xs) h =
+    ⊎_elim (λ (e : x ≡ y). (0, omega arith, sym e)) (λ i. let r = In-Contains x xs i in let lt : suc r.0 < suc (length xs) = omega (arith, r.1) in (suc r.0, lt, r.2)) h
+
+pub Contains-In_at : {X : Type 0} (x : X) (xs : List X) (k : ℕ) → k < length xs → get_or xs k x ≡ x → In x xs
+Contains-In_at x [] k h e = absurd (omega arith)
+Contains-In_at x (y ∷ xs) zero h e = inl (sym e)
+Contains-In_at x (y ∷ xs) (suc k) h e = inr (Contains-In_at x xs k (omega arith) e)
+
+pub In-permutation : {X : Type 0} (xs ys : List X) (x : X) → IsPermutation xs ys → In x xs → In x ys
+In-permutation xs ys x p i = let r = Contains-permutation xs ys x p (In-Contains x xs i) in Contains-In_at x ys r.0 r.1 r.2

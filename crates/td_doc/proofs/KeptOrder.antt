@@ -2,7 +2,7 @@
 use Rattle.std.proofs.Common.{◌≡◌, List, [], ◌∷◌, Bool, true, false, ◌||◌, not, cond, map, filter, refl, sym, ap, ◌∙◌, subst, inl, inr, ⊎_elim, true≢false}
 use Rattle.std.specs.Prelude.{IsSome, ◌↔◌, Option, Some, None}
 use Rattle.td_base.specs.Value.{AtomIdValue}
-use Rattle.td_base.specs.Lists.{In, Successive}
+use Rattle.td_base.specs.Lists.{In, Successive, StandsBefore}
 use Rattle.td_base.proofs.Lists.{In-filter, In-map, map_In, all_in}
 use Rattle.td_path.specs.declared.slot.Slot.{Slot}
 use Rattle.td_doc.specs.Document.{DocRow, row_id, find_row, is_live, IsDocument}
@@ -11,7 +11,7 @@ use Rattle.td_doc.specs.Array.{named}
 use Rattle.td_base.specs.RunAtoms.{NamedAtom}
 use Rattle.td_doc.specs.Flatten.{flatten}
 use Rattle.td_doc.specs.Answers.{IsRow}
-use Rattle.td_doc.specs.Stretches.{StandsBefore, is_in, kept_rows}
+use Rattle.td_doc.specs.Stretches.{is_in, kept_rows}
 use Rattle.td_doc.proofs.PutRows.{Differ}
 use Rattle.td_doc.proofs.Rules.{found}
 use Rattle.td_doc.proofs.Flattened.{flatten_names}

@@ -37,8 +37,3 @@ is_in (Some slot) r = slot_contains slot r.path
 -- the rows that stay where the slot is flattened: all but its tombstones
 abbrev pub kept_rows : List DocRow → Slot → List DocRow
 kept_rows rows slot = filter (λ (r : DocRow). is_live r || not (is_in (slot_path rows slot) r)) rows
-
--- x stands in the list, and y after it
-abbrev pub StandsBefore : {X : Type 0} → X → X → List X → Type 0
-StandsBefore x y [] = ⊥
-StandsBefore x y (z ∷ zs) = ((x ≡ z) × In y zs) ⊎ StandsBefore x y zs

@@ -13,6 +13,7 @@ use Rattle.td_doc.specs.Document.{DocRow, row_id}
 use Rattle.td_doc.specs.Array.{named, around, array_upto}
 use Rattle.td_base.specs.RunAtoms.{NamedAtom, run_atoms_from, run_ids_from}
 use Rattle.td_doc.proofs.ArrayRows.{array_named}
+use Rattle.td_base.proofs.Searches.{In-take, In-drop}
 
 -- the row as far below the path as it was below the root
 abbrev pub shift : Pairs → DocRow → DocRow
@@ -52,12 +53,6 @@ array_there n p s l r0 i = subst (λ z. In (shift p r0) z) (sym (array_shift n p
 abbrev PairsOf : List NamedAtom → Pairs → Type 0
 PairsOf l p = (t : Pair) → In t p → (a : NamedAtom) × In a l × (t.1 ≡ a.id)
 
-take_in : {X : Type 0} (x : X) (k : ℕ) (xs : List X) → In x (take k xs) → In x xs
-take_in x k xs i = subst (λ z. In x z) (take-append-drop k xs) (In-front x (take k xs) (drop k xs) i)
-
-drop_in : {X : Type 0} (x : X) (k : ℕ) (xs : List X) → In x (drop k xs) → In x xs
-drop_in x k xs i = subst (λ z. In x z) (take-append-drop k xs) (In-back x (take k xs) (drop k xs) i)
-
 base_pairs_around : (n : ℕ) → ((s : Bit) (l : List NamedAtom) (r : DocRow) → In r (array_upto n (Below [] s) l) → PairsOf l r.path) → (s : Bit) (l before after : List NamedAtom) → ((a : NamedAtom) → In a before → In a l) → ((a : NamedAtom) → In a after → In a l) → (r : DocRow) → In r (around (array_upto n) (Below [] s) before after) → PairsOf l r.path
 base_pairs_around n ih s l before [] w v r i = absurd i
 base_pairs_around n ih s l before (m ∷ after) w v r i = cases (In-append r (array_upto n (Below (top ∷ []) Left) before) (mid ∷ array_upto n (Below (top ∷ []) Right) after) i)
@@ -81,7 +76,7 @@ base_pairs_around n ih s l before (m ∷ after) w v r i = cases (In-append r (ar
 pub base_pairs : (n : ℕ) (s : Bit) (l : List NamedAtom) (r : DocRow) → In r (array_upto n (Below [] s) l) → PairsOf l r.path
 base_pairs zero s l r i = absurd i
 base_pairs (suc n) s l r i =
-    base_pairs_around n (λ t k q j. base_pairs n t k q j) s l (take (length l / 2) l) (drop (length l / 2) l) (λ a j. take_in a (length l / 2) l j) (λ a j. drop_in a (length l / 2) l j) r i
+    base_pairs_around n (λ t k q j. base_pairs n t k q j) s l (take (length l / 2) l) (drop (length l / 2) l) (λ a j. In-take a (length l / 2) l j) (λ a j. In-drop a (length l / 2) l j) r i
 
 -- an array at the root stands on the right of the empty path
 around_at_root : (rows : SlotPath → List NamedAtom → List DocRow) (before after : List NamedAtom) → around rows Whole before after ≡ around rows (Below [] Right) before after

@@ -16,7 +16,7 @@ use Rattle.td_doc.specs.Document.{DocRow, row_id, last_id, find_row, is_empty_li
 use Rattle.td_doc.specs.Slots.{slot_path, rows_below, is_empty_slot}
 use Rattle.td_doc.proofs.Rules.{found, in_found}
 use Rattle.td_doc.proofs.PutRows.{Differ}
-use Rattle.td_merge.proofs.Lists.{rises_tri}
+use Rattle.td_base.proofs.Rising.{rises_tri}
 use Rattle.td_merge.proofs.Paths.{PathLt, RowLt, path_not, no_pairs, last_more}
 
 abbrev pub nobody : AtomIdValue

@@ -1,4 +1,3 @@
-pub mod Lists
 pub mod Paths
 pub mod Arrays
 pub mod Under
@@ -11,7 +10,6 @@ pub mod RunMates
 pub mod RowsAgree
 pub mod BareRows
 pub mod RowsInOrder
-pub mod Filters
 pub mod TextInOrder
 pub mod ExampleHolds
 pub mod MachineLog

@@ -27,8 +27,7 @@ use Rattle.td_order.proofs.Fits.{OlderRank, AllFit, fits_at, ids_dot}
 use Rattle.td_order.proofs.Placing.{IdLt, id_trans, In-placed, placed-In, ids_rise_from}
 use Rattle.td_order.proofs.PlaceRises.{placed_rises}
 use Rattle.td_order.proofs.Ranks.{key_in, key_fits}
-use Rattle.td_merge.proofs.Lists.{both_rise}
-use Rattle.td_order.proofs.Sublists.{one_rising}
+use Rattle.td_base.proofs.Rising.{both_rise, one_rising}
 use Rattle.td_merge.proofs.Paths.{RowLt, path_not, path_trans}
 use Rattle.td_merge.proofs.Arrays.{array_ids}
 use Rattle.td_merge.proofs.Under.{dot_in, same_insertion}

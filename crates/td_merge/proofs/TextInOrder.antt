@@ -35,10 +35,13 @@ use Rattle.td_op.proofs.InsertionLemmas.{from_op, In-insertions, insertions-In}
 use Rattle.td_order.proofs.LineUpLemmas.{both_tests}
 use Rattle.td_order.proofs.SetOfOps.{one_op}
 use Rattle.td_merge.specs.Log.{doc_of, IsCausalLog, NoCommit, DeletesAtoms, WasFree}
-use Rattle.td_merge.proofs.Filters.{filter_mapped, map_again, same_kept, find_one}
+use Rattle.td_base.proofs.Searches.{filter_mapped, same_kept, find_one}
+use Rattle.std.proofs.lemmas.Simd.{map-map}
 use Rattle.td_base.proofs.RunIds.{run_atom_dot}
 use Rattle.td_merge.proofs.Under.{dot_in}
 use Rattle.td_merge.proofs.RowsInOrder.{log_inside, rows_in_order}
+use Rattle.std.proofs.lemmas.Option.{same_Some}
+use Rattle.std.proofs.lemmas.Bool.{false_from_ne_true}
 
 -- which rows are live
 
@@ -55,10 +58,6 @@ deleted_body x (Delete target) h = ap Delete (same_id_true target x h)
 deleted_body x (Propose slot) h = absurd (true≢false (sym h))
 deleted_body x (Commit p) h = absurd (true≢false (sym h))
 deleted_body x (Abort p) h = absurd (true≢false (sym h))
-
-false_of : (b : Bool) → (b ≡ true → ⊥) → b ≡ false
-false_of true h = absurd (h refl)
-false_of false h = refl
 
 -- a row after an insertion is an old one, or a live one of the run
 below_live : (o : Option SlotPath) (atoms : List NamedAtom) (rows : List DocRow) (r : DocRow) → In r (put_array_below o atoms rows) → In r rows ⊎ ((r.deletes ≡ []) × In (named r) atoms)
@@ -87,9 +86,6 @@ place_in dot offset (atom ∷ run) n i =
     (suc r.0, sum, r.2))
     i
 
-some_same : {X : Type 0} (x y : X) → Some x ≡ Some y → x ≡ y
-some_same x y e = cc
-
 module _ (ops : List OpValue) (W : IsWellRooted ops) (N : NoCommit ops) (D : DeletesAtoms ops) where
   past_there : (log : List OpValue) → IsCausalLog ops log → (x y : OpValue) → In x log → In y ops → in_past y x ≡ true → In y log
   past_there [] h x y i j p = absurd i
@@ -99,7 +95,7 @@ module _ (ops : List OpValue) (W : IsWellRooted ops) (N : NoCommit ops) (D : Del
   -- a log has no delete of an atom that is put after it
   not_deleted : (x : OpValue) (a : Insertion) (log : List OpValue) → insertion_of x ≡ Some a → IsCausalLog ops (x ∷ log) → (y : AtomIdValue) → y.dot ≡ a.dot → is_deleted log y ≡ false
   not_deleted x a log e h y d =
-      false_of (is_deleted log y) (λ t.
+      false_from_ne_true (is_deleted log y) (λ t.
       let o = any_found (λ (o : OpValue). deletes y o.body) log t in
       let put = D o.0 y (log_inside ops log h.1 o.0 o.1) (deleted_body y o.0.body o.2) in
       let c = put.0.inside in
@@ -128,7 +124,7 @@ module _ (ops : List OpValue) (W : IsWellRooted ops) (N : NoCommit ops) (D : Del
       let hit : same_id t (row_id r) ≡ true = subst (λ z. same_id t z ≡ true) (sym named) (same_id_refl t) in
       not_live r x.dot (delete_marks t x.dot rows r i named) ∙ sym (ap (λ c. not (c || is_deleted log (row_id r))) hit)
   lives_deleted_at x log rows ih t m r j i false h e =
-      let miss : same_id t (row_id r) ≡ false = false_of (same_id t (row_id r)) (λ p.
+      let miss : same_id t (row_id r) ≡ false = false_from_ne_true (same_id t (row_id r)) (λ p.
       let named : row_id m ≡ t = ap row_id (sym e) ∙ sym (same_id_true t (row_id r) p) in
       true≢false (sym (self_id m) ∙ (ap (λ z. has_id z m) named ∙ h))) in
       ap is_live e ∙ (ih m j ∙ (ap (λ z. not (is_deleted log z)) (ap row_id (sym e)) ∙ sym (ap (λ c. not (c || is_deleted log (row_id r))) miss)))
@@ -182,7 +178,7 @@ module _ (ops : List OpValue) (W : IsWellRooted ops) (N : NoCommit ops) (D : Del
       (λ c j t.
       let p = In-insertions ops c j in
       let dots : p.0.dot ≡ o.0.dot = sym (from_op p.0 c p.2).dot ∙ (same_dot_true c.dot (row_id r).dot t ∙ (dot ∙ (from_op o.0 a o.2).dot)) in
-      some_same c a (sym p.2 ∙ (ap insertion_of (one_op ops W.apart p.0 o.0 p.1 (log_inside ops log h o.0 o.1) dots) ∙ o.2))) in
+      same_Some c a (sym p.2 ∙ (ap insertion_of (one_op ops W.apart p.0 o.0 p.1 (log_inside ops log h o.0 o.1) dots) ∙ o.2))) in
       sym (ap (λ n. unwrap_or (option_and_then (λ (c : Insertion). slice_get c.run (row_id r).offset) n) []) one
       ∙ (ap (λ k. unwrap_or (slice_get a.run k) []) place ∙ ap (λ n. unwrap_or n []) at.2))
 
@@ -198,7 +194,7 @@ module _ (ops : List OpValue) (W : IsWellRooted ops) (N : NoCommit ops) (D : Del
       (same_kept (λ (r : DocRow). r.atom) (λ (r : DocRow). atom_of ops (row_id r)) is_live (λ (r : DocRow). not (is_deleted ops (row_id r))) (doc_of log)
       (λ r i. atom_told log h r i)
       (λ r i. lives log h r i ∙ ap not (same_deleted log h whole (row_id r)))
-      ∙ (sym (map_again row_id (atom_of ops) (filter (λ (r : DocRow). not (is_deleted ops (row_id r))) (doc_of log)))
+      ∙ (sym (map-map (atom_of ops) row_id (filter (λ (r : DocRow). not (is_deleted ops (row_id r))) (doc_of log)))
       ∙ (ap (map (atom_of ops)) (sym (filter_mapped row_id (λ (x : AtomIdValue). not (is_deleted ops x)) (doc_of log)))
       ∙ ap (λ ids. map (atom_of ops) (filter (λ (x : AtomIdValue). not (is_deleted ops x)) ids)) e)))
 

@@ -23,12 +23,7 @@ use Rattle.td_path.proofs.SlotEquals.{same_slot_refl}
 use Rattle.td_order.proofs.InsertionLemmas.{of_insertion, to_insertion}
 use Rattle.td_order.proofs.SetOfOps.{one_op}
 use Rattle.td_order.proofs.LineUpLemmas.{OtherDot}
-
-pub each_passes : {X : Type 0} (test : X → Bool) (xs : List X) → list_all test xs ≡ true → (x : X) → In x xs → test x ≡ true
-each_passes test [] h x i = absurd i
-each_passes test (y ∷ ys) h x i =
-    let p = and_parts (test y) (list_all test ys) h in
-    ⊎_elim (λ (e : x ≡ y). subst (λ z. test z ≡ true) (sym e) p.0) (λ k. each_passes test ys p.1 x k) i
+use Rattle.td_base.proofs.Searches.{each_passes}
 
 -- where one thing passes, so does the other
 abbrev pub implies : Bool → Bool → Bool

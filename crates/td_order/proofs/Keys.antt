@@ -27,7 +27,7 @@ step rank dot offset side = rank ∷ dot.site ∷ dot.seq ∷ offset ∷ side �
 abbrev pub id_of : DotValue → ℕ → AtomIdValue
 id_of dot offset = record { dot = dot; offset = offset }
 
--- of two keys that go on differently, the first has the smaller_siblings rank, or at one rank the smaller_siblings dot
+-- of two keys that go on differently, the first has the smaller rank, or at one rank the smaller dot
 pub first_step : (r q : ℕ) (d e : DotValue) (i j s t : ℕ) (u v : Key) → KeyLt (step r d i s ∷ u) (step q e j t ∷ v)
     → (r < q) ⊎ ((r ≡ q) × ((dot_lt d e ≡ true) ⊎ ((d ≡ e) × KeyLt ((i ∷ s ∷ []) ∷ u) ((j ∷ t ∷ []) ∷ v))))
 first_step r q d e i j s t u v h =

@@ -11,11 +11,11 @@ use Rattle.std.proofs.lemmas.Map.Keys.{IsDistinct-IsPermutation}
 use Rattle.std.proofs.lemmas.Bool.{cases_Bool}
 use Rattle.td_base.specs.Order.{dot_cmp}
 use Rattle.td_base.specs.Lists.{In, Successive}
-use Rattle.td_base.proofs.Lists.{all_in, all_of}
+use Rattle.td_base.proofs.Lists.{all_in, all_of, In-permutation}
 use Rattle.td_op.specs.Op.{OpValue}
 use Rattle.td_order.specs.LineUp.{comes_before, lined_up_with, line_up, DotsDiffer}
 use Rattle.td_order.proofs.Lex.{Tri, below, same, above, Lex, lex_irrefl, lex_trans, lex_tri, Below, nat_strict}
-use Rattle.td_order.proofs.Sublists.{one_rising}
+use Rattle.td_base.proofs.Rising.{one_rising}
 use Rattle.td_base.specs.Equality.{same_dot}
 use Rattle.td_base.proofs.Equals.{same_dot_true, same_dot_refl}
 use Rattle.td_base.proofs.Orders.{Compares, compares, dot_lt_true, dot_lt_from}
@@ -165,19 +165,6 @@ one_line_up xs ys d e h k =
     (λ x i. line_up-In xs x (k x (In-line_up ys x i)))
 
 -- a sorted permutation of the operations is their line-up
-In-Contains : {X : Type 0} (x : X) (xs : List X) → In x xs → Contains xs x
-In-Contains x [] h = absurd h
-In-Contains x (y ∷ xs) h =
-    ⊎_elim (λ (e : x ≡ y). (0, omega arith, sym e)) (λ i. let r = In-Contains x xs i in let lt : suc r.0 < suc (length xs) = omega (arith, r.1) in (suc r.0, lt, r.2)) h
-
-Contains-In_at : {X : Type 0} (x : X) (xs : List X) (k : ℕ) → k < length xs → get_or xs k x ≡ x → In x xs
-Contains-In_at x [] k h e = absurd (omega arith)
-Contains-In_at x (y ∷ xs) zero h e = inl (sym e)
-Contains-In_at x (y ∷ xs) (suc k) h e = inr (Contains-In_at x xs k (omega arith) e)
-
-pub permuted : {X : Type 0} (xs ys : List X) (x : X) → IsPermutation xs ys → In x xs → In x ys
-permuted xs ys x p i = let r = Contains-permutation xs ys x p (In-Contains x xs i) in Contains-In_at x ys r.0 r.1 r.2
-
 not_before_chain : (o p q : OpValue) → NotBefore o p → NotBefore p q → NotBefore o q
 not_before_chain o p q h k = not_before o q (λ l. chain_at l (lex_tri Below nat_strict (place_of p) (place_of o)))
   where
@@ -247,8 +234,8 @@ differ_permuted xs ys p d = of_distinct ys (IsDistinct-IsPermutation one_dot_tes
 pub line_up_of_sorted : (ops line : List OpValue) → DotsDiffer ops → IsPermutation ops line → IsSortedBy (λ x y. comes_before y x) line → line ≡ line_up ops
 line_up_of_sorted ops line d p up =
     one_list line (line_up ops) (falling line (sorted_falls line up) (differ_permuted ops line p d)) (line_up_falls ops d)
-    (λ x i. line_up-In ops x (permuted line ops x (IsPermutation-sym ops line p) i))
-    (λ x i. permuted ops line x p (In-line_up ops x i))
+    (λ x i. line_up-In ops x (In-permutation line ops x (IsPermutation-sym ops line p) i))
+    (λ x i. In-permutation ops line x p (In-line_up ops x i))
 
 pub line_up_members : (ops : List OpValue) (x : OpValue) → In x (line_up ops) ↔ In x ops
 line_up_members ops x = (In-line_up ops x, line_up-In ops x)

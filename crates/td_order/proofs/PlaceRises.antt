@@ -167,7 +167,7 @@ module _ (K : AtomIdValue → ℕ → Key) (rank : Insertion → ℕ) (os : List
     apart = ⊎_elim (λ t. absurd (older_apart a.slot (rank m.ins) (rank a) (f.older m.ins m.inside m.slot t) e)) (λ n. n) (cases_Bool (precedes m.ins a));
   }
 
-  -- an atom between a smaller_siblings sibling's first atom and a's atoms is under a smaller_siblings sibling
+  -- an atom between a smaller sibling's first atom and a's atoms is under a smaller sibling
   between_low : (b : Insertion) → Sibling os a b → (x z : AtomIdValue) → Names os x → In z (ids_of a) → Lt (id_of b.dot 0) x → Lt x z → (c : Insertion) × Sibling os a c × (dot_lt c.dot a.dot ≡ true) × (under os c.dot x.dot ≡ true)
   between_low b s x z n i h k =
       let lk = first_key b s.inside s.slot in

@@ -3,7 +3,7 @@ use Rattle.std.proofs.Common.{◌≡◌, ◌≢◌, ◌⊎◌, ◌<◌, ℕ, Lis
 use Rattle.std.proofs.lemmas.Bool.{cases_Bool}
 use Rattle.td_base.specs.declared.bit.Bit.TheVariants.{Left, Right}
 use Rattle.td_base.specs.Value.{DotValue, AtomIdValue}
-use Rattle.td_base.specs.Lists.{In, Successive}
+use Rattle.td_base.specs.Lists.{In, Successive, StandsBefore}
 use Rattle.td_base.proofs.Lists.{all_in, all_of}
 use Rattle.td_path.specs.declared.slot.Slot.{Slot}
 use Rattle.td_path.specs.declared.slot.Slot.TheVariants.{Root, At}
@@ -17,7 +17,7 @@ use Rattle.td_order.specs.Under.{under}
 use Rattle.td_order.specs.Place.{precedes}
 use Rattle.td_order.specs.Order.{order}
 use Rattle.td_order.specs.Causal.{HasEpochs, IsWellRooted}
-use Rattle.td_order.specs.Standing.{HangsAt, HangsOn, the_atom, on_a_side, ObeysRules, StandsBefore, StandsNearer, StandsOnSide}
+use Rattle.td_order.specs.Standing.{HangsAt, HangsOn, the_atom, on_a_side, ObeysRules, StandsNearer, StandsOnSide}
 use Rattle.td_order.proofs.Lex.{Tri, below, same, above}
 use Rattle.td_order.proofs.Keys.{Key, StepLt, KeyLt, key_strict, step, id_of}
 use Rattle.td_base.proofs.Orders.{dot_lt_from}
@@ -25,7 +25,7 @@ use Rattle.td_order.proofs.Family.{Names, IsRooted}
 use Rattle.td_order.proofs.Fits.{slot_key, OlderRank, Found, find, key_end, ids_dot, rooted_at, same_insert, slot_key_same, snoc_last, snoc_not_nil}
 use Rattle.td_order.proofs.Placing.{IdLt, id_trans, older_apart, placed-In}
 use Rattle.td_order.proofs.PlaceRises.{cons_nil}
-use Rattle.td_order.proofs.Sublists.{one_rising}
+use Rattle.td_base.proofs.Rising.{one_rising, stands_last, stands_trans}
 use Rattle.td_op.proofs.InsertionLemmas.{In-insertions}
 use Rattle.td_order.proofs.LineUpLemmas.{In-line_up}
 use Rattle.td_order.proofs.UnderLemmas.{under_by_slots}
@@ -84,25 +84,9 @@ side_case n = grind arith
 abbrev Distinct : List AtomIdValue → Type 0
 Distinct list = Successive (λ (x y : AtomIdValue). x ≢ y) list
 
-first_in : (list : List AtomIdValue) (x y : AtomIdValue) → StandsBefore list x y → In x list
-first_in [] x y h = h
-first_in (w ∷ list) x y h = ⊎_elim (λ (a : (x ≡ w) × In y list). inl a.0) (λ b. inr (first_in list x y b)) h
-
-second_in : (list : List AtomIdValue) (x y : AtomIdValue) → StandsBefore list x y → In y list
-second_in [] x y h = h
-second_in (w ∷ list) x y h = ⊎_elim (λ (a : (x ≡ w) × In y list). inr a.1) (λ b. inr (second_in list x y b)) h
-
-before_trans : (list : List AtomIdValue) → Distinct list → (x z y : AtomIdValue) → StandsBefore list x z → StandsBefore list z y → StandsBefore list x y
-before_trans [] d x z y h k = h
-before_trans (w ∷ list) d x z y h k =
-    ⊎_elim
-    (λ (a : (x ≡ w) × In z list). inl (a.0, ⊎_elim (λ (b : (z ≡ w) × In y list). b.1) (λ b. second_in list z y b) k))
-    (λ (a : StandsBefore list x z). ⊎_elim (λ (b : (z ≡ w) × In y list). absurd (all_in (λ (v : AtomIdValue). w ≢ v) list d.0 z (second_in list x z a) (sym b.0))) (λ b. inr (before_trans list d.1 x z y a b)) k)
-    h
-
 -- a list whose atoms stand as a strict order has them rises by it
 rises_as : (lt : AtomIdValue → AtomIdValue → Type 0) (list : List AtomIdValue) → ((x y : AtomIdValue) → In x list → In y list → Tri lt x y)
-    → Distinct list → ((x y : AtomIdValue) → In x list → In y list → lt x y → StandsBefore list x y) → Successive lt list
+    → Distinct list → ((x y : AtomIdValue) → In x list → In y list → lt x y → StandsBefore x y list) → Successive lt list
 rises_as lt [] tri d h = tt
 rises_as lt (w ∷ list) tri d h = (
   all_of (lt w) list (λ z i. at z i (tri w z (inl refl) (inr i))),
@@ -116,7 +100,7 @@ rises_as lt (w ∷ list) tri d h = (
     at : (z : AtomIdValue) → In z list → Tri lt w z → lt w z
     at z i (below a) = a
     at z i (same e) = absurd (other z i e)
-    at z i (above a) = absurd (⊎_elim (λ (b : (z ≡ w) × In w list). other w b.1 refl) (λ b. other w (second_in list z w b) refl) (h z w (inr i) (inl refl) a))
+    at z i (above a) = absurd (⊎_elim (λ (b : (z ≡ w) × In w list). other w b.1 refl) (λ b. other w (stands_last z w list b) refl) (h z w (inr i) (inl refl) a))
 
 module _ (ops : List OpValue) (W : IsWellRooted ops) (E : HasEpochs ops) (list : List AtomIdValue) (R : ObeysRules ops list) where
   abbrev as_line : List Insertion
@@ -184,19 +168,19 @@ module _ (ops : List OpValue) (W : IsWellRooted ops) (E : HasEpochs ops) (list :
   hangs_at z x side (on_left o b i e h) = on_a_side b Left i e h
   hangs_at z x side (on_right o b i e h) = on_a_side b Right i e h
 
-  left_before : (b : Insertion) (z x : AtomIdValue) → IsInsertionOf ops b → b.slot ≡ At z Left → HangsOn ops b x → StandsBefore list x z
+  left_before : (b : Insertion) (z x : AtomIdValue) → IsInsertionOf ops b → b.slot ≡ At z Left → HangsOn ops b x → StandsBefore x z list
   left_before b z x i e h = subst (λ s. StandsOnSide list s x) e (R.sides b i x h)
 
-  right_after : (b : Insertion) (z x : AtomIdValue) → IsInsertionOf ops b → b.slot ≡ At z Right → HangsOn ops b x → StandsBefore list z x
+  right_after : (b : Insertion) (z x : AtomIdValue) → IsInsertionOf ops b → b.slot ≡ At z Right → HangsOn ops b x → StandsBefore z x list
   right_after b z x i e h = subst (λ s. StandsOnSide list s x) e (R.sides b i x h)
 
-  by_sides : (z x y : AtomIdValue) (s t : ℕ) → Spot z x s → Spot z y t → s < t → StandsBefore list x y
+  by_sides : (z x y : AtomIdValue) (s t : ℕ) → Spot z x s → Spot z y t → s < t → StandsBefore x y list
   by_sides z x y s t (here o e) (here p g) lt = absurd (omega arith)
   by_sides z x y s t (here o e) (on_left p c j g k) lt = absurd (omega arith)
-  by_sides z x y s t (here o e) (on_right p c j g k) lt = subst (λ w. StandsBefore list w y) (sym e) (right_after c z y j g k)
-  by_sides z x y s t (on_left o b i e h) (here p g) lt = subst (λ w. StandsBefore list x w) (sym g) (left_before b z x i e h)
+  by_sides z x y s t (here o e) (on_right p c j g k) lt = subst (λ w. StandsBefore w y list) (sym e) (right_after c z y j g k)
+  by_sides z x y s t (on_left o b i e h) (here p g) lt = subst (λ w. StandsBefore x w list) (sym g) (left_before b z x i e h)
   by_sides z x y s t (on_left o b i e h) (on_left p c j g k) lt = absurd (omega arith)
-  by_sides z x y s t (on_left o b i e h) (on_right p c j g k) lt = before_trans list R.once x z y (left_before b z x i e h) (right_after c z y j g k)
+  by_sides z x y s t (on_left o b i e h) (on_right p c j g k) lt = stands_trans list R.once x z y (left_before b z x i e h) (right_after c z y j g k)
   by_sides z x y s t (on_right o b i e h) (here p g) lt = absurd (omega arith)
   by_sides z x y s t (on_right o b i e h) (on_left p c j g k) lt = absurd (omega arith)
   by_sides z x y s t (on_right o b i e h) (on_right p c j g k) lt = absurd (omega arith)
@@ -214,18 +198,18 @@ module _ (ops : List OpValue) (W : IsWellRooted ops) (E : HasEpochs ops) (list :
 
   -- two insertions in one slot of which the first has the smaller rank
   newer_first : (b c : Insertion) (s : Slot) → c.slot ≡ s → IsInsertionOf ops b → IsInsertionOf ops c → b.slot ≡ c.slot → precedes c b ≡ true → OlderRank s (rk c) (rk b) → rk b < rk c
-      → (x y : AtomIdValue) → HangsOn ops b x → HangsOn ops c y → StandsNearer list s x y → StandsBefore list x y
+      → (x y : AtomIdValue) → HangsOn ops b x → HangsOn ops c y → StandsNearer list s x y → StandsBefore x y list
   newer_first b c Root e i j g p r lt x y h k near = near
   newer_first b c (At z Left) e i j g p r lt x y h k near = absurd (omega arith)
   newer_first b c (At z Right) e i j g p r lt x y h k near = near
 
-  older_first : (b c : Insertion) (s : Slot) → OlderRank s (rk b) (rk c) → rk b < rk c → (x y : AtomIdValue) → StandsNearer list s y x → StandsBefore list x y
+  older_first : (b c : Insertion) (s : Slot) → OlderRank s (rk b) (rk c) → rk b < rk c → (x y : AtomIdValue) → StandsNearer list s y x → StandsBefore x y list
   older_first b c Root r lt x y near = absurd (omega arith)
   older_first b c (At z Left) r lt x y near = near
   older_first b c (At z Right) r lt x y near = absurd (omega arith)
 
   by_rank_at : (b c : Insertion) → IsInsertionOf ops b → IsInsertionOf ops c → b.slot ≡ c.slot → rk b < rk c → (x y : AtomIdValue) → HangsOn ops b x → HangsOn ops c y
-      → (precedes b c ≡ true) ⊎ (precedes b c ≡ false) → (precedes c b ≡ true) ⊎ (precedes c b ≡ false) → StandsBefore list x y
+      → (precedes b c ≡ true) ⊎ (precedes b c ≡ false) → (precedes c b ≡ true) ⊎ (precedes c b ≡ false) → StandsBefore x y list
   by_rank_at b c i j e lt x y h k p q =
       ⊎_elim
       (λ (t : precedes b c ≡ true). older_first b c c.slot (older_rank ops W E b c i j e t) lt x y (R.nearer b c i j e t y x k h))
@@ -238,7 +222,7 @@ module _ (ops : List OpValue) (W : IsWellRooted ops) (E : HasEpochs ops) (list :
       equal_ranks : (m n : ℕ) → m ≡ n → m < n → ⊥
       equal_ranks m n e lt = omega arith
 
-  by_dot_at : (b c : Insertion) → IsInsertionOf ops b → IsInsertionOf ops c → b.slot ≡ c.slot → rk b ≡ rk c → dot_lt b.dot c.dot ≡ true → (x y : AtomIdValue) → HangsOn ops b x → HangsOn ops c y → StandsBefore list x y
+  by_dot_at : (b c : Insertion) → IsInsertionOf ops b → IsInsertionOf ops c → b.slot ≡ c.slot → rk b ≡ rk c → dot_lt b.dot c.dot ≡ true → (x y : AtomIdValue) → HangsOn ops b x → HangsOn ops c y → StandsBefore x y list
   by_dot_at b c i j e r lt x y h k =
       R.by_dot b c i j e
       (λ t. older_apart c.slot (rk b) (rk c) (older_rank ops W E b c i j e t) r)
@@ -246,7 +230,7 @@ module _ (ops : List OpValue) (W : IsWellRooted ops) (E : HasEpochs ops) (list :
       lt x y h k
 
   by_run_at : (b c : Insertion) → In b (line ops W E) → In c (line ops W E) → b.dot ≡ c.dot → (m n s t : ℕ) → (x y : AtomIdValue) → Names (line ops W E) x → Names (line ops W E) y
-      → Spot (id_of b.dot m) x s → Spot (id_of c.dot n) y t → (m < n) ⊎ ((m ≡ n) × (s < t)) → StandsBefore list x y
+      → Spot (id_of b.dot m) x s → Spot (id_of c.dot n) y t → (m < n) ⊎ ((m ≡ n) × (s < t)) → StandsBefore x y list
   by_run_at b c i j e m n s t x y u v p q h =
       let q' : Spot (id_of b.dot n) y t = subst (λ d. Spot (id_of d n) y t) (sym e) q in
       ⊎_elim
@@ -256,7 +240,7 @@ module _ (ops : List OpValue) (W : IsWellRooted ops) (E : HasEpochs ops) (list :
       (λ (k : (m ≡ n) × (s < t)). by_sides (id_of b.dot m) x y s t p (subst (λ o. Spot (id_of b.dot o) y t) (sym k.0) q') k.1)
       h
 
-  by_step : (x y : AtomIdValue) (n : Names (line ops W E) x) (m : Names (line ops W E) y) (p : Key) (s t : List ℕ) (u v : Key) → KK x 1 ≡ p ++ (s ∷ u) → KK y 1 ≡ p ++ (t ∷ v) → StepLt s t → StandsBefore list x y
+  by_step : (x y : AtomIdValue) (n : Names (line ops W E) x) (m : Names (line ops W E) y) (p : Key) (s t : List ℕ) (u v : Key) → KK x 1 ≡ p ++ (s ∷ u) → KK y 1 ≡ p ++ (t ∷ v) → StepLt s t → StandsBefore x y list
   by_step x y n m p s t u v a b lt =
       let f = find KK rk (line ops W E) (fits ops W E) x n 1 p s u a in
       let g = find KK rk (line ops W E) (fits ops W E) y m 1 p t v b in
@@ -286,7 +270,7 @@ module _ (ops : List OpValue) (W : IsWellRooted ops) (E : HasEpochs ops) (list :
       let f = find KK rk (line ops W E) (fits ops W E) y m 1 e.0 s0 (w0 ∷ w) whole in
       cons_nil w0 w (f.last (sym (one_side e.1 (rk f.ins) x.dot f.ins.dot x.offset f.offset 1 f.side f.is))).0
 
-  placed_by : (x y : AtomIdValue) (n : Names (line ops W E) x) (m : Names (line ops W E) y) → Differ (KK x 1) (KK y 1) → StandsBefore list x y
+  placed_by : (x y : AtomIdValue) (n : Names (line ops W E) x) (m : Names (line ops W E) y) → Differ (KK x 1) (KK y 1) → StandsBefore x y list
   placed_by x y n m (shorter p w0 w a b) = absurd (no_shorter x y n m p w0 w a b)
   placed_by x y n m (at_step p s t u v a b lt) = by_step x y n m p s t u v a b lt
 

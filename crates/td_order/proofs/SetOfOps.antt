@@ -6,7 +6,7 @@ use Rattle.std.specs.List.Sorted.{IsPermutation}
 use Rattle.std.proofs.lemmas.List.Sorted.{IsPermutation-sym}
 use Rattle.td_base.specs.Value.{AtomIdValue}
 use Rattle.td_base.specs.Lists.{In}
-use Rattle.td_base.proofs.Lists.{any_found, any_from, all_in}
+use Rattle.td_base.proofs.Lists.{any_found, any_from, all_in, In-permutation}
 use Rattle.td_op.specs.Op.{OpValue}
 use Rattle.td_op.specs.declared.insertion.Insertion.{Insertion}
 use Rattle.td_op.specs.Insertion.{insertion_of, insertions}
@@ -16,23 +16,8 @@ use Rattle.td_order.specs.Order.{placed, order}
 use Rattle.td_order.specs.Show.{atom_of, deletes, is_deleted, show}
 use Rattle.td_base.proofs.Equals.{same_dot_true}
 use Rattle.td_op.proofs.InsertionLemmas.{from_op, In-insertions, insertions-In}
-use Rattle.td_order.proofs.LineUpLemmas.{both_tests, one_line_up, differ_permuted, permuted, OtherDot}
-
-found_at : {X : Type 0} (test : X → Bool) (y : X) (ys : List X) (b : Bool) (x : X) → test y ≡ b → (find test ys ≡ Some x → In x ys × (test x ≡ true)) → cond b (Some y) (find test ys) ≡ Some x → In x (y ∷ ys) × (test x ≡ true)
-found_at test y ys true x t rest e = let p : y ≡ x = cc in (inl (sym p), subst (λ z. test z ≡ true) p t)
-found_at test y ys false x t rest e = let r = rest e in (inr r.0, r.1)
-
-found : {X : Type 0} (test : X → Bool) (xs : List X) (x : X) → find test xs ≡ Some x → In x xs × (test x ≡ true)
-found test [] x e = absurd (cc)
-found test (y ∷ ys) x e = found_at test y ys (test y) x refl (found test ys x) e
-
-missed_at : {X : Type 0} (test : X → Bool) (y : X) (ys : List X) (b : Bool) (x : X) → test y ≡ b → (find test ys ≡ None → In x ys → test x ≡ false) → cond b (Some y) (find test ys) ≡ None → In x (y ∷ ys) → test x ≡ false
-missed_at test y ys true x t rest e i = absurd (cc)
-missed_at test y ys false x t rest e i = ⊎_elim (λ (p : x ≡ y). subst (λ z. test z ≡ false) (sym p) t) (λ k. rest e k) i
-
-missed : {X : Type 0} (test : X → Bool) (xs : List X) (x : X) → find test xs ≡ None → In x xs → test x ≡ false
-missed test [] x e i = absurd i
-missed test (y ∷ ys) x e i = missed_at test y ys (test y) x refl (missed test ys x) e i
+use Rattle.td_order.proofs.LineUpLemmas.{both_tests, one_line_up, differ_permuted, OtherDot}
+use Rattle.td_base.proofs.Searches.{find_In, find_none}
 
 -- of operations without a dot twice, the one with a dot
 pub one_op : (ops : List OpValue) → DotsDiffer ops → (o p : OpValue) → In o ops → In p ops → o.dot ≡ p.dot → o ≡ p
@@ -59,16 +44,16 @@ module _ (xs ys : List OpValue) (d : DotsDiffer xs) (e : DotsDiffer ys) (h : (o 
   same_find_at : (x : AtomIdValue) (m n : Option Insertion) → find (with_dot x) (insertions xs) ≡ m → find (with_dot x) (insertions ys) ≡ n → m ≡ n
   same_find_at x None None p q = refl
   same_find_at x (Some a) None p q =
-      let i = found (with_dot x) (insertions xs) a p in
+      let i = find_In (with_dot x) (insertions xs) a p in
       let o = In-insertions xs a i.0 in
-      absurd (true≢false (sym i.1 ∙ missed (with_dot x) (insertions ys) a q (insertions-In ys o.0 a (h o.0 o.1) o.2)))
+      absurd (true≢false (sym i.1 ∙ find_none (with_dot x) (insertions ys) a q (insertions-In ys o.0 a (h o.0 o.1) o.2)))
   same_find_at x None (Some a) p q =
-      let i = found (with_dot x) (insertions ys) a q in
+      let i = find_In (with_dot x) (insertions ys) a q in
       let o = In-insertions ys a i.0 in
-      absurd (true≢false (sym i.1 ∙ missed (with_dot x) (insertions xs) a p (insertions-In xs o.0 a (k o.0 o.1) o.2)))
+      absurd (true≢false (sym i.1 ∙ find_none (with_dot x) (insertions xs) a p (insertions-In xs o.0 a (k o.0 o.1) o.2)))
   same_find_at x (Some a) (Some b) p q =
-      let i = found (with_dot x) (insertions xs) a p in
-      let j = found (with_dot x) (insertions ys) b q in
+      let i = find_In (with_dot x) (insertions xs) a p in
+      let j = find_In (with_dot x) (insertions ys) b q in
       let o = In-insertions xs a i.0 in
       let u = In-insertions ys b j.0 in
       let dots : o.0.dot ≡ u.0.dot = sym (from_op o.0 a o.2).dot ∙ (same_dot_true a.dot x.dot i.1 ∙ (sym (same_dot_true b.dot x.dot j.1) ∙ (from_op u.0 b u.2).dot)) in
@@ -87,10 +72,10 @@ module _ (xs ys : List OpValue) (d : DotsDiffer xs) (e : DotsDiffer ys) (h : (o 
   one_text = λ i. concat (map (λ (x : AtomIdValue). same_atom x i) (filter (λ (x : AtomIdValue). not (same_deleted x i)) (one_order i)))
 
 pub order_permuted : (xs ys : List OpValue) → DotsDiffer xs → IsPermutation xs ys → order xs ≡ order ys
-order_permuted xs ys d p = one_order xs ys d (differ_permuted xs ys p d) (λ o i. permuted xs ys o p i) (λ o i. permuted ys xs o (IsPermutation-sym xs ys p) i)
+order_permuted xs ys d p = one_order xs ys d (differ_permuted xs ys p d) (λ o i. In-permutation xs ys o p i) (λ o i. In-permutation ys xs o (IsPermutation-sym xs ys p) i)
 
 pub text_permuted : (xs ys : List OpValue) → DotsDiffer xs → IsPermutation xs ys → show xs ≡ show ys
-text_permuted xs ys d p = one_text xs ys d (differ_permuted xs ys p d) (λ o i. permuted xs ys o p i) (λ o i. permuted ys xs o (IsPermutation-sym xs ys p) i)
+text_permuted xs ys d p = one_text xs ys d (differ_permuted xs ys p d) (λ o i. In-permutation xs ys o p i) (λ o i. In-permutation ys xs o (IsPermutation-sym xs ys p) i)
 
 pub order_of_set : (ops others : List OpValue) → DotsDiffer ops → DotsDiffer others → ((o : OpValue) → In o ops ↔ In o others) → order ops ≡ order others
 order_of_set ops others d e h = one_order ops others d e (λ o. (h o).0) (λ o. (h o).1)

@@ -6,6 +6,7 @@ use Rattle.std.proofs.lemmas.List.Sums.{prefix_len-le-length}
 use Rattle.std.specs.Prelude.{unwrap_or}
 use Rattle.std.specs.List.{list_any, position, position_or_len}
 use Rattle.td_order.specs.Place.{put_after_last, put_before_first}
+use Rattle.td_base.proofs.Searches.{first_or_length}
 
 any_false : {X : Type 0} (test : X → Bool) (x : X) → test x ≡ false → list_any test (x ∷ []) ≡ false
 any_false test x h = ap (λ b. b || false) h
@@ -49,12 +50,6 @@ before_at test ids y ys false k h = let place : 1 + k ≡ suc k = omega arith in
 before : {X : Type 0} (test : X → Bool) (ids xs : List X) → put_before_first test ids xs ≡ take (position_or_len test xs) xs ++ (ids ++ drop (position_or_len test xs) xs)
 before test ids [] = sym (append-nil ids)
 before test ids (y ∷ ys) = before_at test ids y ys (test y) (position_or_len test ys) (before test ids ys)
-
-place_of_position : (k n : ℕ) → k ≤ n → unwrap_or (cond (nat_lt k n) (Some k) None) n ≡ k
-place_of_position k n h = grind (arith, nat_tests)
-
-first_or_length : {X : Type 0} (test : X → Bool) (xs : List X) → unwrap_or (position test xs) (length xs) ≡ position_or_len test xs
-first_or_length {X = X} test xs = place_of_position (position_or_len test xs) (length xs) (prefix_len-le-length (λ (x : X). not (test x)) xs)
 
 pub placed_before : {X : Type 0} (test : X → Bool) (xs : List X) (k : ℕ) → k ≡ unwrap_or (position test xs) (length xs) → (ids : List X) → put_before_first test ids xs ≡ take k xs ++ (ids ++ drop k xs)
 placed_before test xs k e ids = before test ids xs ∙ ap (λ n. take n xs ++ (ids ++ drop n xs)) (sym (e ∙ first_or_length test xs))

@@ -5,7 +5,7 @@ use Rattle.std.proofs.lemmas.Bool.{cases_Bool}
 use Rattle.td_base.specs.declared.bit.Bit.{Bit}
 use Rattle.td_base.specs.declared.bit.Bit.TheVariants.{Left, Right}
 use Rattle.td_base.specs.Value.{AtomIdValue}
-use Rattle.td_base.specs.Lists.{In, Successive}
+use Rattle.td_base.specs.Lists.{In, Successive, StandsBefore}
 use Rattle.td_base.proofs.Lists.{all_in}
 use Rattle.td_path.specs.declared.slot.Slot.{Slot}
 use Rattle.td_path.specs.declared.slot.Slot.TheVariants.{Root, At}
@@ -19,7 +19,7 @@ use Rattle.td_order.specs.Under.{under}
 use Rattle.td_order.specs.Place.{precedes}
 use Rattle.td_order.specs.Order.{order}
 use Rattle.td_order.specs.Causal.{HasEpochs, IsWellRooted}
-use Rattle.td_order.specs.Standing.{HangsAt, HangsOn, the_atom, on_a_side, StandsBefore, StandsOnSide, StandsNearer}
+use Rattle.td_order.specs.Standing.{HangsAt, HangsOn, the_atom, on_a_side, StandsOnSide, StandsNearer}
 use Rattle.td_order.proofs.Lex.{lex_append}
 use Rattle.td_order.proofs.Keys.{Key, StepLt, KeyLt, key_strict, step_strict, id_of, step, rank_first, dot_first}
 use Rattle.td_order.proofs.Family.{Names, IsRooted, AllFollow, HasPasts}
@@ -31,17 +31,7 @@ use Rattle.td_op.proofs.InsertionLemmas.{insertions-In}
 use Rattle.td_order.proofs.LineUpLemmas.{line_up-In}
 use Rattle.td_order.proofs.OrderOfPart.{line_up_causal, pasts, whole_is_closed}
 use Rattle.td_order.proofs.UnderLemmas.{under_by_slots}
-
-stands : (lt : AtomIdValue → AtomIdValue → Type 0) → ((x : AtomIdValue) → lt x x → ⊥) → ((x y z : AtomIdValue) → lt x y → lt y z → lt x z)
-    → (list : List AtomIdValue) → Successive lt list → (x y : AtomIdValue) → In x list → In y list → lt x y → StandsBefore list x y
-stands lt irrefl trans [] r x y i j h = absurd i
-stands lt irrefl trans (w ∷ list) r x y i j h =
-    ⊎_elim
-    (λ (e : x ≡ w). ⊎_elim (λ (g : y ≡ w). absurd (irrefl x (subst (λ z. lt x z) (g ∙ sym e) h))) (λ k. inl (e, k)) j)
-    (λ (k : In x list). ⊎_elim
-    (λ (g : y ≡ w). absurd (irrefl x (trans x y x h (subst (λ z. lt z x) (sym g) (all_in (lt w) list r.0 x k)))))
-    (λ l. inr (stands lt irrefl trans list r.1 x y k l h)) j)
-    i
+use Rattle.td_base.proofs.Rising.{stands_from}
 
 module _ (ops : List OpValue) (W : IsWellRooted ops) (E : HasEpochs ops) where
   abbrev pub line : List Insertion
@@ -74,8 +64,8 @@ module _ (ops : List OpValue) (W : IsWellRooted ops) (E : HasEpochs ops) where
   in_order : (x : AtomIdValue) → Names line x → In x (order ops)
   in_order x n = placed-In line x n
 
-  ordered : (x y : AtomIdValue) → Names line x → Names line y → IdLt K rank x y → StandsBefore (order ops) x y
-  ordered x y n m lt = stands (IdLt K rank) irrefl (id_trans K rank) (order ops) rises x y (in_order x n) (in_order y m) lt
+  ordered : (x y : AtomIdValue) → Names line x → Names line y → IdLt K rank x y → StandsBefore x y (order ops)
+  ordered x y n m lt = stands_from (IdLt K rank) irrefl (id_trans K rank) (order ops) rises x y (in_order x n) (in_order y m) lt
 
   named : (b : Insertion) (x : AtomIdValue) → HangsOn ops b x → Names line x
   named b x h = (h.insertion, in_line h.insertion h.inside, h.among)
@@ -117,7 +107,7 @@ module _ (ops : List OpValue) (W : IsWellRooted ops) (E : HasEpochs ops) where
   not_true b c n = ⊎_elim (λ t. absurd (n t)) (λ f. f) (cases_Bool (precedes b c))
 
   by_dot : (b c : Insertion) → IsInsertionOf ops b → IsInsertionOf ops c → b.slot ≡ c.slot → ¬ IsTrue (precedes b c) → ¬ IsTrue (precedes c b) → IsTrue (dot_lt b.dot c.dot)
-      → (x y : AtomIdValue) → HangsOn ops b x → HangsOn ops c y → StandsBefore (order ops) x y
+      → (x y : AtomIdValue) → HangsOn ops b x → HangsOn ops c y → StandsBefore x y (order ops)
   by_dot b c i j s p q lt x y h k =
       let u = hanging b x i h in
       let v = hanging c y j k in
@@ -132,7 +122,7 @@ module _ (ops : List OpValue) (W : IsWellRooted ops) (E : HasEpochs ops) where
       subst (λ t. OlderRank c.slot (rank_at t (length line) (before line b)) (rank c)) (sym s)
       (older_by line history c.slot (length line) (before line b) (before line c) (fewer line history b c (in_line b i) (in_line c j) s p) (count_length _ line))
 
-  by_rank : (b c : Insertion) → IsInsertionOf ops b → IsInsertionOf ops c → b.slot ≡ c.slot → rank b < rank c → (x y : AtomIdValue) → HangsOn ops b x → HangsOn ops c y → StandsBefore (order ops) x y
+  by_rank : (b c : Insertion) → IsInsertionOf ops b → IsInsertionOf ops c → b.slot ≡ c.slot → rank b < rank c → (x y : AtomIdValue) → HangsOn ops b x → HangsOn ops c y → StandsBefore x y (order ops)
   by_rank b c i j s lt x y h k =
       let u = hanging b x i h in
       let v = hanging c y j k in
@@ -206,7 +196,7 @@ module _ (ops : List OpValue) (W : IsWellRooted ops) (E : HasEpochs ops) where
   atom_key_of a offset i n x (on_a_side b bit j e h) = on_side_key a b offset bit i j e x h
 
   by_offset : (a : Insertion) (m n : ℕ) → IsInsertionOf ops a → In (id_of a.dot m) (ids_of a) → In (id_of a.dot n) (ids_of a) → m < n
-      → (x y : AtomIdValue) → HangsAt ops (id_of a.dot m) x → HangsAt ops (id_of a.dot n) y → StandsBefore (order ops) x y
+      → (x y : AtomIdValue) → HangsAt ops (id_of a.dot m) x → HangsAt ops (id_of a.dot n) y → StandsBefore x y (order ops)
   by_offset a m n i p q lt x y h k =
       let u = atom_key_of a m i p x h in
       let v = atom_key_of a n i q y k in
@@ -215,7 +205,7 @@ module _ (ops : List OpValue) (W : IsWellRooted ops) (E : HasEpochs ops) where
       (lex_append StepLt step_strict (slot_key K a.slot) _ _ (inl (inr (refl, inr (refl, inr (refl, inl lt)))))))
 
 pub concurrent_by_dot : (ops : List OpValue) → IsWellRooted ops → HasEpochs ops → (b c : Insertion) → IsInsertionOf ops b → IsInsertionOf ops c → b.slot ≡ c.slot
-    → ¬ IsTrue (precedes b c) → ¬ IsTrue (precedes c b) → IsTrue (dot_lt b.dot c.dot) → (x y : AtomIdValue) → HangsOn ops b x → HangsOn ops c y → StandsBefore (order ops) x y
+    → ¬ IsTrue (precedes b c) → ¬ IsTrue (precedes c b) → IsTrue (dot_lt b.dot c.dot) → (x y : AtomIdValue) → HangsOn ops b x → HangsOn ops c y → StandsBefore x y (order ops)
 concurrent_by_dot ops W E b c i j s p q lt x y h k = by_dot ops W E b c i j s p q lt x y h k
 
 pub newer_is_nearer : (ops : List OpValue) → IsWellRooted ops → HasEpochs ops → (b c : Insertion) → IsInsertionOf ops b → IsInsertionOf ops c → b.slot ≡ c.slot → IsTrue (precedes b c)
@@ -226,7 +216,7 @@ pub sides_kept : (ops : List OpValue) → IsWellRooted ops → HasEpochs ops →
 sides_kept ops W E b i x h = on_side ops W E b i x h
 
 pub runs_kept : (ops : List OpValue) → IsWellRooted ops → HasEpochs ops → (a : Insertion) → IsInsertionOf ops a → (z w : AtomIdValue) → In z (ids_of a) → In w (ids_of a) → z.offset < w.offset
-    → (x y : AtomIdValue) → HangsAt ops z x → HangsAt ops w y → StandsBefore (order ops) x y
+    → (x y : AtomIdValue) → HangsAt ops z x → HangsAt ops w y → StandsBefore x y (order ops)
 runs_kept ops W E a i z w p q lt x y h k =
     let m = ids_dot a.dot 0 a.run z p in
     let n = ids_dot a.dot 0 a.run w q in

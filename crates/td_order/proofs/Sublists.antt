@@ -26,16 +26,3 @@ module _ {X : Type 0} (lt : X → X → Type 0) (irrefl : (x : X) → lt x x →
       (λ l. l)
       (h z i))))
       (h x (inl refl))
-
-  -- with the same elements they are one
-  pub one_rising : (xs ys : List X) → Successive lt xs → Successive lt ys → ((x : X) → In x xs → In x ys) → ((x : X) → In x ys → In x xs) → xs ≡ ys
-  one_rising [] [] r q h k = refl
-  one_rising [] (y ∷ ys) r q h k = absurd (k y (inl refl))
-  one_rising (x ∷ xs) [] r q h k = absurd (h x (inl refl))
-  one_rising (x ∷ xs) (y ∷ ys) r q h k =
-      let first : x ≡ y = ⊎_elim (λ e. e) (λ (i : In x ys). ⊎_elim (λ e. sym e) (λ (j : In y xs). absurd (irrefl x (trans x y x (all_in (lt x) xs r.0 y j) (all_in (lt y) ys q.0 x i)))) (k y (inl refl))) (h x (inl refl)) in
-      let rest : xs ≡ ys =
-      one_rising xs ys r.1 q.1
-      (λ z i. ⊎_elim (λ (e : z ≡ y). absurd (irrefl x (subst (λ w. lt x w) (e ∙ sym first) (all_in (lt x) xs r.0 z i)))) (λ j. j) (h z (inr i)))
-      (λ z i. ⊎_elim (λ (e : z ≡ x). absurd (irrefl y (subst (λ w. lt y w) (e ∙ first) (all_in (lt y) ys q.0 z i)))) (λ j. j) (k z (inr i))) in
-      λ i. first i ∷ rest i

@@ -21,6 +21,7 @@ use Rattle.td_op.proofs.InsertionLemmas.{from_op, In-insertions, insertions-In}
 use Rattle.td_order.proofs.LineUpLemmas.{In-line_up, line_up-In}
 use Rattle.td_order.proofs.OrderOfPart.{line_up_causal, whole_is_closed}
 use Rattle.td_order.proofs.SetOfOps.{one_op}
+use Rattle.std.proofs.lemmas.Option.{same_Some}
 
 dot_in : (a : Insertion) (x : AtomIdValue) → In x (ids_of a) → x.dot ≡ a.dot
 dot_in a x i = ap (λ (y : AtomIdValue). y.dot) (ids_dot a.dot 0 a.run x i).1
@@ -62,9 +63,6 @@ top_itself (a ∷ os) F b i =
     (λ k. under_tail a os b.dot b.dot (λ e. F.0.fresh b k (sym e)) ∙ top_itself os F.1 b k)
     i
 
-some_same : {X : Type 0} (x y : X) → Some x ≡ Some y → x ≡ y
-some_same x y e = cc
-
 module _ (ops : List OpValue) (W : IsWellRooted ops) where
   follows : AllFollow (insertions (line_up ops))
   follows = line_up_causal ops (whole_is_closed ops W)
@@ -78,7 +76,7 @@ module _ (ops : List OpValue) (W : IsWellRooted ops) where
   one_insertion : (a c : Insertion) → IsInsertionOf ops a → IsInsertionOf ops c → a.dot ≡ c.dot → a ≡ c
   one_insertion a c i j e =
       let o = one_op ops W.apart i.op j.op i.inside j.inside (sym (from_op i.op a i.is).dot ∙ (e ∙ (from_op j.op c j.is).dot)) in
-      some_same a c (sym i.is ∙ (ap insertion_of o ∙ j.is))
+      same_Some a c (sym i.is ∙ (ap insertion_of o ∙ j.is))
 
   names_top : (b d : Insertion) (s : Slot) → NamesAtomOf s d → under (insertions (line_up ops)) b.dot d.dot ≡ true → names_under (under (insertions (line_up ops)) b.dot) s ≡ true
   names_top b d Root n h = absurd n

@@ -7,7 +7,8 @@ ghost use Rattle.td_doc.specs.Slots.{slot_path, rows_in_slot, is_within};
 ghost use Rattle.td_doc.specs.Array.{named, array};
 ghost use Rattle.td_doc.specs.Flatten.{flatten};
 ghost use Rattle.td_doc.specs.Answers.{IsRow};
-ghost use Rattle.td_doc.specs.Stretches.{IsReplaced, StandsBefore, kept_rows};
+ghost use Rattle.td_doc.specs.Stretches.{IsReplaced, kept_rows};
+ghost use Rattle.td_base.specs.Lists.{StandsBefore};
 ghost use Rattle.td_doc.specs.Subtrees.{is_under, is_slot_under};
 
 /// A flatten leaves a document.
