@@ -1,9 +1,9 @@
 ghost use Rattle.std.specs.Prelude.{◌≡◌, ◌<◌, ◌≤◌, ◌↔◌, ◌++◌, [], Some, Ok, length, take, drop, min, Contains, IsErr, IfOk, OnErr};
-ghost use Rattle.td_io.specs.Count.{counted};
+ghost use Rattle.td_io.specs.Count.{counted, end_found};
 ghost use Rattle.td_io.specs.Value.{new_source};
 
 use crate::fault::Failed;
-use crate::source::Source;
+use crate::source::{Source, end_found};
 use std::alloc::Global;
 use std::marker::Model;
 use td_base::Memory;
@@ -18,6 +18,7 @@ pub struct MemSource {
     fails: Vec<u64>,
     calls: u64,
     faults: u64,
+    end: Option<u64>,
 }
 
 impl Model for MemSource {
@@ -32,6 +33,7 @@ impl Model for MemSource {
       fails = s.fails.items;
       calls = s.calls;
       faults = s.faults;
+      end = s.end;
     } };
 
     ghost invariant = { λ s. (s.at ≤ length s.bytes.items) × (0 < s.most) };
@@ -74,6 +76,7 @@ impl MemSource {
             fails: Vec::from_slice(alloc, fails)?,
             calls: 0,
             faults: 0,
+            end: None,
         })
     }
 }
@@ -81,17 +84,22 @@ impl MemSource {
 impl Source for MemSource {
     ghost left = { λ s. Some s.left };
 
+    ghost calls = { λ s. s.calls };
+
     ghost faults = { λ s. s.faults };
+
+    ghost end = { λ s. s.end };
 
     fn take(&mut self, buf: &mut [u8]) -> Result<usize, Failed>
         requires { 0 < length buf.old }
         ensures cause { IsErr result ↔ Contains self.old.fails (counted self.old.calls) }
         ensures amount { IfOk result (λ k. k ≡ min (length buf.old) (min self.old.most (length self.old.left))) }
-        ensures end { result ≡ Ok 0 → self.old.left ≡ [] }
+        ensures at_end { result ≡ Ok 0 → self.old.left ≡ [] }
         ensures gives { IfOk result (λ k. buf.new ≡ take k self.old.left ++ drop k buf.old) }
         ensures ok { IfOk result (λ k. self.new ≡ record self.old {
           left = drop k self.old.left;
           calls = counted self.old.calls;
+          end = end_found self.old.end (counted self.old.calls) k;
         }) }
         ensures err { OnErr result (self.new ≡ record self.old {
           calls = counted self.old.calls;
@@ -108,6 +116,7 @@ impl Source for MemSource {
         let count = buf.len().min(self.most).min(left.len());
         buf[..count].copy_from_slice(&left[..count]);
         self.at += count;
+        self.end = end_found(self.end, self.calls, count);
         Ok(count)
     }
 }

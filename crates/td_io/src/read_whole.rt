@@ -1,4 +1,4 @@
-ghost use Rattle.std.specs.Prelude.{◌≡◌, ◌<◌, ◌≤◌, ◌+◌, ℕ, [], Some, length, IfOk, OnOk, OnErr, IfSome, IsErrOf};
+ghost use Rattle.std.specs.Prelude.{◌≡◌, ◌<◌, ◌≤◌, ◌+◌, ℕ, [], None, Some, length, IfOk, OnOk, OnErr, IfSome, IsErrOf};
 ghost use Rattle.td_io.specs.Count.{Rose};
 ghost use Rattle.td_io.specs.Whole.{ConsumesFirst};
 
@@ -23,6 +23,12 @@ pub fn read_all<S: Source>(alloc: Global, source: &mut S, most: u32) -> Result<B
     ensures lost { OnErr result ((n : ℕ) × (n ≤ most + 1)
         × ConsumesFirst (S.left source.old) (S.left source.new) n) }
     ensures count { S.faults source.old ≤ S.faults source.new }
+
+    // At most this many calls are made, and each but the last gives a byte. None is made after one that found the end.
+    ensures turns { S.calls source.new ≤ S.calls source.old + (most + 1) }
+    ensures gives { IfOk result (λ bytes. S.calls source.new ≤ S.calls source.old + (length bytes + 1)) }
+    ensures no_more { OnOk result (S.end source.old ≡ None → S.end source.new ≡ Some (S.calls source.new)) }
+    ensures no_end { OnErr result (S.end source.new ≡ S.end source.old) }
 {
     let most = most as usize;
     let mut bytes = Bytes::new(alloc);

@@ -1,10 +1,10 @@
-ghost use Rattle.std.specs.Prelude.{◌≡◌, ◌<◌, ◌≤◌, None, length, IfOk, OnOk, OnErr};
+ghost use Rattle.std.specs.Prelude.{◌≡◌, ◌<◌, ◌≤◌, None, length, IfNone, IfOk, OnOk, OnErr};
 ghost use Rattle.std.specs.Io.KnownBytes.{WriteAppends};
 ghost use Rattle.td_io.specs.Count.{counted};
 
 use crate::fault::Failed;
 use crate::sink::Sink;
-use std::io::Write;
+use std::io::{Error, ErrorKind, Write};
 use std::marker::Model;
 
 /// A sink that writes to a writer, and counts each of its errors, and each write that takes nothing. It tells a
@@ -13,21 +13,37 @@ use std::marker::Model;
 pub struct WriteSink<W: Write> {
     writer: W,
     faults: u64,
+    // the last error
+    error: Option<Error>,
 }
 
 impl<W: Write> Model for WriteSink<W> {
-    ghost use Rattle.td_io.specs.Value.{EdgeValue};
+    ghost use Rattle.std.specs.Prelude.{◌≡◌, IfNone};
+    ghost use Rattle.td_io.specs.Value.{WriterValue};
 
-    ghost Value = { EdgeValue W };
+    ghost Value = { WriterValue W };
 
     ghost view = { λ s. record { inner = s.writer; faults = s.faults } };
+
+    ghost invariant = { λ s. IfNone s.error (s.faults ≡ 0) };
 }
 
 impl<W: Write> WriteSink<W> {
     pub fn new(writer: W) -> WriteSink<W>
         ensures { result ≡ record { inner = writer; faults = 0 } }
     {
-        WriteSink { writer, faults: 0 }
+        WriteSink {
+            writer,
+            faults: 0,
+            error: None,
+        }
+    }
+
+    /// The error of the last call that failed, for a person to read.
+    pub fn error(&self) -> Option<&Error>
+        ensures { IfNone result (self.now.faults ≡ 0) }
+    {
+        self.error.as_ref()
     }
 }
 
@@ -46,12 +62,13 @@ impl<W: Write> Sink for WriteSink<W> {
         ensures err { OnErr result (self.new.faults ≡ counted self.old.faults) }
         ensures count { self.old.faults ≤ self.new.faults }
     {
-        match self.writer.write(bytes) {
-            Ok(count) if count > 0 => Ok(count),
-            _ => {
-                self.faults = self.faults.saturating_add(1);
-                Err(Failed)
-            }
-        }
+        let error = match self.writer.write(bytes) {
+            Ok(count) if count > 0 => return Ok(count),
+            Ok(_) => Error::from(ErrorKind::WriteZero),
+            Err(error) => error,
+        };
+        self.faults = self.faults.saturating_add(1);
+        self.error = Some(error);
+        Err(Failed)
     }
 }
