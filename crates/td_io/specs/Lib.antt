@@ -1,3 +1,4 @@
 pub mod Count
 pub mod Value
 pub mod Whole
+pub mod Reading

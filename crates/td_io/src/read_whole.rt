@@ -1,5 +1,6 @@
-ghost use Rattle.std.specs.Prelude.{◌≡◌, ◌<◌, ◌≤◌, ◌+◌, ℕ, [], None, Some, length, IfOk, OnOk, OnErr, IfSome, IsErrOf};
+ghost use Rattle.std.specs.Prelude.{◌≡◌, ◌≤◌, ◌+◌, ℕ, length, IfOk, OnOk, OnErr, IfSome, IsErrOf};
 ghost use Rattle.td_io.specs.Count.{Rose};
+ghost use Rattle.td_io.specs.Reading.{IsReadPast, IsReadToEnd};
 ghost use Rattle.td_io.specs.Whole.{ConsumesFirst};
 
 use crate::fault::ReadFault;
@@ -15,19 +16,16 @@ const PIECE: usize = 4096;
 pub fn read_all<S: Source>(alloc: Global, source: &mut S, most: u32) -> Result<Bytes, ReadFault>
     ensures within { IfOk result (λ bytes. length bytes ≤ most) }
     ensures all { IfOk result (λ bytes. IfSome (S.left source.old) (λ left. bytes ≡ left)) }
-    ensures emptied { OnOk result (IfSome (S.left source.old) (λ _. S.left source.new ≡ Some [])) }
-    ensures too_long { IsErrOf result ReadFault.TooLong → IfSome (S.left source.old) (λ left. most < length left) }
-    ensures stopped { IsErrOf result ReadFault.TooLong
-        → ConsumesFirst (S.left source.old) (S.left source.new) (most + 1) }
+    ensures ended { OnOk result (IsReadToEnd S.Source source.old source.new) }
+    ensures too_long { IsErrOf result ReadFault.TooLong → IsReadPast S.Source most source.old source.new }
     ensures failed { IsErrOf result ReadFault.Failed → Rose (S.faults source.old) (S.faults source.new) }
     ensures lost { OnErr result ((n : ℕ) × (n ≤ most + 1)
         × ConsumesFirst (S.left source.old) (S.left source.new) n) }
     ensures count { S.faults source.old ≤ S.faults source.new }
 
-    // At most this many calls are made, and each but the last gives a byte. None is made after one that found the end.
+    // At most so many calls are made: each but the last gives a byte, and none is made after one that found the end.
     ensures turns { S.calls source.new ≤ S.calls source.old + (most + 1) }
     ensures gives { IfOk result (λ bytes. S.calls source.new ≤ S.calls source.old + (length bytes + 1)) }
-    ensures no_more { OnOk result (S.end source.old ≡ None → S.end source.new ≡ Some (S.calls source.new)) }
     ensures no_end { OnErr result (S.end source.new ≡ S.end source.old) }
 {
     let most = most as usize;

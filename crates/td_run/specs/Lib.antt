@@ -3,3 +3,4 @@ pub mod Editor
 pub mod Site
 pub mod Number
 pub mod Answer
+pub mod Answered

@@ -28,7 +28,7 @@ abbrev pub treedoc : Editor SiteState
 treedoc = record { atoms = λ s. live_atoms s.rows; put = typed_at }
 
 -- what is so of the site after any commands
-pub record IsSite (s : SiteState) : Type 0 where
+pub record IsOneSite (s : SiteState) : Type 0 where
   pub document : IsDocument s.rows
   -- each row is of an insert that it made
   pub own : (r : DocRow) → In r s.rows → (row_id r).dot.seq ≤ s.made

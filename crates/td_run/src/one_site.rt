@@ -18,13 +18,13 @@ pub struct OneSite {
 }
 
 impl Model for OneSite {
-    ghost use Rattle.td_run.specs.Site.{SiteState, IsSite};
+    ghost use Rattle.td_run.specs.Site.{SiteState, IsOneSite};
 
     ghost Value = { SiteState };
 
     ghost view = { λ s. record { rows = s.doc; made = s.made } };
 
-    ghost invariant = { λ s. IsSite (record { rows = s.doc; made = s.made }) };
+    ghost invariant = { λ s. IsOneSite (record { rows = s.doc; made = s.made }) };
 }
 
 /// What came of the inserts of a text.

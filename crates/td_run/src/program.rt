@@ -1,11 +1,10 @@
-ghost use Rattle.std.specs.Prelude.{◌≡◌, ◌↔◌, ◌⊎◌, ℕ, List, [], Option, Some, IsTrue, IfSome, IfOk, IfNone, OnOk};
+ghost use Rattle.std.specs.Prelude.{◌≡◌, ◌≤◌, ◌+◌, ◌↔◌, ◌⊎◌, IsTrue, IfSome, IfOk, IfNone, IsErrOf, OnOk};
 ghost use Rattle.std.specs.Io.KnownBytes.{Appends};
 ghost use Rattle.td_io.specs.Count.{Rose};
-ghost use Rattle.td_run.specs.declared.first_form.Command.{Command};
+ghost use Rattle.td_io.specs.Reading.{IsReadPast, IsReadToEnd};
 ghost use Rattle.td_run.specs.declared.status.Status.{Status};
-ghost use Rattle.td_run.specs.FirstForm.{Spells};
-ghost use Rattle.td_run.specs.Editor.{output, plain_list};
-ghost use Rattle.td_run.specs.Answer.{IsPlay, IsPrinted, IsNoScript, IsWhole, PutsFront, fault_line, usage_line};
+ghost use Rattle.td_run.specs.Answer.{IsNoScript, IsPlay, IsPrinted, PutsFront};
+ghost use Rattle.td_run.specs.Answered.{IsAnswered};
 
 use crate::first_form::{MAX_INPUT, read_first_form};
 use crate::play::play;
@@ -31,31 +30,7 @@ pub fn run_plain<S: Source, K: Sink>(
     source: &mut S,
     sink: &mut K,
 ) -> Status
-    // Each status and what was written with it.
-    ensures done { result ≡ Status.Done → IsPlay words.now × IfSome (S.left source.old)
-        (λ input. (bytes : List ℕ) × IsPrinted input bytes × Appends (K.held sink.old) (K.held sink.new) bytes) }
-    ensures usage { result ≡ Status.Usage → (¬ IsPlay words.now) × Appends (K.held sink.old) (K.held sink.new) usage_line }
-    ensures script { result ≡ Status.Script → IsPlay words.now × IfSome (S.left source.old) IsNoScript
-        × Appends (K.held sink.old) (K.held sink.new) fault_line }
-    ensures read { result ≡ Status.Read → IsPlay words.now × Rose (S.faults source.old) (S.faults source.new)
-        × (K.held sink.new ≡ K.held sink.old) }
-    ensures write { result ≡ Status.Write → Rose (K.faults sink.old) (K.faults sink.new)
-        × ((status : Status) × (bytes : List ℕ) × IsWhole words.now (S.left source.old) status bytes
-        × PutsFront (K.held sink.old) (K.held sink.new) bytes) }
-    ensures memory { result ≡ Status.Memory → IsPlay words.now × (K.held sink.new ≡ K.held sink.old) }
-
-    // Other words are a usage refusal, or the line could not be put.
-    ensures other_words { (¬ IsPlay words.now) → (result ≡ Status.Usage) ⊎ (result ≡ Status.Write) }
-
-    // Typing is typing: what is printed is what the plain list of atoms prints.
-    ensures typing { result ≡ Status.Done → IfSome (S.left source.old) (λ input. (commands : List Command)
-        → Spells input commands → Appends (K.held sink.old) (K.held sink.new) (output plain_list [] commands)) }
-
-    // A script is played to its end where neither the source nor the sink fails, unless memory runs out.
-    ensures complete { (input : List ℕ) (commands : List Command) → IsPlay words.now
-        → S.left source.old ≡ Some input → Spells input commands
-        → (¬ Rose (S.faults source.old) (S.faults source.new)) → (¬ Rose (K.faults sink.old) (K.faults sink.new))
-        → (result ≡ Status.Done) ⊎ (result ≡ Status.Memory) }
+    ensures { IsAnswered S.Source K.Sink words.now source.old source.new sink.old sink.new result }
 {
     if !is_play(words) {
         return answer(sink, USAGE, Status::Usage);
@@ -77,31 +52,7 @@ pub fn run<R: Threads + Wait + Copy + Send + Sync, S: Source, K: Sink>(
     source: &mut S,
     sink: &mut K,
 ) -> Status
-    // Each status and what was written with it.
-    ensures done { result ≡ Status.Done → IsPlay words.now × IfSome (S.left source.old)
-        (λ input. (bytes : List ℕ) × IsPrinted input bytes × Appends (K.held sink.old) (K.held sink.new) bytes) }
-    ensures usage { result ≡ Status.Usage → (¬ IsPlay words.now) × Appends (K.held sink.old) (K.held sink.new) usage_line }
-    ensures script { result ≡ Status.Script → IsPlay words.now × IfSome (S.left source.old) IsNoScript
-        × Appends (K.held sink.old) (K.held sink.new) fault_line }
-    ensures read { result ≡ Status.Read → IsPlay words.now × Rose (S.faults source.old) (S.faults source.new)
-        × (K.held sink.new ≡ K.held sink.old) }
-    ensures write { result ≡ Status.Write → Rose (K.faults sink.old) (K.faults sink.new)
-        × ((status : Status) × (bytes : List ℕ) × IsWhole words.now (S.left source.old) status bytes
-        × PutsFront (K.held sink.old) (K.held sink.new) bytes) }
-    ensures memory { result ≡ Status.Memory → IsPlay words.now × (K.held sink.new ≡ K.held sink.old) }
-
-    // Other words are a usage refusal, or the line could not be put.
-    ensures other_words { (¬ IsPlay words.now) → (result ≡ Status.Usage) ⊎ (result ≡ Status.Write) }
-
-    // Typing is typing: what is printed is what the plain list of atoms prints.
-    ensures typing { result ≡ Status.Done → IfSome (S.left source.old) (λ input. (commands : List Command)
-        → Spells input commands → Appends (K.held sink.old) (K.held sink.new) (output plain_list [] commands)) }
-
-    // A script is played to its end where neither the source nor the sink fails, unless memory runs out.
-    ensures complete { (input : List ℕ) (commands : List Command) → IsPlay words.now
-        → S.left source.old ≡ Some input → Spells input commands
-        → (¬ Rose (S.faults source.old) (S.faults source.new)) → (¬ Rose (K.faults sink.old) (K.faults sink.new))
-        → (result ≡ Status.Done) ⊎ (result ≡ Status.Memory) }
+    ensures { IsAnswered S.Source K.Sink words.now source.old source.new sink.old sink.new result }
 {
     run_plain(alloc, words, source, sink)
 }
@@ -127,8 +78,11 @@ fn output_of<S: Source>(alloc: Global, source: &mut S) -> Result<Option<Bytes>, 
     ensures printed { IfOk result (λ output. IfSome output
         (λ bytes. IfSome (S.left source.old) (λ input. IsPrinted input bytes))) }
     ensures none { IfOk result (λ output. IfNone output (IfSome (S.left source.old) IsNoScript)) }
-    ensures too_long { result ≡ Err ReadFault.TooLong → IfSome (S.left source.old) IsNoScript }
-    ensures failed { result ≡ Err ReadFault.Failed → Rose (S.faults source.old) (S.faults source.new) }
+    ensures too_long { IsErrOf result ReadFault.TooLong → IfSome (S.left source.old) IsNoScript }
+    ensures failed { IsErrOf result ReadFault.Failed → Rose (S.faults source.old) (S.faults source.new) }
+    ensures ended { OnOk result (IsReadToEnd S.Source source.old source.new) }
+    ensures past { IsErrOf result ReadFault.TooLong → IsReadPast S.Source MAX_INPUT source.old source.new }
+    ensures turns { S.calls source.new ≤ S.calls source.old + (MAX_INPUT + 1) }
 {
     let input = read_all(alloc, source, MAX_INPUT as u32)?;
     Ok(printed(alloc, input.as_slice())?)
