@@ -44,10 +44,10 @@ impl<R: Read> ReadSource<R> {
     }
 
     /// The error of the last call that failed, for a person to read.
-    pub fn error(&self) -> Option<&Error>
+    pub fn error(&self) -> Option<Error>
         ensures { IfNone result (self.now.faults ≡ 0) }
     {
-        self.error.as_ref()
+        self.error
     }
 }
 

@@ -40,10 +40,10 @@ impl<W: Write> WriteSink<W> {
     }
 
     /// The error of the last call that failed, for a person to read.
-    pub fn error(&self) -> Option<&Error>
+    pub fn error(&self) -> Option<Error>
         ensures { IfNone result (self.now.faults ≡ 0) }
     {
-        self.error.as_ref()
+        self.error
     }
 }
 
