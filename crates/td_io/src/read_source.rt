@@ -31,6 +31,7 @@ impl<R: Read> Model for ReadSource<R> {
 }
 
 impl<R: Read> ReadSource<R> {
+    /// A source before this reader, of which no call was made.
     pub fn new(reader: R) -> ReadSource<R>
         ensures { result ≡ record { inner = reader; calls = 0; faults = 0; end = None } }
     {

@@ -29,6 +29,7 @@ impl<W: Write> Model for WriteSink<W> {
 }
 
 impl<W: Write> WriteSink<W> {
+    /// A sink before this writer, of which no call was made.
     pub fn new(writer: W) -> WriteSink<W>
         ensures { result ≡ record { inner = writer; faults = 0 } }
     {

@@ -1,5 +1,5 @@
 -- What the calls of the one site owe.
-use Rattle.std.proofs.Common.{◌≡◌, ◌<◌, ◌+◌, ℕ, zero, suc, List, [], ◌∷◌, cond, length, drop, get_or, Some, sym, ap, ◌∙◌, arith, lt-ltb, drop-cons, true≢false}
+use Rattle.std.proofs.Common.{◌≡◌, ◌<◌, ◌+◌, ℕ, zero, suc, List, [], ◌∷◌, if◌then◌else◌, length, drop, get_or, Some, sym, ap, ◌∙◌, arith, lt-ltb, drop-cons, true≢false}
 use Rattle.std.specs.Prelude.{is_some}
 use Rattle.std.proofs.lemmas.Str.{IsUtf8-from_ascii}
 use Rattle.td_base.specs.Value.{AtomIdValue}
@@ -25,7 +25,10 @@ ascii_atom byte h = record { some = omega arith; short = omega arith; text = IsU
 pub refused_here : (s : SiteState) (index : ℕ) (byte : ℕ) (text : List ℕ) → length (live_atoms s.rows) < index
     → insert_text treedoc s index (byte ∷ text) ≡ record { state = s; made = 0; refused = Some (length (live_atoms s.rows)) }
 refused_here s index byte text h =
-    ap (λ b. cond b (record { state = s; made = 0; refused = Some (length (live_atoms s.rows)) }) (after_one (insert_text treedoc (treedoc.put s index (byte ∷ [])) (index + 1) text))) (lt-ltb (length (live_atoms s.rows)) index h)
+    ap
+    (λ b. if b then record { state = s; made = 0; refused = Some (length (live_atoms s.rows)) }
+    else after_one (insert_text treedoc (treedoc.put s index (byte ∷ [])) (index + 1) text))
+    (lt-ltb (length (live_atoms s.rows)) index h)
 
 -- so what comes of the whole text is what came of it so far
 pub record StopsHere (s : SiteState) (made : ℕ) (whole : Outcome SiteState) : Type 0 where

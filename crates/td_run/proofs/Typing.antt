@@ -1,5 +1,5 @@
 -- The site prints what the plain list of atoms prints.
-use Rattle.std.proofs.Common.{◌≡◌, ◌≤◌, ◌+◌, ℕ, List, [], ◌∷◌, ◌++◌, Bool, true, false, cond, nat_lt, length, Some, refl, sym, ap, ◌∙◌, ⊎_elim, true≢false, arith, ltb-false}
+use Rattle.std.proofs.Common.{◌≡◌, ◌≤◌, ◌+◌, ℕ, List, [], ◌∷◌, ◌++◌, Bool, true, false, if◌then◌else◌, nat_lt, length, Some, refl, sym, ap, ◌∙◌, ⊎_elim, true≢false, arith, ltb-false}
 use Rattle.std.specs.Prelude.{insert, IsNone}
 use Rattle.std.specs.List.{concat}
 use Rattle.td_base.specs.Value.{AtomIdValue}
@@ -56,8 +56,10 @@ Alike text = (s : SiteState) (atoms : List (List ℕ)) (index : ℕ) → IsOneSi
 
 text_alike_at : (byte : ℕ) (text : List ℕ) (s : SiteState) (atoms : List (List ℕ)) (index : ℕ) → IsOneSite s → live_atoms s.rows ≡ atoms → Alike text → (b c : Bool) → nat_lt (length (live_atoms s.rows)) index ≡ b → nat_lt (length atoms) index ≡ c
     → SameOutcome
-    (cond b (record { state = s; made = 0; refused = Some (length (live_atoms s.rows)) }) (after_one (insert_text treedoc (typed_at s index (byte ∷ [])) (index + 1) text)))
-    (cond c (record { state = atoms; made = 0; refused = Some (length atoms) }) (after_one (insert_text plain_list (insert atoms index (byte ∷ [])) (index + 1) text)))
+    (if b then record { state = s; made = 0; refused = Some (length (live_atoms s.rows)) }
+    else after_one (insert_text treedoc (typed_at s index (byte ∷ [])) (index + 1) text))
+    (if c then record { state = atoms; made = 0; refused = Some (length atoms) }
+    else after_one (insert_text plain_list (insert atoms index (byte ∷ [])) (index + 1) text))
 text_alike_at byte text s atoms index site e more true true h k = refused_alike s atoms site e
 text_alike_at byte text s atoms index site e more true false h k = absurd (true≢false (sym h ∙ ap (λ (a : List (List ℕ)). nat_lt (length a) index) e ∙ k))
 text_alike_at byte text s atoms index site e more false true h k = absurd (true≢false (sym k ∙ ap (λ (a : List (List ℕ)). nat_lt (length a) index) (sym e) ∙ h))

@@ -1,5 +1,5 @@
 -- What a script prints, for whatever keeps the atoms of the one site.
-use Rattle.std.specs.Prelude.{◌+◌, ◌++◌, ℕ, List, [], ◌∷◌, cond, nat_lt, length, insert, codes, Option, Some, None}
+use Rattle.std.specs.Prelude.{◌+◌, ◌++◌, ℕ, List, [], ◌∷◌, nat_lt, length, insert, codes, Option, Some, None, if◌then◌else◌}
 use Rattle.std.specs.Fmt.{decimal}
 use Rattle.std.specs.List.{concat}
 use Rattle.td_run.specs.declared.first_form.Command.{Command}
@@ -28,9 +28,8 @@ after_one o = record { state = o.state; made = o.made + 1; refused = o.refused }
 abbrev pub insert_text : {S : Type 0} → Editor S → S → ℕ → List ℕ → Outcome S
 insert_text e s index [] = record { state = s; made = 0; refused = None }
 insert_text e s index (byte ∷ text) =
-    cond (nat_lt (length (e.atoms s)) index)
-    (record { state = s; made = 0; refused = Some (length (e.atoms s)) })
-    (after_one (insert_text e (e.put s index (byte ∷ [])) (index + 1) text))
+    if nat_lt (length (e.atoms s)) index then record { state = s; made = 0; refused = Some (length (e.atoms s)) }
+    else after_one (insert_text e (e.put s index (byte ∷ [])) (index + 1) text)
 
 -- how many of how many inserts were made, and the number of atoms where one was refused
 abbrev pub insert_line : ℕ → ℕ → Option ℕ → List ℕ

@@ -37,6 +37,7 @@ pub struct Typed {
 }
 
 impl OneSite {
+    /// A site with an empty document, which made no operation.
     pub fn new(alloc: Global) -> Result<OneSite, Memory>
         ensures { IfOk result (λ s. s ≡ new_site) }
     {
