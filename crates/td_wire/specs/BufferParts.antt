@@ -2,7 +2,7 @@
 use Rattle.std.specs.Prelude.{◌≡◌, ◌≤◌, ◌-◌, ◌++◌, ℕ, List, length, take, replicate}
 use Rattle.std.proofs.Common.{arith}
 use Rattle.std.proofs.lemmas.List.{length-take-le}
-use Rattle.td_wire.specs.declared.packet.TheConstants.{MAX_PACKET_LEN}
+use Rattle.td_wire.specs.declared.length.TheConstants.{MAX_PACKET_LEN}
 
 abbrev pub padded_with_zeros : List ℕ → List ℕ
 padded_with_zeros bytes = bytes ++ replicate (MAX_PACKET_LEN - length bytes) 0

@@ -27,7 +27,7 @@ IsOldBody (Propose slot) = IsOldSlot slot
 IsOldBody (Commit proposal) = Unit {0}
 IsOldBody (Abort proposal) = Unit {0}
 
--- up to 16 sites, runs of one atom, and no offset (an operation names no site past its vector's size)
+-- sites up to `MAX_OLD_SITE`, runs of one atom, and no offset (an operation names no site past its vector's size)
 abbrev pub IsOld : Message → Type 0
 IsOld (Op o) = (length o.deps ≤ MAX_OLD_SITE) × IsOldBody o.body
 IsOld (Vote v) = (v.voter ≤ MAX_OLD_SITE) × (v.proposal.site ≤ MAX_OLD_SITE)

@@ -1,7 +1,12 @@
 -- How the private readers go through the bytes, one field after another. No clause of a public call speaks of it.
-use Rattle.std.specs.Prelude.{◌≡◌, ℕ, zero, suc, ◌+◌, ◌-◌, ◌*◌, ◌/◌, ◌%◌, Bool, ◌&&◌, nat_le, nat_lt, ◌==◌, if◌then◌else◌, List, [], ◌∷◌, length, take, Result, Ok, Err}
+use Rattle.std.specs.Prelude.{◌≡◌, ℕ, zero, suc, ◌+◌, ◌-◌, ◌*◌, ◌/◌, ◌%◌, Bool, ◌&&◌, nat_le, nat_lt, ◌==◌, if◌then◌else◌}
+use Rattle.std.specs.Prelude.{List, [], ◌∷◌, length, take, Result, Ok, Err}
 use Rattle.td_base.specs.Value.{DotValue, AtomIdValue}
 use Rattle.td_base.specs.declared.site.TheConstants.{MAX_SITE}
+use Rattle.td_base.specs.declared.dot.TheConstants.{MAX_SEQ}
+use Rattle.td_base.specs.declared.atom.TheConstants.{MAX_ATOM_LEN}
+use Rattle.td_base.specs.declared.atom_id.TheConstants.{MAX_OFFSET}
+use Rattle.td_base.specs.declared.run.TheConstants.{MAX_RUN_LEN}
 use Rattle.td_base.specs.declared.bit.Bit.{Bit}
 use Rattle.td_base.specs.declared.bit.Bit.TheVariants.{Left, Right}
 use Rattle.td_path.specs.declared.slot.Slot.{Slot}
@@ -14,7 +19,8 @@ use Rattle.td_op.specs.declared.vote.Vote.{Vote as VoteValue}
 use Rattle.td_op.specs.Op.{OpValue}
 use Rattle.td_wire.specs.declared.format.Format.{Format}
 use Rattle.td_wire.specs.declared.format.Format.TheVariants.{One, Two}
-use Rattle.td_wire.specs.declared.format.TheConstants.{MAX_OLD_SITE}
+use Rattle.td_wire.specs.declared.format.TheConstants.{MAX_OLD_SITE, LETTER, DIGIT_ONE, DIGIT_TWO}
+use Rattle.td_wire.specs.declared.format.TheConstants.{INSERT, DELETE, PROPOSE, COMMIT, VOTE, ROOT, AT, LEFT, RIGHT, NO, YES}
 use Rattle.td_wire.specs.declared.reader.Fault.{Fault}
 
 -- a value and the bytes behind it, or how many bytes stand from the fault on
@@ -62,7 +68,7 @@ number_at least most bytes = do
 unfoldable pub dot_at : ℕ → List ℕ → Read DotValue
 dot_at max_site bytes = do
   site ← byte_at 1 max_site bytes
-  seq ← number_at 1 65535 site.1
+  seq ← number_at 1 MAX_SEQ site.1
   Ok (record { site = site.0; seq = seq.0 }, seq.1)
 
 unfoldable pub identity_at : Format → ℕ → List ℕ → Read AtomIdValue
@@ -71,35 +77,52 @@ identity_at One max_site bytes = do
   Ok (record { dot = d.0; offset = 0 }, d.1)
 identity_at Two max_site bytes = do
   d ← dot_at max_site bytes
-  offset ← byte_at 0 63 d.1
+  offset ← byte_at 0 MAX_OFFSET d.1
   Ok (record { dot = d.0; offset = offset.0 }, offset.1)
 
 abbrev pub bit_of : ℕ → Bit
-bit_of n = if n == 0 then Left else Right
+bit_of n = if n == LEFT then Left else Right
 
 abbrev pub placed_at : Format → ℕ → List ℕ → Read Slot
 placed_at f max_site bytes = do
-  b ← byte_at 0 1 bytes
+  b ← byte_at LEFT RIGHT bytes
   x ← identity_at f max_site b.1
   Ok (At x.0 (bit_of b.0), x.1)
 
 unfoldable pub slot_at : Format → ℕ → List ℕ → Read Slot
 slot_at f max_site bytes = do
-  tag ← byte_at 0 1 bytes
-  if tag.0 == 0 then Ok (Root, tag.1) else placed_at f max_site tag.1
+  tag ← byte_at ROOT AT bytes
+  if tag.0 == ROOT then Ok (Root, tag.1) else placed_at f max_site tag.1
 
 -- how many bytes a character has that begins with this byte: 0 where none does
 abbrev pub character_len : ℕ → ℕ
 character_len b =
-    if nat_lt b 0x80 then 1
-    else (if nat_lt b 0xC2 then 0 else (if nat_lt b 0xE0 then 2 else (if nat_lt b 0xF0 then 3 else (if nat_lt b 0xF5 then 4 else 0))))
+    if nat_lt b 0x80 then 1 else
+    if nat_lt b 0xC2 then 0 else
+    if nat_lt b 0xE0 then 2 else
+    if nat_lt b 0xF0 then 3 else
+    if nat_lt b 0xF5 then 4 else
+    0
 
--- the least and the greatest second byte of a character
+-- the least and the greatest byte that continues a character
+abbrev pub continuation_least : ℕ
+continuation_least = 0x80
+
+abbrev pub continuation_most : ℕ
+continuation_most = 0xBF
+
+-- the same of the second byte, behind this first one
 abbrev pub second_least : ℕ → ℕ
-second_least b = if b == 0xE0 then 0xA0 else (if b == 0xF0 then 0x90 else 0x80)
+second_least b =
+    if b == 0xE0 then 0xA0 else
+    if b == 0xF0 then 0x90 else
+    continuation_least
 
 abbrev pub second_most : ℕ → ℕ
-second_most b = if b == 0xED then 0x9F else (if b == 0xF4 then 0x8F else 0xBF)
+second_most b =
+    if b == 0xED then 0x9F else
+    if b == 0xF4 then 0x8F else
+    continuation_most
 
 -- the first byte of a character of at most so many bytes
 abbrev pub lead_at : ℕ → List ℕ → Read ℕ
@@ -110,7 +133,7 @@ unfoldable pub continuations_at : ℕ → ℕ → ℕ → List ℕ → Read ℕ
 continuations_at zero least most bytes = Ok (0, bytes)
 continuations_at (suc n) least most bytes = do
   b ← byte_at least most bytes
-  more ← continuations_at n 0x80 0xBF b.1
+  more ← continuations_at n continuation_least continuation_most b.1
   Ok (suc more.0, more.1)
 
 -- the length of a character of at most so many bytes
@@ -151,12 +174,12 @@ atoms_at (len ∷ lens) bytes = do
 
 unfoldable pub run_at : Format → List ℕ → Read (List (List ℕ))
 run_at One bytes = do
-  len ← byte_at 1 64 bytes
+  len ← byte_at 1 MAX_ATOM_LEN bytes
   atom ← atom_at len.0 len.1
   Ok (atom.0 ∷ [], atom.1)
 run_at Two bytes = do
-  count ← byte_at 1 64 bytes
-  lens ← lengths_at count.0 64 count.1
+  count ← byte_at 1 MAX_RUN_LEN bytes
+  lens ← lengths_at count.0 MAX_RUN_LEN count.1
   atoms_at lens.0 lens.1
 
 -- the range of a site's number in the dependencies of the operation with this dot
@@ -164,7 +187,7 @@ abbrev pub dep_least : DotValue → ℕ → ℕ
 dep_least own site = if own.site == site then own.seq - 1 else 0
 
 abbrev pub dep_most : DotValue → ℕ → ℕ
-dep_most own site = if own.site == site then own.seq - 1 else 65535
+dep_most own site = if own.site == site then own.seq - 1 else MAX_SEQ
 
 -- the numbers of so many sites, from this one on
 unfoldable pub deps_at : DotValue → ℕ → ℕ → List ℕ → Read (List ℕ)
@@ -183,10 +206,11 @@ insert_at f n bytes = do
 -- the body of an operation of this kind
 unfoldable pub body_at : Format → ℕ → ℕ → List ℕ → Read Body
 body_at f kind n bytes =
-    if kind == 1 then insert_at f n bytes
-    else (if kind == 2 then (identity_at f n bytes >>= λ x. Ok (Delete x.0, x.1))
-    else (if kind == 3 then (slot_at f n bytes >>= λ x. Ok (Propose x.0, x.1))
-    else (if kind == 4 then (dot_at n bytes >>= λ x. Ok (Commit x.0, x.1)) else (dot_at n bytes >>= λ x. Ok (Abort x.0, x.1)))))
+    if kind == INSERT then insert_at f n bytes else
+    if kind == DELETE then (identity_at f n bytes >>= λ x. Ok (Delete x.0, x.1)) else
+    if kind == PROPOSE then (slot_at f n bytes >>= λ x. Ok (Propose x.0, x.1)) else
+    if kind == COMMIT then (dot_at n bytes >>= λ x. Ok (Commit x.0, x.1)) else
+    (dot_at n bytes >>= λ x. Ok (Abort x.0, x.1))
 
 abbrev pub max_site : Format → ℕ
 max_site One = MAX_OLD_SITE
@@ -204,19 +228,20 @@ unfoldable pub vote_at : Format → List ℕ → Read VoteValue
 vote_at f bytes = do
   voter ← byte_at 1 (max_site f) bytes
   proposal ← dot_at (max_site f) voter.1
-  said ← byte_at 0 1 proposal.1
-  Ok (record { proposal = proposal.0; voter = voter.0; yes = said.0 == 1 }, said.1)
+  said ← byte_at NO YES proposal.1
+  Ok (record { proposal = proposal.0; voter = voter.0; yes = said.0 == YES }, said.1)
 
 abbrev pub format_of : ℕ → Format
-format_of digit = if digit == 49 then One else Two
+format_of digit = if digit == DIGIT_ONE then One else Two
 
 abbrev pub message_of_kind : Format → ℕ → List ℕ → Read Message
 message_of_kind f kind bytes =
-    if kind == 6 then (vote_at f bytes >>= λ v. Ok (Vote v.0, v.1)) else (op_at f kind bytes >>= λ o. Ok (Op o.0, o.1))
+    if kind == VOTE then (vote_at f bytes >>= λ v. Ok (Vote v.0, v.1)) else
+    (op_at f kind bytes >>= λ o. Ok (Op o.0, o.1))
 
 unfoldable pub message_at : List ℕ → Read Message
 message_at bytes = do
-  t ← byte_at 84 84 bytes
-  digit ← byte_at 49 50 t.1
-  kind ← byte_at 1 6 digit.1
+  letter ← byte_at LETTER LETTER bytes
+  digit ← byte_at DIGIT_ONE DIGIT_TWO letter.1
+  kind ← byte_at INSERT VOTE digit.1
   message_of_kind (format_of digit.0) kind.0 kind.1

@@ -73,13 +73,16 @@ abbrev pub yes_byte : Bool → ℕ
 yes_byte false = 0
 yes_byte true = 1
 
+abbrev pub vote_kind : ℕ
+vote_kind = 6
+
 abbrev pub vote_bytes : VoteValue → List ℕ
 vote_bytes v = v.voter ∷ dot_bytes v.proposal ++ yes_byte v.yes ∷ []
 
 -- the mark, the kind, and what follows it
 abbrev pub spelling : Format → Message → List ℕ
 spelling f (Op o) = mark f ++ kind o.body ∷ op_bytes f o
-spelling f (Vote v) = mark f ++ 6 ∷ vote_bytes v
+spelling f (Vote v) = mark f ++ vote_kind ∷ vote_bytes v
 
 -- the bytes are the spelling of the message in this format
 pub record Spells (f : Format) (m : Message) (bytes : List ℕ) : Type 0 where

@@ -1,6 +1,6 @@
 ghost use Rattle.std.specs.Prelude.{◌≡◌, ◌≤◌, ◌<◌, ◌+◌, ◌++◌, ◌∷◌, [], length};
 
-use crate::packet::MAX_PACKET_LEN;
+use crate::length::MAX_PACKET_LEN;
 use std::marker::Model;
 
 /// Up to `MAX_PACKET_LEN` bytes. Contracts see the list of them.

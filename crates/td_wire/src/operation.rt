@@ -1,9 +1,10 @@
 ghost use Rattle.std.specs.Prelude.{◌≡◌, ◌≤◌};
 ghost use Rattle.td_base.specs.declared.site.TheConstants.{MAX_SITE};
+ghost use Rattle.td_wire.specs.declared.format.TheConstants.{ABORT, INSERT};
 ghost use Rattle.td_wire.specs.Reading.{Gives, op_at, deps_at, dep_least, dep_most, body_at};
 
 use crate::format::{COMMIT, DELETE, Format, INSERT, PROPOSE};
-use crate::reader::{Fault, Reader};
+use crate::reader::{Fault, MAX_NUMBER, Reader};
 use td_base::{Dot, Site};
 use td_clock::Vector;
 use td_op::{Body, Op};
@@ -11,8 +12,8 @@ use td_op::{Body, Op};
 impl Reader<'_> {
     #[tactic(auto, unfolding(crate::specs::Reading::op_at))]
     pub(crate) fn op(&mut self, format: Format, kind: u8) -> Result<Op, Fault>
-        requires least { 1 ≤ kind }
-        requires most { kind ≤ 5 }
+        requires least { INSERT ≤ kind }
+        requires most { kind ≤ ABORT }
         ensures { Gives result self.new.rest.now (op_at format kind self.old.rest.now) }
     {
         let max_site = format.max_site();
@@ -81,6 +82,6 @@ fn dep_range(own: Dot, site: u8) -> (u16, u16)
         let before = (own.seq - 1) as u16;
         (before, before)
     } else {
-        (0, u16::MAX)
+        (0, MAX_NUMBER)
     }
 }

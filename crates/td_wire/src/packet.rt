@@ -3,9 +3,6 @@ ghost use Rattle.std.specs.Prelude.{◌≡◌};
 use crate::buffer::Buffer;
 use std::marker::Model;
 
-/// The greatest length of a spelling: that of an insert at 64 sites, in a slot at an atom, of a run of 64 bytes in 64 atoms.
-pub const MAX_PACKET_LEN: usize = 402;
-
 /// A message as it goes over a wire: the bytes of its spelling in format 2. Contracts see the list of them.
 #[derive(Clone, Copy, Debug, PartialEq, Eq)]
 pub struct Packet {

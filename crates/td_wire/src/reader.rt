@@ -2,9 +2,12 @@ ghost use Rattle.std.specs.Prelude.{◌≡◌, ◌≤◌};
 ghost use Rattle.td_base.specs.declared.site.TheConstants.{MAX_SITE};
 ghost use Rattle.td_wire.specs.Reading.{Gives, byte_at, number_at, dot_at, identity_at, slot_at};
 
-use crate::format::Format;
-use td_base::{AtomId, Bit, Dot, MAX_OFFSET, Site};
+use crate::format::{AT, Format, LEFT, RIGHT, ROOT};
+use td_base::{AtomId, Bit, Dot, MAX_OFFSET, MAX_SEQ, Site};
 use td_path::Slot;
+
+/// The greatest number of an operation at its site.
+pub(crate) const MAX_NUMBER: u16 = MAX_SEQ as u16;
 
 /// The bytes that are still to be read. Each call reads one field at their front.
 #[derive(Drop)]
@@ -12,8 +15,8 @@ pub(crate) struct Reader<'a> {
     pub(crate) rest: &'a [u8],
 }
 
-/// Where bytes stop being the front of a spelling: `left` of them stand from the first one on that no spelling has there, and
-/// none where they end too early.
+/// Where bytes stop being the front of a spelling: `left` of them stand from the first one on that no spelling has there,
+/// and none where they end too early.
 #[derive(Clone, Copy, Debug, PartialEq, Eq)]
 pub(crate) struct Fault {
     pub(crate) left: usize,
@@ -47,7 +50,8 @@ impl Reader<'_> {
                 return Ok(number as u16);
             }
         }
-        // Else one by one, up to the one at fault. No call is handed this reader, so that a loop can keep it in registers.
+        // Else one by one, up to the one at fault. No call is handed this reader, so that a loop can keep it in
+        // registers.
         let mut bytes = Reader { rest: self.rest };
         let number = bytes.number_by_bytes(least, most)?;
         self.rest = bytes.rest;
@@ -91,7 +95,7 @@ impl Reader<'_> {
         ensures { Gives result self.new.rest.now (dot_at max_site self.old.rest.now) }
     {
         let site = self.site(max_site)?;
-        let seq = self.number(1, u16::MAX)?;
+        let seq = self.number(1, MAX_NUMBER)?;
         Ok(Dot::new(site, u32::from(seq)).unwrap())
     }
 
@@ -115,12 +119,12 @@ impl Reader<'_> {
         requires { max_site ≤ MAX_SITE }
         ensures { Gives result self.new.rest.now (slot_at format max_site self.old.rest.now) }
     {
-        let tag = self.byte(0, 1)?;
-        if tag == 0 {
+        let tag = self.byte(ROOT, AT)?;
+        if tag == ROOT {
             return Ok(Slot::Root);
         }
-        let bit = self.byte(0, 1)?;
-        let bit = if bit == 0 { Bit::Left } else { Bit::Right };
+        let bit = self.byte(LEFT, RIGHT)?;
+        let bit = if bit == LEFT { Bit::Left } else { Bit::Right };
         let atom = self.identity(format, max_site)?;
         Ok(Slot::At { atom, bit })
     }

@@ -3,7 +3,7 @@ ghost use Rattle.td_op.specs.declared.message.Message.{Message};
 ghost use Rattle.td_wire.specs.Spelling.{SpellsIn, IsFaultAt};
 ghost use Rattle.td_wire.specs.Reading.{Gives, message_at, vote_at};
 
-use crate::format::{DIGIT_ONE, DIGIT_TWO, Format, INSERT, VOTE};
+use crate::format::{DIGIT_ONE, DIGIT_TWO, Format, INSERT, LETTER, NO, VOTE, YES};
 use crate::reader::{Fault, Reader};
 use td_op::{Message, Vote};
 
@@ -40,7 +40,7 @@ impl Reader<'_> {
     fn message(&mut self) -> Result<Message, Fault>
         ensures { Gives result self.new.rest.now (message_at self.old.rest.now) }
     {
-        self.byte(b'T', b'T')?;
+        self.byte(LETTER, LETTER)?;
         let digit = self.byte(DIGIT_ONE, DIGIT_TWO)?;
         let format = if digit == DIGIT_ONE {
             Format::One
@@ -64,11 +64,11 @@ impl Reader<'_> {
         let max_site = format.max_site();
         let voter = self.site(max_site)?;
         let proposal = self.dot(max_site)?;
-        let yes = self.byte(0, 1)?;
+        let answer = self.byte(NO, YES)?;
         Ok(Vote {
             proposal,
             voter,
-            yes: yes == 1,
+            yes: answer == YES,
         })
     }
 }

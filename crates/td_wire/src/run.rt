@@ -4,8 +4,9 @@ ghost use Rattle.td_wire.specs.Reading.{Gives, run_at, lengths_at, atoms_at};
 
 use crate::format::Format;
 use crate::reader::{Fault, Reader};
-use td_base::{MAX_RUN_LEN, Run};
+use td_base::{MAX_ATOM_LEN, MAX_RUN_LEN, Run};
 
+/// The greatest number of bytes of a run, and so of its atoms.
 const MAX_LEN: u8 = MAX_RUN_LEN as u8;
 
 impl<'a> Reader<'a> {
@@ -15,7 +16,7 @@ impl<'a> Reader<'a> {
     {
         match format {
             Format::One => {
-                let len = self.byte(1, MAX_LEN)?;
+                let len = self.byte(1, MAX_ATOM_LEN as u8)?;
                 let atom = self.atom(len)?;
                 Ok(Run::one(atom))
             }
@@ -30,8 +31,8 @@ impl<'a> Reader<'a> {
     // So many lengths of atoms that have at most `MAX_LEN` bytes together.
     fn lengths(&mut self, count: u8) -> Result<&'a [u8], Fault>
         requires { count ≤ MAX_RUN_LEN }
-        ensures read { MatchResult result (λ lengths. lengths_at count 64 self.old.rest.now ≡ Ok (lengths.now, self.new.rest.now))
-            (λ fault. lengths_at count 64 self.old.rest.now ≡ Err fault.left) }
+        ensures read { let read = lengths_at count MAX_RUN_LEN self.old.rest.now in
+            MatchResult result (λ lengths. read ≡ Ok (lengths.now, self.new.rest.now)) (λ fault. read ≡ Err fault.left) }
         ensures count { IfOk result (λ lengths. length lengths.now ≡ count) }
         ensures each { IfOk result (λ lengths. All (λ len. 1 ≤ len) lengths.now) }
         ensures together { IfOk result (λ lengths. sum lengths.now ≤ MAX_RUN_LEN) }

@@ -5,6 +5,9 @@ ghost use Rattle.td_wire.specs.Reading.{Gives, Passes, atom_at, text_at, charact
 use crate::reader::{Fault, Reader};
 use td_base::Atom;
 
+/// The least and the greatest byte that continues a character (RFC 3629).
+const CONTINUATION: (u8, u8) = (0x80, 0xBF);
+
 impl Reader<'_> {
     // An atom of `len` bytes.
     pub(crate) fn atom(&mut self, len: u8) -> Result<Atom, Fault>
@@ -66,7 +69,7 @@ impl Reader<'_> {
     {
         for _ in 0..count {
             self.byte(least, most)?;
-            (least, most) = (0x80, 0xBF);
+            (least, most) = CONTINUATION;
         }
         Ok(())
     }
@@ -95,6 +98,6 @@ fn second_range(first: u8) -> (u8, u8)
         0xED => (0x80, 0x9F),
         0xF0 => (0x90, 0xBF),
         0xF4 => (0x80, 0x8F),
-        _ => (0x80, 0xBF),
+        _ => CONTINUATION,
     }
 }

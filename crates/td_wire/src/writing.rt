@@ -1,4 +1,4 @@
-ghost use Rattle.std.specs.Prelude.{◌≡◌, ◌≤◌, ◌++◌, ◌∷◌, length, map};
+ghost use Rattle.std.specs.Prelude.{◌≡◌, ◌≤◌, ◌+◌, ◌++◌, ◌∷◌, length, map};
 ghost use Rattle.td_base.specs.Run.{IsRun};
 ghost use Rattle.td_base.specs.Value.{IsDot, IsAtomId};
 ghost use Rattle.td_clock.specs.Vector.{IsVector};
@@ -6,10 +6,15 @@ ghost use Rattle.td_path.specs.Slot.{IsSlot};
 ghost use Rattle.td_op.specs.declared.message.Message.{Message};
 ghost use Rattle.td_op.specs.Message.{IsBody, IsMessage};
 ghost use Rattle.td_wire.specs.declared.format.Format.TheVariants.{Two};
-ghost use Rattle.td_wire.specs.Spelling.{dot_bytes, identity_bytes, slot_bytes, run_bytes, deps_bytes, kind, body_bytes, op_bytes, vote_bytes, Spells};
+ghost use Rattle.td_wire.specs.declared.length.TheConstants.{DOT_LEN, IDENTITY_LEN, MAX_SLOT_LEN, MAX_RUN_PART_LEN};
+ghost use Rattle.td_wire.specs.declared.length.TheConstants.{MAX_DEPS_LEN, MAX_BODY_LEN, MAX_OP_LEN, VOTE_LEN, MAX_PACKET_LEN};
+ghost use Rattle.td_wire.specs.Spelling.{dot_bytes, identity_bytes, slot_bytes, run_bytes, deps_bytes, kind, body_bytes};
+ghost use Rattle.td_wire.specs.Spelling.{op_bytes, vote_kind, vote_bytes, Spells};
 
 use crate::buffer::Buffer;
-use crate::format::{ABORT, COMMIT, DELETE, DIGIT_TWO, INSERT, PROPOSE, VOTE};
+use crate::format::{
+    ABORT, AT, COMMIT, DELETE, DIGIT_TWO, INSERT, LEFT, LETTER, PROPOSE, RIGHT, ROOT, VOTE,
+};
 use crate::packet::Packet;
 use td_base::{AtomId, Bit, Dot, Run, Site};
 use td_clock::Vector;
@@ -21,7 +26,7 @@ pub fn encode(message: &Message) -> Packet
     ensures { Spells Two message.now result }
 {
     let mut buffer = Buffer::new();
-    buffer.extend(&[b'T', DIGIT_TWO]);
+    buffer.extend(&[LETTER, DIGIT_TWO]);
     match message {
         Message::Op(op) => put_op(&mut buffer, op),
         Message::Vote(vote) => put_vote(&mut buffer, vote),
@@ -30,7 +35,7 @@ pub fn encode(message: &Message) -> Packet
 }
 
 fn put_op(buffer: &mut Buffer, op: &Op)
-    requires { length buffer.old ≤ 2 }
+    requires { length buffer.old + MAX_OP_LEN ≤ MAX_PACKET_LEN }
     ensures bytes { buffer.new ≡ buffer.old ++ kind op.now.body ∷ op_bytes Two op.now }
     ensures can { IsMessage (Message.Op op.now) }
 {
@@ -42,8 +47,8 @@ fn put_op(buffer: &mut Buffer, op: &Op)
 }
 
 fn put_vote(buffer: &mut Buffer, vote: &Vote)
-    requires { length buffer.old ≤ 2 }
-    ensures bytes { buffer.new ≡ buffer.old ++ 6 ∷ vote_bytes vote.now }
+    requires { length buffer.old + VOTE_LEN ≤ MAX_PACKET_LEN }
+    ensures bytes { buffer.new ≡ buffer.old ++ vote_kind ∷ vote_bytes vote.now }
     ensures can { IsMessage (Message.Vote vote.now) }
 {
     buffer.push(VOTE);
@@ -65,7 +70,7 @@ fn kind_of(body: &Body) -> u8
 }
 
 fn put_deps(buffer: &mut Buffer, deps: &Vector)
-    requires { length buffer.old ≤ 8 }
+    requires { length buffer.old + MAX_DEPS_LEN ≤ MAX_PACKET_LEN }
     ensures bytes { buffer.new ≡ buffer.old ++ deps_bytes deps.now }
     ensures vector { IsVector deps.now }
 {
@@ -78,7 +83,7 @@ fn put_deps(buffer: &mut Buffer, deps: &Vector)
 }
 
 fn put_body(buffer: &mut Buffer, body: &Body)
-    requires { length buffer.old ≤ 265 }
+    requires { length buffer.old + MAX_BODY_LEN ≤ MAX_PACKET_LEN }
     ensures bytes { buffer.new ≡ buffer.old ++ body_bytes Two body.now }
     ensures body { IsBody body.now }
 {
@@ -94,7 +99,7 @@ fn put_body(buffer: &mut Buffer, body: &Body)
 }
 
 fn put_dot(buffer: &mut Buffer, dot: Dot)
-    requires { length buffer.old ≤ 300 }
+    requires { length buffer.old + DOT_LEN ≤ MAX_PACKET_LEN }
     ensures bytes { buffer.new ≡ buffer.old ++ dot_bytes dot }
     ensures dot { IsDot dot }
 {
@@ -103,7 +108,7 @@ fn put_dot(buffer: &mut Buffer, dot: Dot)
 }
 
 fn put_identity(buffer: &mut Buffer, id: AtomId)
-    requires { length buffer.old ≤ 300 }
+    requires { length buffer.old + IDENTITY_LEN ≤ MAX_PACKET_LEN }
     ensures bytes { buffer.new ≡ buffer.old ++ identity_bytes Two id }
     ensures identity { IsAtomId id }
 {
@@ -112,17 +117,17 @@ fn put_identity(buffer: &mut Buffer, id: AtomId)
 }
 
 fn put_slot(buffer: &mut Buffer, slot: Slot)
-    requires { length buffer.old ≤ 265 }
+    requires { length buffer.old + MAX_SLOT_LEN ≤ MAX_PACKET_LEN }
     ensures bytes { buffer.new ≡ buffer.old ++ slot_bytes Two slot }
     ensures slot { IsSlot slot }
 {
     match slot {
-        Slot::Root => buffer.push(0),
+        Slot::Root => buffer.push(ROOT),
         Slot::At { atom, bit } => {
-            buffer.push(1);
+            buffer.push(AT);
             buffer.push(match bit {
-                Bit::Left => 0,
-                Bit::Right => 1,
+                Bit::Left => LEFT,
+                Bit::Right => RIGHT,
             });
             put_identity(buffer, atom);
         }
@@ -130,7 +135,7 @@ fn put_slot(buffer: &mut Buffer, slot: Slot)
 }
 
 fn put_run(buffer: &mut Buffer, run: &Run)
-    requires { length buffer.old ≤ 273 }
+    requires { length buffer.old + MAX_RUN_PART_LEN ≤ MAX_PACKET_LEN }
     ensures bytes { buffer.new ≡ buffer.old ++ run_bytes Two run.now }
     ensures run { IsRun run.now }
 {

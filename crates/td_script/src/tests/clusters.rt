@@ -1,9 +1,10 @@
 use crate::{CutFault, Kind, ScriptFault, cut, read_script};
 use std::alloc::Global;
+use std::process::Abort;
 use std::test::Fail;
 
-// The last samples of GraphemeBreakTest.txt of Unicode 15.0.0, with a bar at each boundary. The one with U+2701 is left out:
-// `unicode_segmentation` goes by a later version, in which U+2701 is no pictograph.
+// The last samples of GraphemeBreakTest.txt of Unicode 15.0.0, with a bar at each boundary. The one with U+2701 is left
+// out: `unicode_segmentation` goes by a later version, in which U+2701 is no pictograph.
 const SAMPLES: [&str; 23] = [
     "\u{d}\u{a}|\u{61}|\u{a}|\u{308}",
     "\u{61}\u{308}",
@@ -30,22 +31,48 @@ const SAMPLES: [&str; 23] = [
     "\u{61}\u{200d}|\u{2701}",
 ];
 
+// Samples of GB9c, which came after 15.0.0: the virama U+094D joins a consonant behind it to what stands before it. Since
+// 18.0 that need not be a consonant, so the last sample breaks before U+0924 by an earlier version.
+const VIRAMAS: [&str; 8] = [
+    "\u{915}\u{94d}\u{937}",
+    "\u{915}\u{94d}\u{94d}\u{924}",
+    "\u{915}\u{94d}\u{200d}\u{924}",
+    "\u{915}\u{94d}\u{924}\u{94d}\u{92f}",
+    "\u{915}|\u{924}",
+    "\u{915}\u{94d}|\u{61}",
+    "\u{915}\u{94d}\u{924}|\u{61}",
+    "\u{61}\u{94d}\u{924}",
+];
+
+fn is_cut_at_its_bars(rt: &impl Abort, alloc: Global, sample: &str) -> Result<(), Fail> {
+    let mut text = String::new(alloc);
+    for part in sample.split('|') {
+        text.push_str(part)?;
+    }
+    let atoms = cut(alloc, &text)?;
+    assert_eq!(rt;
+        atoms.as_slice().len(),
+        sample.split('|').count(),
+        "at {sample:?}"
+    );
+    for (atom, part) in atoms.as_slice().iter().zip(sample.split('|')) {
+        assert_eq!(rt; atom.bytes(), part.as_bytes(), "at {sample:?}");
+    }
+    Ok(())
+}
+
 #[test]
 fn samples_of_the_unicode_break_test_are_cut_at_their_bars(rt: HostRuntime) -> Result<(), Fail> {
     for sample in SAMPLES {
-        let mut text = String::new(rt.alloc());
-        for part in sample.split('|') {
-            text.push_str(part)?;
-        }
-        let atoms = cut(rt.alloc(), &text)?;
-        assert_eq!(rt;
-            atoms.as_slice().len(),
-            sample.split('|').count(),
-            "at {sample:?}"
-        );
-        for (atom, part) in atoms.as_slice().iter().zip(sample.split('|')) {
-            assert_eq!(rt; atom.bytes(), part.as_bytes(), "at {sample:?}");
-        }
+        is_cut_at_its_bars(&rt, rt.alloc(), sample)?;
+    }
+    Ok(())
+}
+
+#[test]
+fn a_virama_joins_the_consonant_behind_it(rt: HostRuntime) -> Result<(), Fail> {
+    for sample in VIRAMAS {
+        is_cut_at_its_bars(&rt, rt.alloc(), sample)?;
     }
     Ok(())
 }
