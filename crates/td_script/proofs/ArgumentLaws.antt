@@ -14,7 +14,7 @@ use Rattle.td_base.specs.declared.site.TheConstants.{MAX_SITE}
 use Rattle.td_script.specs.declared.kind.Kind.{Kind}
 use Rattle.td_script.specs.declared.kind.Kind.TheVariants as Fault
 use Rattle.td_script.specs.Arguments.{tested, by_word, number_of, site_of, sites_of, name_of, dot_of, dot_of_parts, dot_of_numbers, cut_dot, onto_part, is_site, bit_of}
-use Rattle.td_script.specs.Script.{IsNumber, IsSite, IsDot}
+use Rattle.td_script.specs.Script.{IsNumber, IsSiteOf, IsDotOf}
 use Rattle.td_script.specs.Spelling.{spaced, spaced_dot, spaced_bit}
 use Rattle.td_script.proofs.Cutting.{dot_cut}
 use Rattle.td_script.proofs.Numbers.{form_of_decimal}
@@ -77,18 +77,18 @@ tested_at_back test kind Fits fits bytes n rest e =
     record { fits = fits n got.1; whole = spaced_word n is (number_back is.word n got.0).1; free = is.free }
 
 -- a site
-pub site_at_there : (sites n : ℕ) (rest : List ℕ) → sites ≤ MAX_SITE → IsSite sites n → IsOpen rest → by_word (site_of sites) (spaced n ++ rest) ≡ Ok (n, rest)
+pub site_at_there : (sites n : ℕ) (rest : List ℕ) → sites ≤ MAX_SITE → IsSiteOf sites n → IsOpen rest → by_word (site_of sites) (spaced n ++ rest) ≡ Ok (n, rest)
 site_at_there sites n rest few h free = tested_at_there (is_site sites) Fault.Site n rest (omega (arith, h.1)) (is_site_in sites n h.0 h.1) free
 
-pub site_at_back : (sites : ℕ) (bytes : List ℕ) (n : ℕ) (rest : List ℕ) → by_word (site_of sites) bytes ≡ Ok (n, rest) → IsArgument spaced (IsSite sites) bytes n rest
-site_at_back sites bytes n rest e = tested_at_back (is_site sites) Fault.Site (IsSite sites) (is_site_back sites) bytes n rest e
+pub site_at_back : (sites : ℕ) (bytes : List ℕ) (n : ℕ) (rest : List ℕ) → by_word (site_of sites) bytes ≡ Ok (n, rest) → IsArgument spaced (IsSiteOf sites) bytes n rest
+site_at_back sites bytes n rest e = tested_at_back (is_site sites) Fault.Site (IsSiteOf sites) (is_site_back sites) bytes n rest e
 
 -- how many sites there are
-pub sites_at_there : (n : ℕ) (rest : List ℕ) → IsSite MAX_SITE n → IsOpen rest → by_word sites_of (spaced n ++ rest) ≡ Ok (n, rest)
+pub sites_at_there : (n : ℕ) (rest : List ℕ) → IsSiteOf MAX_SITE n → IsOpen rest → by_word sites_of (spaced n ++ rest) ≡ Ok (n, rest)
 sites_at_there n rest h free = tested_at_there (is_site MAX_SITE) Fault.Sites n rest (omega (arith, h.1)) (is_site_in MAX_SITE n h.0 h.1) free
 
-pub sites_at_back : (bytes : List ℕ) (n : ℕ) (rest : List ℕ) → by_word sites_of bytes ≡ Ok (n, rest) → IsArgument spaced (IsSite MAX_SITE) bytes n rest
-sites_at_back bytes n rest e = tested_at_back (is_site MAX_SITE) Fault.Sites (IsSite MAX_SITE) (is_site_back MAX_SITE) bytes n rest e
+pub sites_at_back : (bytes : List ℕ) (n : ℕ) (rest : List ℕ) → by_word sites_of bytes ≡ Ok (n, rest) → IsArgument spaced (IsSiteOf MAX_SITE) bytes n rest
+sites_at_back bytes n rest e = tested_at_back (is_site MAX_SITE) Fault.Sites (IsSiteOf MAX_SITE) (is_site_back MAX_SITE) bytes n rest e
 
 -- a name of a mark
 pub name_at_there : (n : ℕ) (rest : List ℕ) → n ≤ 31 → IsOpen rest → by_word name_of (spaced n ++ rest) ≡ Ok (n, rest)
@@ -98,7 +98,7 @@ pub name_at_back : (bytes : List ℕ) (n : ℕ) (rest : List ℕ) → by_word na
 name_at_back bytes n rest e = tested_at_back (λ n. leb n 31) Fault.Number (λ n. n ≤ 31) (λ n h. leb-true n 31 h) bytes n rest e
 
 -- a dot
-pub dot_at_there : (sites : ℕ) (d : DotValue) (rest : List ℕ) → sites ≤ MAX_SITE → IsDot sites d → IsOpen rest → by_word (dot_of sites) (spaced_dot d ++ rest) ≡ Ok (d, rest)
+pub dot_at_there : (sites : ℕ) (d : DotValue) (rest : List ℕ) → sites ≤ MAX_SITE → IsDotOf sites d → IsOpen rest → by_word (dot_of sites) (spaced_dot d ++ rest) ≡ Ok (d, rest)
 dot_at_there sites d rest few h free =
     let site_small : d.site < 10 ^ 9 = omega (arith, h.0.1) in
     let seq_small : d.seq < 10 ^ 9 = omega (arith, h.2) in
@@ -151,7 +151,7 @@ numbers_back (Ok site) (Ok seq) d e = at_test (leb 1 seq && leb seq MAX_SEQ) ref
 numbers_back (Ok site) (Err kind) d e = absurd (err_is_no_ok Fault.Dot d e)
 numbers_back (Err kind) s d e = absurd (err_is_no_ok Fault.Dot d e)
 
-dot_back : (sites : ℕ) (word : List ℕ) (d : DotValue) (o : Option (List ℕ × List ℕ)) → cut_dot word ≡ o → dot_of_parts sites o ≡ Ok d → IsDot sites d × (word ≡ decimal d.site ++ 46 ∷ decimal d.seq)
+dot_back : (sites : ℕ) (word : List ℕ) (d : DotValue) (o : Option (List ℕ × List ℕ)) → cut_dot word ≡ o → dot_of_parts sites o ≡ Ok d → IsDotOf sites d × (word ≡ decimal d.site ++ 46 ∷ decimal d.seq)
 dot_back sites word d None h e = absurd (err_is_no_ok Fault.Dot d e)
 dot_back sites word d (Some cut) h e =
     let numbers = numbers_back (site_of sites cut.0) (number_of cut.1) d e in
@@ -162,7 +162,7 @@ dot_back sites word d (Some cut) h e =
       cut_dot_back word cut.0 cut.1 h ∙ ap (λ (xs : List ℕ). xs ++ 46 ∷ cut.1) front ∙ ap (λ (xs : List ℕ). decimal d.site ++ 46 ∷ xs) back,
     )
 
-pub dot_at_back : (sites : ℕ) (bytes : List ℕ) (d : DotValue) (rest : List ℕ) → by_word (dot_of sites) bytes ≡ Ok (d, rest) → IsArgument spaced_dot (IsDot sites) bytes d rest
+pub dot_at_back : (sites : ℕ) (bytes : List ℕ) (d : DotValue) (rest : List ℕ) → by_word (dot_of sites) bytes ≡ Ok (d, rest) → IsArgument spaced_dot (IsDotOf sites) bytes d rest
 dot_at_back sites bytes d rest e =
     let is = by_word_back (dot_of sites) bytes d rest e in
     let got = dot_back sites is.word d (cut_dot is.word) refl is.is in

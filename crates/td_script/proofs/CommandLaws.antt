@@ -16,7 +16,7 @@ use Rattle.td_script.specs.declared.word.SiteWord.{SiteWord}
 use Rattle.td_script.specs.declared.word.SiteWord.TheVariants as At
 use Rattle.td_script.specs.Arguments.{behind, by_word, with_rest, last, number_of, site_of, dot_of, name_of, bit_of, text_at, word_at}
 use Rattle.td_script.specs.Faults.{site_command, flat_beside, mark_at}
-use Rattle.td_script.specs.Script.{IsNumber, IsSite, IsCommand}
+use Rattle.td_script.specs.Script.{IsNumber, IsSiteOf, IsCommand}
 use Rattle.td_script.specs.Spelling.{line_of, spaced, spaced_bit, spaced_dot, spaced_text}
 use Rattle.td_script.specs.Words.{spelling}
 use Rattle.td_script.proofs.ArgumentLaws.{number_at_back, site_at_back, dot_at_back, name_at_back, bit_at_back}
@@ -28,7 +28,7 @@ use Rattle.td_script.proofs.WordLaws.{behind_back, last_back, word_at_back, with
 
 -- what a line says behind its site is the command, and fits
 abbrev pub IsSaid : ℕ → ℕ → SiteWord → List ℕ → Command → Type 0
-IsSaid sites site word rest c = (IsSite sites site → IsCommand sites c) × (spelling (AtSite word) ++ (spaced site ++ rest) ≡ line_of c)
+IsSaid sites site word rest c = (IsSiteOf sites site → IsCommand sites c) × (spelling (AtSite word) ++ (spaced site ++ rest) ≡ line_of c)
 
 pub ended : (xs rest : List ℕ) → rest ≡ [] → xs ++ rest ≡ xs
 ended xs rest e = ap (λ (ys : List ℕ). xs ++ ys) e ∙ append-nil xs
@@ -193,7 +193,7 @@ unmarked_back sites site rest c e =
     subst (IsSaid sites site At.Unmark rest) is.is ((λ s. (s, is.fits_name, is.fits_index, is.fits_count)), ap (λ (xs : List ℕ). codes "unmark" ++ (spaced site ++ xs)) is.whole)
 
 -- a command that has nothing behind its site
-alone_back : (sites site : ℕ) (word : SiteWord) (made : Command) (rest : List ℕ) (c : Command) → (IsSite sites site → IsCommand sites made) → line_of made ≡ spelling (AtSite word) ++ spaced site → last made rest ≡ Ok c → IsSaid sites site word rest c
+alone_back : (sites site : ℕ) (word : SiteWord) (made : Command) (rest : List ℕ) (c : Command) → (IsSiteOf sites site → IsCommand sites made) → line_of made ≡ spelling (AtSite word) ++ spaced site → last made rest ≡ Ok c → IsSaid sites site word rest c
 alone_back sites site word made rest c fits line e =
     let end = last_back made c rest e in
     subst (IsSaid sites site word rest) end.0 (fits, ap (λ (xs : List ℕ). spelling (AtSite word) ++ xs) (ended (spaced site) rest end.1) ∙ sym line)

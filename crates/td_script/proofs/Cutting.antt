@@ -1,6 +1,6 @@
 -- Where a line, a word and a dot are cut.
-use Rattle.std.proofs.Common.{◌≡◌, ◌≢◌, ◌<◌, ◌≤◌, ℕ, zero, suc, cond, eqb, List, [], ◌∷◌, ◌++◌, length, get_or, take, drop, Option, Some, None, MatchOption, refl, ap, ◌∙◌, arith}
-use Rattle.std.specs.Prelude.{unwrap_or}
+use Rattle.std.proofs.Common.{◌≡◌, ◌≢◌, ◌<◌, ◌≤◌, ℕ, zero, suc, cond, eqb, List, [], ◌∷◌, ◌++◌, length, get_or, take, drop, Option, Some, None, MatchOption, Bor, refl, sym, ap, ◌∙◌, arith}
+use Rattle.std.specs.Prelude.{IfSome, IfNone, unwrap_or}
 use Rattle.std.proofs.lemmas.Bool.{eq-eqb, ne_eqb, cond-true, cond-false}
 use Rattle.std.proofs.lemmas.List.{get_or_default}
 use Rattle.std.proofs.lemmas.List.Elements.{All-head, All-tail}
@@ -48,6 +48,14 @@ last_line b (c ∷ bs) lacks =
 pub one_line : (bs : List ℕ) → 0 < length bs → Lacks 10 bs → lines_of bs ≡ bs ∷ []
 one_line [] some lacks = absurd (omega arith)
 one_line (b ∷ bs) some lacks = last_line b bs lacks
+
+-- the first line, and what stands behind it
+pub first_line : (bytes : List ℕ) (o : Option (Bor (List ℕ) × Bor (List ℕ))) (all : Bor (List ℕ) × Bor (List ℕ))
+    → all.0.now ≡ bytes → all.1.now ≡ [] → 0 < length bytes
+    → IfSome o (λ parts. Lacks 10 parts.0.now × (bytes ≡ parts.0.now ++ 10 ∷ parts.1.now)) → IfNone o (Lacks 10 bytes)
+    → lines_of bytes ≡ (unwrap_or o all).0.now ∷ lines_of (unwrap_or o all).1.now
+first_line bytes (Some parts) all whole none some found lacks = ap lines_of found.1 ∙ line_cut parts.0.now parts.1.now found.0
+first_line bytes None all whole none some found lacks = one_line bytes some lacks ∙ (λ i. sym whole i ∷ lines_of (sym none i))
 
 pub dot_cut : (front back : List ℕ) → Lacks 46 front → cut_dot (front ++ 46 ∷ back) ≡ Some (front, back)
 dot_cut [] back lacks = refl

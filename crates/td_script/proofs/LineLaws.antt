@@ -1,13 +1,15 @@
 -- What is judged of a line: a command where the line is the line of a command that can stand there, and only there.
-use Rattle.std.proofs.Common.{◌≡◌, ◌≢◌, ◌<◌, ◌≤◌, ◌+◌, ◌^◌, ℕ, Bool, true, false, cond, not, eqb, ltb, List, [], ◌∷◌, ◌++◌, length, codes, find, Option, Some, None, Result, Ok, Err, refl, sym, ap, subst, ◌∙◌, bytes_eq, IsUtf8, arith}
+use Rattle.std.proofs.Common.{◌≡◌, ◌≢◌, ◌<◌, ◌≤◌, ◌+◌, ◌^◌, ℕ, Bool, true, false, cond, not, eqb, ltb, List, [], ◌∷◌, ◌++◌, length, codes, find, Option, Some, None, Result, Ok, Err, Bor, MatchResult, refl, sym, ap, subst, ◌∙◌, bytes_eq, IsUtf8, arith}
 use Rattle.std.specs.List.{list_all, list_any}
+use Rattle.std.specs.Prelude.{IfSome, IfNone}
+use Rattle.std.specs.Result.{result_ok}
 use Rattle.std.specs.Str.{is_utf8}
-use Rattle.std.proofs.lemmas.Bool.{both_ways, eqb-false, ne_eqb, ltb-true, ltb-false, le-ltb, cond-true, cond-false, and_parts, not-true, not_from_true}
+use Rattle.std.proofs.lemmas.Bool.{both_ways, eqb-false, ne_eqb, ltb-true, ltb-false, le-ltb, cond-true, cond-false, and_parts, and_from, and_right, not-true, not_from_true, not_from_false, false_from_ne_true}
 use Rattle.std.proofs.lemmas.List.Folds.{list_any_at}
 use Rattle.std.proofs.lemmas.List.Sums.{AllPass-from_list_all}
 use Rattle.std.proofs.lemmas.List.Elements.{All-weaker}
 use Rattle.std.proofs.lemmas.Slice.Eq.{bytes_eq-Decides}
-use Rattle.std.proofs.lemmas.Str.{IsUtf8-from_is_utf8, IsUtf8-from_ascii}
+use Rattle.std.proofs.lemmas.Str.{IsUtf8-from_is_utf8, is_utf8-from_IsUtf8, IsUtf8-from_ascii}
 use Rattle.std.proofs.lemmas.Str.Ascii.{IsAscii-from_all}
 use Rattle.td_base.specs.declared.site.TheConstants.{MAX_SITE}
 use Rattle.unicode_segmentation.proofs.TextLemmas.{IsUtf8-after}
@@ -23,9 +25,9 @@ use Rattle.td_script.specs.declared.word.Word.TheVariants as First
 use Rattle.td_script.specs.declared.word.SiteWord.{SiteWord}
 use Rattle.td_script.specs.declared.word.SiteWord.TheVariants as At
 use Rattle.td_script.specs.Arguments.{by_word, cut_word, last, site_of, sites_of}
-use Rattle.td_script.specs.Faults.{command, is_misplaced, is_too_much, is_too_wide, judged, named, said, sites_at, within}
+use Rattle.td_script.specs.Faults.{command, is_misplaced, is_too_much, is_too_wide, judged, command_named, said, sites_at, within}
 use Rattle.td_script.specs.Lines.{is_control, is_skipped, is_text_line}
-use Rattle.td_script.specs.Script.{IsCommand, IsLine, IsSite, requests}
+use Rattle.td_script.specs.Script.{IsCommand, IsLine, IsSiteOf, requests}
 use Rattle.td_script.specs.Spelling.{line_of, spaced}
 use Rattle.td_script.specs.Words.{spelling, word_named, words}
 use Rattle.td_script.proofs.ArgumentLaws.{site_at_back, sites_at_back}
@@ -37,12 +39,12 @@ use Rattle.td_script.proofs.WordLaws.{behind_back, cut_back, last_back}
 
 -- a command can stand behind what stands before it: `sites` first, and the others behind it
 pub data CanStand (size : ℕ) (before : Before) (c : Command) : Type 0 where
-  begins : (n : ℕ) → c ≡ Sites n → before.sites ≡ 0 → IsSite MAX_SITE n → is_too_wide size n ≡ false → CanStand size before c
+  begins : (n : ℕ) → c ≡ Sites n → before.sites ≡ 0 → IsSiteOf MAX_SITE n → is_too_wide size n ≡ false → CanStand size before c
   follows : 1 ≤ before.sites → IsCommand before.sites c → is_too_much before.sites (before.requests + requests c) ≡ false → CanStand size before c
 
 -- a command without the test of the sum
 data IsPlaced (size : ℕ) (before : Before) (word : Word) (c : Command) : Type 0 where
-  at_first : (n : ℕ) → c ≡ Sites n → word ≡ First.Sites → IsSite MAX_SITE n → is_too_wide size n ≡ false → IsPlaced size before word c
+  at_first : (n : ℕ) → c ≡ Sites n → word ≡ First.Sites → IsSiteOf MAX_SITE n → is_too_wide size n ≡ false → IsPlaced size before word c
   at_later : IsCommand before.sites c → ((before' : Before) → is_misplaced before' word ≡ eqb before'.sites 0) → IsPlaced size before word c
 
 -- lines of UTF-8 without control characters
@@ -50,6 +52,20 @@ pub text_parts : (line : List ℕ) → is_text_line line ≡ true → (list_any 
 text_parts line h =
     let parts : (not (list_any is_control line) ≡ true) × (is_utf8 line ≡ true) = and_parts (not (list_any is_control line)) (is_utf8 line) h in
     (not-true (list_any is_control line) parts.0, IsUtf8-from_is_utf8 line parts.1)
+
+-- the text of a line that was read as UTF-8, or not
+pub text_found : {E : Type 0} (line : List ℕ) (r : Result (Bor (List ℕ)) E) (P : E → Type 0)
+    → MatchResult r (λ text. (text.now ≡ line) × IsUtf8 line) (λ e. (¬ IsUtf8 line) × P e) → list_any is_control line ≡ false
+    → IfSome (result_ok r) (λ text. (text.now ≡ line) × (is_text_line line ≡ true))
+text_found line (Ok text) P read plain =
+    (read.0, and_from (not (list_any is_control line)) (is_utf8 line) (not_from_false (list_any is_control line) plain) (is_utf8-from_IsUtf8 line read.1))
+text_found line (Err e) P read plain = tt
+
+pub text_not_found : {E : Type 0} (line : List ℕ) (r : Result (Bor (List ℕ)) E) (P : E → Type 0)
+    → MatchResult r (λ text. (text.now ≡ line) × IsUtf8 line) (λ e. (¬ IsUtf8 line) × P e) → IfNone (result_ok r) (is_text_line line ≡ false)
+text_not_found line (Ok text) P read = tt
+text_not_found line (Err e) P read =
+    and_right (not (list_any is_control line)) (is_utf8 line) (false_from_ne_true (is_utf8 line) (λ (e : is_utf8 line ≡ true). read.0 (IsUtf8-from_is_utf8 line e)))
 
 pub lacks_lf : (line : List ℕ) → list_any is_control line ≡ false → Lacks 10 line
 lacks_lf line h = λ i d inside e.
@@ -126,7 +142,7 @@ sites_back size before rest c e =
     let n = sites_at_back rest first.value first.rest first.is in
     at_test first.value first.rest n.fits n.whole (is_too_wide size first.value) refl first.then_is
   where
-    at_test : (n : ℕ) (left : List ℕ) → IsSite MAX_SITE n → rest ≡ spaced n ++ left → (wide : Bool) → is_too_wide size n ≡ wide
+    at_test : (n : ℕ) (left : List ℕ) → IsSiteOf MAX_SITE n → rest ≡ spaced n ++ left → (wide : Bool) → is_too_wide size n ≡ wide
         → cond {A = Result Command Kind} wide (Err Fault.Size) (last (Sites n) left) ≡ Ok c → SaysCommand size before First.Sites rest c
     at_test n left fits whole true h e = absurd (err_is_no_ok Fault.Size c e)
     at_test n left fits whole false h e =
@@ -174,7 +190,7 @@ record SaysLine (size : ℕ) (before : Before) (line : List ℕ) (c : Command) :
   stands_there : CanStand size before c
 
 named_command_back : (size : ℕ) (before : Before) (line name rest : List ℕ) (c : Command) (o : Option Word) → before.sites ≤ MAX_SITE → IsUtf8 line → Lacks 10 line → line ≡ name ++ rest
-    → word_named name ≡ o → named size before o rest ≡ Ok c → SaysLine size before line c
+    → word_named name ≡ o → command_named size before o rest ≡ Ok c → SaysLine size before line c
 named_command_back size before line name rest c None few u lacks whole h e = absurd (err_is_no_ok Fault.Word c e)
 named_command_back size before line name rest c (Some word) few u lacks whole h e = at_test (is_misplaced before word) refl e
   where
@@ -198,14 +214,14 @@ said_back (Ok c) o e = (c, refl, sym (ok_same (Some c) o e))
 said_back (Err kind) o e = absurd (err_is_no_ok kind o e)
 
 judged_at : (size : ℕ) (before : Before) (line : List ℕ) (o : Option Command) (long text skipped : Bool) → before.sites ≤ MAX_SITE → ltb MAX_LINE (length line) ≡ long → is_text_line line ≡ text → is_skipped line ≡ skipped
-    → cond {A = Result (Option Command) Kind} long (Err Fault.Long) (cond {A = Result (Option Command) Kind} (not text) (Err Fault.Bytes) (cond {A = Result (Option Command) Kind} skipped (Ok None) (said (named size before (word_named (cut_word line).0) (cut_word line).1)))) ≡ Ok o
+    → cond {A = Result (Option Command) Kind} long (Err Fault.Long) (cond {A = Result (Option Command) Kind} (not text) (Err Fault.Bytes) (cond {A = Result (Option Command) Kind} skipped (Ok None) (said (command_named size before (word_named (cut_word line).0) (cut_word line).1)))) ≡ Ok o
     → IsJudged size before line o
 judged_at size before line o true text skipped few f g h e = absurd (err_is_no_ok Fault.Long o e)
 judged_at size before line o false false skipped few f g h e = absurd (err_is_no_ok Fault.Bytes o e)
 judged_at size before line o false true true few f g h e =
     says_nothing (record { short = ltb-false MAX_LINE (length line) f; text = g }) h (sym (ok_same None o e))
 judged_at size before line o false true false few f g h e =
-    let got = said_back (named size before (word_named (cut_word line).0) (cut_word line).1) o e in
+    let got = said_back (command_named size before (word_named (cut_word line).0) (cut_word line).1) o e in
     let parts = text_parts line g in
     let is = named_command_back size before line (cut_word line).0 (cut_word line).1 got.0 (word_named (cut_word line).0) few parts.1 (lacks_lf line parts.0) (cut_back line).whole refl got.1 in
     says (record { short = ltb-false MAX_LINE (length line) f; text = g }) h got.0 got.2 is.whole is.stands_there
@@ -215,23 +231,23 @@ judged_back size before line o few e = judged_at size before line o (ltb MAX_LIN
 
 -- a line that is one is judged further
 pub line_passes : (size : ℕ) (before : Before) (line : List ℕ) → IsLine line
-    → judged size before line ≡ cond {A = Result (Option Command) Kind} (is_skipped line) (Ok None) (said (named size before (word_named (cut_word line).0) (cut_word line).1))
+    → judged size before line ≡ cond {A = Result (Option Command) Kind} (is_skipped line) (Ok None) (said (command_named size before (word_named (cut_word line).0) (cut_word line).1))
 line_passes size before line h =
-    let more = cond {A = Result (Option Command) Kind} (is_skipped line) (Ok None) (said (named size before (word_named (cut_word line).0) (cut_word line).1)) in
+    let more = cond {A = Result (Option Command) Kind} (is_skipped line) (Ok None) (said (command_named size before (word_named (cut_word line).0) (cut_word line).1)) in
     cond-false {A = Result (Option Command) Kind} (ltb MAX_LINE (length line)) (Err Fault.Long) (cond {A = Result (Option Command) Kind} (not (is_text_line line)) (Err Fault.Bytes) more) (le-ltb MAX_LINE (length line) h.short)
     ∙ cond-false {A = Result (Option Command) Kind} (not (is_text_line line)) (Err Fault.Bytes) more (not_from_true (is_text_line line) h.text)
 
 pub skipped_there : (size : ℕ) (before : Before) (line : List ℕ) → IsLine line → is_skipped line ≡ true → judged size before line ≡ Ok None
 skipped_there size before line h e =
-    line_passes size before line h ∙ cond-true {A = Result (Option Command) Kind} (is_skipped line) (Ok None) (said (named size before (word_named (cut_word line).0) (cut_word line).1)) e
+    line_passes size before line h ∙ cond-true {A = Result (Option Command) Kind} (is_skipped line) (Ok None) (said (command_named size before (word_named (cut_word line).0) (cut_word line).1)) e
 
 named_command_there : (size : ℕ) (before : Before) (line : List ℕ) (c : Command) → IsLine line → is_skipped line ≡ false → (misplaced : Bool) → (is : IsLineOf size before line c misplaced) → misplaced ≡ false
     → is_too_much before.sites (before.requests + requests c) ≡ false → judged size before line ≡ Ok (Some c)
 named_command_there size before line c h spoken misplaced is placed few =
     line_passes size before line h
-    ∙ cond-false {A = Result (Option Command) Kind} (is_skipped line) (Ok None) (said (named size before (word_named (cut_word line).0) (cut_word line).1)) spoken
-    ∙ ap (λ (cut : List ℕ × List ℕ). said (named size before (word_named cut.0) cut.1)) is.cut
-    ∙ ap (λ (o : Option Word). said (named size before o is.rest)) (named_there is.word)
+    ∙ cond-false {A = Result (Option Command) Kind} (is_skipped line) (Ok None) (said (command_named size before (word_named (cut_word line).0) (cut_word line).1)) spoken
+    ∙ ap (λ (cut : List ℕ × List ℕ). said (command_named size before (word_named cut.0) cut.1)) is.cut
+    ∙ ap (λ (o : Option Word). said (command_named size before o is.rest)) (named_there is.word)
     ∙ ap said (cond-false {A = Result Command Kind} (is_misplaced before is.word) (Err Fault.Sites) (within before (command size before is.word is.rest)) (is.placed ∙ placed)
     ∙ ap (within before) is.read
     ∙ cond-false {A = Result Command Kind} (is_too_much before.sites (before.requests + requests c)) (Err Fault.Size) (Ok c) few)

@@ -1,17 +1,20 @@
 -- The words that are numbers.
-use Rattle.std.proofs.Common.{◌≡◌, ◌≢◌, ◌<◌, ◌≤◌, ◌^◌, ℕ, zero, suc, Bool, true, false, cond, eqb, leb, ◌&&◌, List, [], ◌∷◌, length, get_or, Result, Ok, Err, refl, sym, ap, subst, ◌∙◌, arith}
+use Rattle.std.proofs.Common.{◌≡◌, ◌≢◌, ◌<◌, ◌≤◌, ◌^◌, ℕ, zero, suc, Bool, true, false, cond, eqb, leb, ltb, ◌&&◌, List, [], ◌∷◌, length, get_or, Result, Ok, Err, refl, sym, ap, subst, ◌∙◌, arith}
 use Rattle.std.specs.Fmt.{decimal}
+use Rattle.std.specs.Option.{ok_or}
+use Rattle.std.specs.Prelude.{Option, Some, None, IfSome, IfNone}
 use Rattle.std.specs.Int.{IsInRange}
 use Rattle.std.specs.List.{list_all}
 use Rattle.std.specs.Str.Parse.{digits_value}
-use Rattle.std.proofs.lemmas.Bool.{false≢true, eqb-true, eqb-false, leb-true, le-leb, and_parts, and_from, false_from_ne_true, cond-true, cond-false}
+use Rattle.std.proofs.lemmas.Bool.{false≢true, eqb-true, eqb-false, leb-true, ltb-true, le-leb, lt-ltb, and_parts, and_from, false_from_ne_true, cond-true, cond-false}
 use Rattle.std.proofs.lemmas.List.{get_or_default}
 use Rattle.std.proofs.lemmas.List.Sums.{AllPass-from_list_all, list_all-from_AllPass}
 use Rattle.td_script.specs.declared.kind.Kind.{Kind}
 use Rattle.td_script.specs.declared.kind.Kind.TheVariants.{Number}
+use Rattle.td_script.specs.declared.number.TheConstants.{MAX_DIGITS}
 use Rattle.td_script.specs.Arguments.{is_digit, is_number, number_of}
 use Rattle.td_script.proofs.Results.{ok_same, err_is_no_ok}
-use Rattle.td_script.proofs.Numbers.{AreDigits, IsIndexForm, IsNumber, form_of_number, number_of_form, value_of_number}
+use Rattle.td_script.proofs.Numbers.{AreDigits, IsIndexForm, IsNumberWord, form_of_number, number_of_form, value_of_number}
 
 digit_range : (b : ℕ) → is_digit b ≡ true → IsInRange 48 57 b
 digit_range b h = let parts : (leb 48 b ≡ true) × (leb b 57 ≡ true) = and_parts (leb 48 b) (leb b 57) h in (leb-true 48 b parts.0, leb-true b 57 parts.1)
@@ -33,20 +36,22 @@ zero_form d ds e short = record { digits = digits; some = omega arith; short = o
     digits zero inside = (omega arith, omega arith)
     digits (suc i) inside = absurd (omega arith)
 
-form_at : (d : ℕ) (ds : List ℕ) (b : Bool) → eqb d 48 ≡ b → cond b (leb (length ds) 0) (list_all is_digit (d ∷ ds) && leb (length ds) 8) ≡ true → IsIndexForm (d ∷ ds)
+form_at : (d : ℕ) (ds : List ℕ) (b : Bool) → eqb d 48 ≡ b → cond b (leb (length ds) 0) (list_all is_digit (d ∷ ds) && ltb (length ds) MAX_DIGITS) ≡ true → IsIndexForm (d ∷ ds)
 form_at d ds true e h = zero_form d ds (eqb-true d 48 e) (leb-true (length ds) 0 h)
 form_at d ds false e h =
-    let parts : (list_all is_digit (d ∷ ds) ≡ true) × (leb (length ds) 8 ≡ true) = and_parts (list_all is_digit (d ∷ ds)) (leb (length ds) 8) h in
-    let short : length ds ≤ 8 = leb-true (length ds) 8 parts.1 in
+    let parts : (list_all is_digit (d ∷ ds) ≡ true) × (ltb (length ds) MAX_DIGITS ≡ true) =
+    and_parts (list_all is_digit (d ∷ ds)) (ltb (length ds) MAX_DIGITS) h in
+    let short : length ds < MAX_DIGITS = ltb-true (length ds) MAX_DIGITS parts.1 in
     record { digits = digits_by_test (d ∷ ds) parts.0; some = omega arith; short = omega arith; leading = λ (same : d ≡ 48). absurd (eqb-false d 48 e same) }
 
 form_of_test : (ds : List ℕ) → is_number ds ≡ true → IsIndexForm ds
 form_of_test [] h = absurd (false≢true h)
 form_of_test (d ∷ ds) h = form_at d ds (eqb d 48) refl h
 
-test_at : (d : ℕ) (ds : List ℕ) (b : Bool) → eqb d 48 ≡ b → IsIndexForm (d ∷ ds) → cond b (leb (length ds) 0) (list_all is_digit (d ∷ ds) && leb (length ds) 8) ≡ true
+test_at : (d : ℕ) (ds : List ℕ) (b : Bool) → eqb d 48 ≡ b → IsIndexForm (d ∷ ds) → cond b (leb (length ds) 0) (list_all is_digit (d ∷ ds) && ltb (length ds) MAX_DIGITS) ≡ true
 test_at d ds true e h = le-leb (length ds) 0 (omega (arith, h.leading (eqb-true d 48 e)))
-test_at d ds false e h = and_from (list_all is_digit (d ∷ ds)) (leb (length ds) 8) (test_of_digits (d ∷ ds) h.digits) (le-leb (length ds) 8 (omega (arith, h.short)))
+test_at d ds false e h = and_from (list_all is_digit (d ∷ ds)) (ltb (length ds) MAX_DIGITS) (test_of_digits (d ∷ ds) h.digits)
+    (lt-ltb (length ds) MAX_DIGITS (omega (arith, h.short)))
 
 test_of_form : (ds : List ℕ) → IsIndexForm ds → is_number ds ≡ true
 test_of_form [] h = absurd (omega (arith, h.some))
@@ -56,16 +61,16 @@ abbrev read_as : ℕ → Result ℕ Kind
 read_as n = Ok n
 
 -- a number is read from its digits
-pub number_there : (v : ℕ) (word : List ℕ) → v < 10 ^ 9 → word ≡ decimal v → number_of word ≡ Ok v
+pub number_there : (v : ℕ) (word : List ℕ) → v < 10 ^ MAX_DIGITS → word ≡ decimal v → number_of word ≡ Ok v
 number_there v word small e =
-    let number : IsNumber word = (v, small, e) in
+    let number : IsNumberWord word = (v, small, e) in
     let test : is_number word ≡ true = test_of_form word (form_of_number word number) in
     let value : digits_value 10 word ≡ v = value_of_number word number in
     cond-true {A = Result ℕ Kind} (is_number word) (Ok (digits_value 10 word)) (Err Number) test ∙ ap read_as value
 
-back_at : (word : List ℕ) (v : ℕ) (b : Bool) → is_number word ≡ b → cond {A = Result ℕ Kind} b (Ok (digits_value 10 word)) (Err Number) ≡ Ok v → (v < 10 ^ 9) × (word ≡ decimal v)
+back_at : (word : List ℕ) (v : ℕ) (b : Bool) → is_number word ≡ b → cond {A = Result ℕ Kind} b (Ok (digits_value 10 word)) (Err Number) ≡ Ok v → (v < 10 ^ MAX_DIGITS) × (word ≡ decimal v)
 back_at word v true test e =
-    let number : IsNumber word = number_of_form word (form_of_test word test) in
+    let number : IsNumberWord word = number_of_form word (form_of_test word test) in
     let same : digits_value 10 word ≡ v = ok_same (digits_value 10 word) v e in
     let value : digits_value 10 word ≡ number.0 = value_of_number word number in
     let whole : number.0 ≡ v = sym value ∙ same in
@@ -73,11 +78,17 @@ back_at word v true test e =
 back_at word v false test e = absurd (err_is_no_ok Number v e)
 
 -- what is read as a number is its digits
-pub number_back : (word : List ℕ) (v : ℕ) → number_of word ≡ Ok v → (v < 10 ^ 9) × (word ≡ decimal v)
+pub number_back : (word : List ℕ) (v : ℕ) → number_of word ≡ Ok v → (v < 10 ^ MAX_DIGITS) × (word ≡ decimal v)
 number_back word v e = back_at word v (is_number word) refl e
 
 -- what is no number's digits is no number
-pub number_none : (word : List ℕ) → ((n : ℕ) → n < 10 ^ 9 → word ≢ decimal n) → number_of word ≡ Err Number
+pub number_none : (word : List ℕ) → ((n : ℕ) → n < 10 ^ MAX_DIGITS → word ≢ decimal n) → number_of word ≡ Err Number
 number_none word none =
     cond-false {A = Result ℕ Kind} (is_number word) (Ok (digits_value 10 word)) (Err Number)
-    (false_from_ne_true (is_number word) (λ (test : is_number word ≡ true). let number : IsNumber word = number_of_form word (form_of_test word test) in none number.0 number.1 number.2))
+    (false_from_ne_true (is_number word) (λ (test : is_number word ≡ true). let number : IsNumberWord word = number_of_form word (form_of_test word test) in none number.0 number.1 number.2))
+
+-- a number where its digits spell one, and else the fault
+pub number_or_fault : (word : List ℕ) (o : Option ℕ) → IfSome o (λ n. (n < 10 ^ MAX_DIGITS) × (word ≡ decimal n))
+    → IfNone o ((n : ℕ) → n < 10 ^ MAX_DIGITS → word ≢ decimal n) → ok_or o Number ≡ number_of word
+number_or_fault word (Some n) some none = sym (number_there n word some.0 some.1)
+number_or_fault word None some none = sym (number_none word none)

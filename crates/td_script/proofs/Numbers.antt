@@ -41,49 +41,49 @@ form_of_decimal n h = record {
 }
 
 -- an index is written in these digits
-abbrev pub IsNumber : List ℕ → Type 0
-IsNumber ds = (n : ℕ) × (n < 10 ^ 9) × (ds ≡ decimal n)
+abbrev pub IsNumberWord : List ℕ → Type 0
+IsNumberWord ds = (n : ℕ) × (n < 10 ^ 9) × (ds ≡ decimal n)
 
-pub form_of_number : (ds : List ℕ) → IsNumber ds → IsIndexForm ds
+pub form_of_number : (ds : List ℕ) → IsNumberWord ds → IsIndexForm ds
 form_of_number ds number = subst IsIndexForm (sym number.2) (form_of_decimal number.0 number.1)
 
-pub number_of_form : (ds : List ℕ) → IsIndexForm ds → IsNumber ds
+pub number_of_form : (ds : List ℕ) → IsIndexForm ds → IsNumberWord ds
 number_of_form ds form =
     let below : digits_value 10 ds < 10 ^ 9 = digits_value_short numerals ds 9 form.digits form.short in
     (digits_value 10 ds, below, sym (decimal-digits_value numerals ds form.digits form.some form.leading (omega arith)))
 
-no_number : (ds : List ℕ) (r : Bool) → ¬ IsTrue r → ¬ IsNumber ds → IsTrue r ↔ IsNumber ds
+no_number : (ds : List ℕ) (r : Bool) → ¬ IsTrue r → ¬ IsNumberWord ds → IsTrue r ↔ IsNumberWord ds
 no_number ds r untrue none = (λ t. absurd (untrue t), λ number. absurd (none number))
 
-pub empty_number : (ds : List ℕ) → length ds ≤ 0 → IsTrue false ↔ IsNumber ds
-empty_number ds e = no_number ds false false≢true (λ (number : IsNumber ds). absurd (omega (arith, (form_of_number ds number).some)))
+pub empty_number : (ds : List ℕ) → length ds ≤ 0 → IsTrue false ↔ IsNumberWord ds
+empty_number ds e = no_number ds false false≢true (λ (number : IsNumberWord ds). absurd (omega (arith, (form_of_number ds number).some)))
 
-pub long_number : (ds : List ℕ) → 9 < length ds → IsTrue (nat_le (length ds) 9) ↔ IsNumber ds
+pub long_number : (ds : List ℕ) → 9 < length ds → IsTrue (nat_le (length ds) 9) ↔ IsNumberWord ds
 long_number ds long =
     no_number ds (nat_le (length ds) 9) (λ (t : IsTrue (nat_le (length ds) 9)). absurd (omega (arith, leb-true (length ds) 9 t)))
-    (λ (number : IsNumber ds). absurd (omega (arith, (form_of_number ds number).short)))
+    (λ (number : IsNumberWord ds). absurd (omega (arith, (form_of_number ds number).short)))
 
 -- digits that begin with 0 are a number where there are no others
-pub zero_number : (ds : List ℕ) → get_or ds 0 0 ≡ 48 → IsTrue (nat_eq (length ds) 1) ↔ IsNumber ds
+pub zero_number : (ds : List ℕ) → get_or ds 0 0 ≡ 48 → IsTrue (nat_eq (length ds) 1) ↔ IsNumberWord ds
 zero_number ds zero_first =
-    (λ (t : IsTrue (nat_eq (length ds) 1)). one (eqb-true (length ds) 1 t), λ (number : IsNumber ds). eq-eqb (length ds) 1 ((form_of_number ds number).leading zero_first))
+    (λ (t : IsTrue (nat_eq (length ds) 1)). one (eqb-true (length ds) 1 t), λ (number : IsNumberWord ds). eq-eqb (length ds) 1 ((form_of_number ds number).leading zero_first))
   where
     alone : length ds ≡ 1 → AreDigits ds
     alone single = λ i inside.
         let same : get_or ds i 0 ≡ get_or ds 0 0 = ap (λ (k : ℕ). get_or ds k 0) (omega arith) in
         (omega arith, omega arith)
 
-    one : length ds ≡ 1 → IsNumber ds
+    one : length ds ≡ 1 → IsNumberWord ds
     one single = number_of_form ds (record { digits = alone single; some = omega arith; short = omega arith; leading = λ e. single })
 
-pub other_number : (ds : List ℕ) (r : Bool) → 0 < length ds → length ds ≤ 9 → get_or ds 0 0 ≢ 48 → IsTrue r ↔ All (IsInRange 48 57) ds → IsTrue r ↔ IsNumber ds
+pub other_number : (ds : List ℕ) (r : Bool) → 0 < length ds → length ds ≤ 9 → get_or ds 0 0 ≢ 48 → IsTrue r ↔ All (IsInRange 48 57) ds → IsTrue r ↔ IsNumberWord ds
 other_number ds r some short other digits =
-    (λ (t : IsTrue r). number_of_form ds (record { digits = λ i inside. digits.0 t i 0 inside; some = some; short = short; leading = λ e. absurd (other e) }), λ (number : IsNumber ds). digits.1 (λ i d inside. all number i d inside))
+    (λ (t : IsTrue r). number_of_form ds (record { digits = λ i inside. digits.0 t i 0 inside; some = some; short = short; leading = λ e. absurd (other e) }), λ (number : IsNumberWord ds). digits.1 (λ i d inside. all number i d inside))
   where
-    all : IsNumber ds → All (IsInRange 48 57) ds
+    all : IsNumberWord ds → All (IsInRange 48 57) ds
     all number = λ i d inside. subst (IsInRange 48 57) (get_or_default ds i 0 d inside) ((form_of_number ds number).digits i inside)
 
-pub value_of_number : (ds : List ℕ) (number : IsNumber ds) → digits_value 10 ds ≡ number.0
+pub value_of_number : (ds : List ℕ) (number : IsNumberWord ds) → digits_value 10 ds ≡ number.0
 value_of_number ds number = ap (digits_value 10) number.2 ∙ digits_value-decimal numerals number.0 (small number.0 number.1)
 
 -- one more digit of an index
@@ -92,7 +92,7 @@ pub record AddsDigit (ds : List ℕ) (i value : ℕ) : Type 0 where
   pub more : 10 * value + (get_or ds i 0 - 48) ≡ digits_value 10 (take (i + 1) ds)
   pub below : 10 * value + (get_or ds i 0 - 48) < 10 ^ 9
 
-pub adds_digit : (ds : List ℕ) (i value : ℕ) → IsNumber ds → i < length ds → value ≡ digits_value 10 (take i ds) → AddsDigit ds i value
+pub adds_digit : (ds : List ℕ) (i value : ℕ) → IsNumberWord ds → i < length ds → value ≡ digits_value 10 (take i ds) → AddsDigit ds i value
 adds_digit ds i value number inside is =
     let range : IsInRange 48 57 (get_or ds i 0) = (form_of_number ds number).digits i inside in
     let digit : digit_value (get_or ds i 0) + 48 ≡ get_or ds i 0 = digit_value_digit (get_or ds i 0) range in

@@ -1,5 +1,6 @@
 -- What is read, and what is tested then.
-use Rattle.std.proofs.Common.{◌≡◌, ◌≤◌, ℕ, Bool, true, false, leb, ◌&&◌, Result, Ok, Err, refl, ap, ◌∙◌}
+use Rattle.std.proofs.Common.{◌≡◌, ◌≤◌, ℕ, Bool, true, false, leb, ◌&&◌, Option, Some, None, Result, Ok, Err, refl, sym, ap, ◌∙◌}
+use Rattle.std.specs.Option.{SomeIff, ok_or}
 use Rattle.std.proofs.lemmas.Bool.{leb-true, le-leb, and_parts, and_from, false_from_ne_true, cond-true, cond-false}
 use Rattle.td_base.specs.Value.{DotValue}
 use Rattle.td_base.specs.declared.dot.TheConstants.{MAX_SEQ}
@@ -49,3 +50,9 @@ dot_of_other r s site seq e f h =
     ap (λ (x : Result ℕ Kind). dot_of_numbers x s) e ∙ ap (dot_of_numbers (Ok site)) f
     ∙ cond-false {A = Result DotValue Kind} (leb 1 seq && leb seq MAX_SEQ) (Ok (record { site = site; seq = seq })) (Err Dot)
     (false_from_ne_true (leb 1 seq && leb seq MAX_SEQ) (λ (t : (leb 1 seq && leb seq MAX_SEQ) ≡ true). let parts : (leb 1 seq ≡ true) × (leb seq MAX_SEQ ≡ true) = and_parts (leb 1 seq) (leb seq MAX_SEQ) t in h (leb-true 1 seq parts.0, leb-true seq MAX_SEQ parts.1)))
+
+-- the dot that is made of a site and a number, or the fault
+pub dot_made : (r s : Result ℕ Kind) (site seq : ℕ) (o : Option DotValue) → r ≡ Ok site → s ≡ Ok seq
+    → SomeIff o ((1 ≤ seq) × (seq ≤ MAX_SEQ)) (record { site = site; seq = seq }) → ok_or o Dot ≡ dot_of_numbers r s
+dot_made r s site seq (Some d) e f made = ap (λ (x : DotValue). Ok x) made.1 ∙ sym (dot_of_both r s site seq e f made.0)
+dot_made r s site seq None e f made = sym (dot_of_other r s site seq e f made)

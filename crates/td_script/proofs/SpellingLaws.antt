@@ -19,7 +19,7 @@ use Rattle.td_script.specs.declared.word.SiteWord.{SiteWord}
 use Rattle.td_script.specs.declared.word.SiteWord.TheVariants as At
 use Rattle.td_script.specs.Arguments.{behind, by_word, bit_of, dot_of, number_of, site_of, text_at, with_rest, last, cut_word}
 use Rattle.td_script.specs.Faults.{command, flat_at, flat_beside, give_at, is_misplaced, is_too_wide, mark_at, site_command, sites_at}
-use Rattle.td_script.specs.Script.{IsNumber, IsSite, IsDot, IsClusters, IsCommand}
+use Rattle.td_script.specs.Script.{IsNumber, IsSiteOf, IsDotOf, IsClusters, IsCommand}
 use Rattle.td_script.specs.Spelling.{line_of, spaced, spaced_bit, spaced_dot, spaced_text}
 use Rattle.td_script.specs.Words.{spelling}
 use Rattle.td_script.proofs.ArgumentLaws.{decimal_lacks, number_of_decimal, number_at_there, site_at_there, sites_at_there, name_at_there, dot_at_there, bit_at_there}
@@ -32,10 +32,10 @@ use Rattle.td_script.proofs.WordLaws.{IsOpen, behind_there, word_at_there}
 number_end : (n : ℕ) → IsNumber n → by_word number_of (spaced n) ≡ Ok (n, [])
 number_end n h = ap (by_word number_of) (sym (append-nil (spaced n))) ∙ number_at_there n [] h tt
 
-site_end : (sites n : ℕ) → sites ≤ MAX_SITE → IsSite sites n → by_word (site_of sites) (spaced n) ≡ Ok (n, [])
+site_end : (sites n : ℕ) → sites ≤ MAX_SITE → IsSiteOf sites n → by_word (site_of sites) (spaced n) ≡ Ok (n, [])
 site_end sites n few h = ap (by_word (site_of sites)) (sym (append-nil (spaced n))) ∙ site_at_there sites n [] few h tt
 
-dot_end : (sites : ℕ) (d : DotValue) → sites ≤ MAX_SITE → IsDot sites d → by_word (dot_of sites) (spaced_dot d) ≡ Ok (d, [])
+dot_end : (sites : ℕ) (d : DotValue) → sites ≤ MAX_SITE → IsDotOf sites d → by_word (dot_of sites) (spaced_dot d) ≡ Ok (d, [])
 dot_end sites d few h = ap (by_word (dot_of sites)) (sym (append-nil (spaced_dot d))) ∙ dot_at_there sites d [] few h tt
 
 bit_end : (bit : Bit) → by_word bit_of (spaced_bit bit) ≡ Ok (bit, [])
@@ -80,10 +80,10 @@ give_there sites site number h =
     ∙ cond-false (bytes_eq (decimal number) (codes "all")) (Ok (GiveAll site)) (behind (with_rest [] (number_of (decimal number))) (λ number rest. last (Give site number) rest)) (not_name number (codes "all") h refl)
     ∙ behind_there _ (λ number rest. last (Give site number) rest) number [] (ap (with_rest []) (number_of_decimal number h))
 
-cancel_there : (sites site : ℕ) (d : DotValue) → sites ≤ MAX_SITE → IsDot sites d → site_command sites site At.Cancel (spaced_dot d) ≡ Ok (Cancel site d)
+cancel_there : (sites site : ℕ) (d : DotValue) → sites ≤ MAX_SITE → IsDotOf sites d → site_command sites site At.Cancel (spaced_dot d) ≡ Ok (Cancel site d)
 cancel_there sites site d few h = behind_there _ _ d [] (dot_end sites d few h)
 
-meet_there : (sites site other : ℕ) → sites ≤ MAX_SITE → IsSite sites other → site_command sites site At.Meet (spaced other) ≡ Ok (Meet site other)
+meet_there : (sites site other : ℕ) → sites ≤ MAX_SITE → IsSiteOf sites other → site_command sites site At.Meet (spaced other) ≡ Ok (Meet site other)
 meet_there sites site other few h = behind_there _ _ other [] (site_end sites other few h)
 
 mark_there : (site : ℕ) (add : Bool) (name index count : ℕ) → name ≤ 31 → IsNumber index → IsNumber count → mark_at site add (spaced name ++ (spaced index ++ spaced count)) ≡ Ok (Mark site add name index count)
@@ -92,12 +92,12 @@ mark_there site add name index count h i k =
     ∙ behind_there _ _ index (spaced count) (number_at_there index (spaced count) i refl) ∙ behind_there _ _ count [] (number_end count k)
 
 -- a command behind its word
-at_site : (size : ℕ) (before : Before) (word : SiteWord) (site : ℕ) (rest : List ℕ) (c : Command) → before.sites ≤ MAX_SITE → IsSite before.sites site → IsOpen rest
+at_site : (size : ℕ) (before : Before) (word : SiteWord) (site : ℕ) (rest : List ℕ) (c : Command) → before.sites ≤ MAX_SITE → IsSiteOf before.sites site → IsOpen rest
     → site_command before.sites site word rest ≡ Ok c → command size before (First.AtSite word) (spaced site ++ rest) ≡ Ok c
 at_site size before word site rest c few h free e =
     behind_there _ (λ site rest. site_command before.sites site word rest) site rest (site_at_there before.sites site rest few h free) ∙ e
 
-at_site_alone : (size : ℕ) (before : Before) (word : SiteWord) (site : ℕ) (c : Command) → before.sites ≤ MAX_SITE → IsSite before.sites site
+at_site_alone : (size : ℕ) (before : Before) (word : SiteWord) (site : ℕ) (c : Command) → before.sites ≤ MAX_SITE → IsSiteOf before.sites site
     → site_command before.sites site word [] ≡ Ok c → command size before (First.AtSite word) (spaced site) ≡ Ok c
 at_site_alone size before word site c few h e =
     ap (λ (xs : List ℕ). command size before (First.AtSite word) xs) (sym (append-nil (spaced site))) ∙ at_site size before word site [] c few h tt e
@@ -152,7 +152,7 @@ line_there size before (Meet site other) few h =
     line_at_site size before At.Meet (spaced site ++ spaced other) _ _ refl (at_site size before At.Meet site (spaced other) (Meet site other) few h.0 refl (meet_there before.sites site other few h.1))
 line_there size before (Marks site) few h = line_at_site size before At.Marks (spaced site) _ _ refl (at_site_alone size before At.Marks site (Marks site) few h refl)
 
-pub sites_line_there : (size : ℕ) (before : Before) (n : ℕ) → IsSite MAX_SITE n → is_too_wide size n ≡ false → IsLineOf size before (line_of (Sites n)) (Sites n) (ltb 0 before.sites)
+pub sites_line_there : (size : ℕ) (before : Before) (n : ℕ) → IsSiteOf MAX_SITE n → is_too_wide size n ≡ false → IsLineOf size before (line_of (Sites n)) (Sites n) (ltb 0 before.sites)
 sites_line_there size before n h narrow = record {
   word = First.Sites;
   rest = spaced n;

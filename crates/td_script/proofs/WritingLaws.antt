@@ -18,7 +18,7 @@ use Rattle.td_script.specs.declared.command.Command.{Command}
 use Rattle.td_script.specs.declared.command.Command.TheVariants.{Sites, Ins, Paste, Del, Flat, FlatAuto, Cancel, Give, GiveAll, Settle, Show, Tree, Count, Mark, Meet, Marks}
 use Rattle.td_script.specs.declared.command.Place.TheVariants.{Whole, Beside}
 use Rattle.td_script.specs.Lines.{is_control, is_text_line}
-use Rattle.td_script.specs.Script.{IsClusters, IsCommand, IsDot, IsNumber, IsSite, IsTextByte, IsWritable}
+use Rattle.td_script.specs.Script.{IsClusters, IsCommand, IsDotOf, IsNumber, IsSiteOf, IsTextByte, IsWritable}
 use Rattle.td_script.specs.Spelling.{line_of, spaced, spaced_bit, spaced_dot, spaced_text}
 use Rattle.td_script.specs.Texts.{escaped}
 use Rattle.td_script.proofs.CommandLaws.{decimal_utf8}
@@ -58,10 +58,10 @@ digits_clean n small = record {
 spaced_clean : (n : ℕ) → IsNumber n → IsClean (spaced n)
 spaced_clean n small = both (32 ∷ []) (decimal n) (by_test (32 ∷ []) refl refl) (digits_clean n small)
 
-site_clean : (sites n : ℕ) → sites ≤ MAX_SITE → IsSite sites n → IsClean (spaced n)
+site_clean : (sites n : ℕ) → sites ≤ MAX_SITE → IsSiteOf sites n → IsClean (spaced n)
 site_clean sites n few h = spaced_clean n (omega (arith, h.1))
 
-dot_clean : (sites : ℕ) (d : DotValue) → sites ≤ MAX_SITE → IsDot sites d → IsClean (spaced_dot d)
+dot_clean : (sites : ℕ) (d : DotValue) → sites ≤ MAX_SITE → IsDotOf sites d → IsClean (spaced_dot d)
 dot_clean sites d few h = both (spaced d.site) (46 ∷ decimal d.seq) (site_clean sites d.site few h.0) (both (46 ∷ []) (decimal d.seq) (by_test (46 ∷ []) refl refl) (digits_clean d.seq (omega (arith, h.2))))
 
 bit_clean : (bit : Bit) → IsClean (spaced_bit bit)
@@ -90,10 +90,10 @@ text_clean atoms h k =
     both (32 ∷ 34 ∷ []) (flat_map escaped (concat atoms) ++ 34 ∷ []) (by_test (32 ∷ 34 ∷ []) refl refl) (both (flat_map escaped (concat atoms)) (34 ∷ []) inner (by_test (34 ∷ []) refl refl))
 
 -- a word, a site and the rest of a line
-line_clean : (word : List ℕ) (sites site : ℕ) (rest : List ℕ) → list_any is_control word ≡ false → list_all (λ b. ltb b 128) word ≡ true → sites ≤ MAX_SITE → IsSite sites site → IsClean rest → IsClean (word ++ (spaced site ++ rest))
+line_clean : (word : List ℕ) (sites site : ℕ) (rest : List ℕ) → list_any is_control word ≡ false → list_all (λ b. ltb b 128) word ≡ true → sites ≤ MAX_SITE → IsSiteOf sites site → IsClean rest → IsClean (word ++ (spaced site ++ rest))
 line_clean word sites site rest h k few is clean = both word (spaced site ++ rest) (by_test word h k) (both (spaced site) rest (site_clean sites site few is) clean)
 
-alone_clean : (word : List ℕ) (sites site : ℕ) → list_any is_control word ≡ false → list_all (λ b. ltb b 128) word ≡ true → sites ≤ MAX_SITE → IsSite sites site → IsClean (word ++ spaced site)
+alone_clean : (word : List ℕ) (sites site : ℕ) → list_any is_control word ≡ false → list_all (λ b. ltb b 128) word ≡ true → sites ≤ MAX_SITE → IsSiteOf sites site → IsClean (word ++ spaced site)
 alone_clean word sites site h k few is = both word (spaced site) (by_test word h k) (site_clean sites site few is)
 
 command_clean : (sites : ℕ) (c : Command) → sites ≤ MAX_SITE → IsCommand sites c → IsWritable c → IsClean (line_of c)
@@ -122,5 +122,5 @@ command_clean sites (Marks site) few h k = alone_clean (codes "marks") sites sit
 pub others_written : (sites : ℕ) (c : Command) → sites ≤ MAX_SITE → IsCommand sites c → IsWritable c → is_text_line (line_of c) ≡ true
 others_written sites c few h k = text_line (line_of c) (command_clean sites c few h k)
 
-pub sites_written : (n : ℕ) → IsSite MAX_SITE n → is_text_line (line_of (Sites n)) ≡ true
+pub sites_written : (n : ℕ) → IsSiteOf MAX_SITE n → is_text_line (line_of (Sites n)) ≡ true
 sites_written n h = text_line (line_of (Sites n)) (alone_clean (codes "sites") MAX_SITE n refl refl (omega arith) h)

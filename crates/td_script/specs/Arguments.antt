@@ -1,6 +1,7 @@
--- The arguments of commands, each with its own fault. An argument is read from what is left of a line, and leaves what stands
--- behind it.
-use Rattle.std.specs.Prelude.{ℕ, Bool, true, false, ◌&&◌, ◌==◌, nat_le, List, [], ◌∷◌, Option, Some, None, Result, Ok, Err, codes, length, bytes_eq, if◌then◌else◌}
+-- The arguments of commands, each with its own fault. An argument is read from what is left of a line, and leaves what
+-- stands behind it.
+use Rattle.std.specs.Prelude.{ℕ, Bool, true, false, ◌&&◌, ◌==◌, nat_le, nat_lt, if◌then◌else◌}
+use Rattle.std.specs.Prelude.{List, [], ◌∷◌, Option, Some, None, Result, Ok, Err, codes, length, bytes_eq}
 use Rattle.std.specs.List.{list_all}
 use Rattle.std.specs.Str.Parse.{digits_value}
 use Rattle.td_base.specs.Value.{DotValue}
@@ -8,8 +9,11 @@ use Rattle.td_base.specs.declared.bit.Bit.{Bit}
 use Rattle.td_base.specs.declared.bit.Bit.TheVariants.{Left, Right}
 use Rattle.td_base.specs.declared.dot.TheConstants.{MAX_SEQ}
 use Rattle.td_base.specs.declared.site.TheConstants.{MAX_SITE}
+use Rattle.td_script.specs.declared.argument.TheConstants.{MAX_NAME}
 use Rattle.td_script.specs.declared.kind.Kind.{Kind}
 use Rattle.td_script.specs.declared.kind.Kind.TheVariants as Fault
+use Rattle.td_script.specs.declared.number.TheConstants.{MAX_DIGITS}
+use Rattle.td_script.specs.Characters.{space, quote, point}
 use Rattle.td_script.specs.Texts.{unquoted, is_short}
 use Rattle.unicode_segmentation.specs.Grapheme.{graphemes}
 
@@ -34,13 +38,13 @@ onto_word byte cut = (byte ∷ cut.0, cut.1)
 -- a word goes to the next space or to the end
 abbrev pub cut_word : List ℕ → List ℕ × List ℕ
 cut_word [] = ([], [])
-cut_word (byte ∷ bytes) = if byte == 0x20 then ([], byte ∷ bytes) else onto_word byte (cut_word bytes)
+cut_word (byte ∷ bytes) = if byte == space then ([], byte ∷ bytes) else onto_word byte (cut_word bytes)
 
 -- what an argument begins with: exactly one space, and something behind it
 abbrev pub argument : List ℕ → Result (List ℕ) Kind
 argument [] = Err Fault.End
 argument (_ ∷ []) = Err Fault.End
-argument (space ∷ byte ∷ bytes) = if space == 0x20 then Ok (byte ∷ bytes) else Err Fault.End
+argument (first ∷ byte ∷ bytes) = if first == space then Ok (byte ∷ bytes) else Err Fault.End
 
 abbrev pub word_of_argument : Result (List ℕ) Kind → Reading (List ℕ)
 word_of_argument (Ok bytes) = Ok (cut_word bytes)
@@ -60,11 +64,12 @@ by_word read rest = behind (word_at rest) (λ word rest. with_rest rest (read wo
 abbrev pub is_digit : ℕ → Bool
 is_digit byte = nat_le 0x30 byte && nat_le byte 0x39
 
--- a number: `0`, or a digit from 1 to 9 and at most eight more
+-- a number: `0`, or a digit from 1 to 9 and others, up to `MAX_DIGITS`
 abbrev pub is_number : List ℕ → Bool
 is_number [] = false
 is_number (digit ∷ digits) =
-    if digit == 0x30 then nat_le (length digits) 0 else list_all is_digit (digit ∷ digits) && nat_le (length digits) 8
+    if digit == 0x30 then nat_le (length digits) 0 else
+    list_all is_digit (digit ∷ digits) && nat_lt (length digits) MAX_DIGITS
 
 abbrev pub number_of : List ℕ → Result ℕ Kind
 number_of word = if is_number word then Ok (digits_value 10 word) else Err Fault.Number
@@ -87,7 +92,7 @@ sites_of word = tested (is_site MAX_SITE) Fault.Sites (number_of word)
 
 -- a name of a mark
 abbrev pub name_of : List ℕ → Result ℕ Kind
-name_of word = tested (λ n. nat_le n 31) Fault.Number (number_of word)
+name_of word = tested (λ n. nat_le n MAX_NAME) Fault.Number (number_of word)
 
 abbrev pub onto_part : ℕ → Option (List ℕ × List ℕ) → Option (List ℕ × List ℕ)
 onto_part byte (Some cut) = Some (onto_word byte cut)
@@ -96,10 +101,11 @@ onto_part byte None = None
 -- the two parts round the first point
 abbrev pub cut_dot : List ℕ → Option (List ℕ × List ℕ)
 cut_dot [] = None
-cut_dot (byte ∷ bytes) = if byte == 0x2e then Some ([], bytes) else onto_part byte (cut_dot bytes)
+cut_dot (byte ∷ bytes) = if byte == point then Some ([], bytes) else onto_part byte (cut_dot bytes)
 
 abbrev pub dot_of_numbers : Result ℕ Kind → Result ℕ Kind → Result DotValue Kind
-dot_of_numbers (Ok site) (Ok seq) = if nat_le 1 seq && nat_le seq MAX_SEQ then Ok (record { site = site; seq = seq }) else Err Fault.Dot
+dot_of_numbers (Ok site) (Ok seq) =
+    if nat_le 1 seq && nat_le seq MAX_SEQ then Ok (record { site = site; seq = seq }) else Err Fault.Dot
 dot_of_numbers _ _ = Err Fault.Dot
 
 abbrev pub dot_of_parts : ℕ → Option (List ℕ × List ℕ) → Result DotValue Kind
@@ -125,7 +131,7 @@ clusters_of (Some read) =
 abbrev pub opened : Result (List ℕ) Kind → Reading (List (List ℕ))
 opened (Err kind) = Err kind
 opened (Ok []) = Err Fault.Quote
-opened (Ok (quote ∷ bytes)) = if quote == 0x22 then clusters_of (unquoted false bytes) else Err Fault.Quote
+opened (Ok (byte ∷ bytes)) = if byte == quote then clusters_of (unquoted false bytes) else Err Fault.Quote
 
 -- a text in quotes, in clusters
 abbrev pub text_at : List ℕ → Reading (List (List ℕ))

@@ -1,7 +1,8 @@
 -- How the kinds of faults are printed.
 use Rattle.std.specs.Prelude.{ℕ, List, codes}
 use Rattle.td_script.specs.declared.kind.Kind.{Kind}
-use Rattle.td_script.specs.declared.kind.Kind.TheVariants.{Size, Long, Bytes, Word, Sites, End, Number, Site, Editor, Turns, Loss, Calls, Dot, Quote, Atom}
+use Rattle.td_script.specs.declared.kind.Kind.TheVariants.{Size, Long, Bytes, Word, Sites, End, Number, Site}
+use Rattle.td_script.specs.declared.kind.Kind.TheVariants.{Editor, Turns, Loss, Calls, Dot, Quote, Atom}
 
 abbrev pub kind_name : Kind → List ℕ
 kind_name Size = codes "size"

@@ -1,4 +1,5 @@
 pub mod Kinds
+pub mod Characters
 pub mod Lines
 pub mod Texts
 pub mod Spelling

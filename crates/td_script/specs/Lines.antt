@@ -2,6 +2,7 @@
 use Rattle.std.specs.Prelude.{ℕ, Bool, true, not, ◌&&◌, ◌||◌, ◌==◌, nat_lt, List, [], ◌∷◌, if◌then◌else◌}
 use Rattle.std.specs.List.{list_any}
 use Rattle.std.specs.Str.{is_utf8}
+use Rattle.td_script.specs.Characters.{line_feed, number_sign}
 
 -- a byte at the front of the first line
 abbrev pub onto_first : ℕ → List (List ℕ) → List (List ℕ)
@@ -10,7 +11,7 @@ onto_first byte (line ∷ lines) = (byte ∷ line) ∷ lines
 
 abbrev pub lines_of : List ℕ → List (List ℕ)
 lines_of [] = []
-lines_of (byte ∷ bytes) = if byte == 0x0a then [] ∷ lines_of bytes else onto_first byte (lines_of bytes)
+lines_of (byte ∷ bytes) = if byte == line_feed then [] ∷ lines_of bytes else onto_first byte (lines_of bytes)
 
 -- a control character of ASCII
 abbrev pub is_control : ℕ → Bool
@@ -23,4 +24,4 @@ is_text_line line = not (list_any is_control line) && is_utf8 line
 -- an empty line, and a line that begins with `#`, says nothing
 abbrev pub is_skipped : List ℕ → Bool
 is_skipped [] = true
-is_skipped (byte ∷ _) = byte == 0x23
+is_skipped (byte ∷ _) = byte == number_sign

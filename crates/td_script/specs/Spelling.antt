@@ -6,21 +6,23 @@ use Rattle.td_base.specs.Value.{DotValue}
 use Rattle.td_base.specs.declared.bit.Bit.{Bit}
 use Rattle.td_base.specs.declared.bit.Bit.TheVariants.{Left, Right}
 use Rattle.td_script.specs.declared.command.Command.{Command}
-use Rattle.td_script.specs.declared.command.Command.TheVariants.{Sites, Ins, Paste, Del, Flat, FlatAuto, Cancel, Give, GiveAll, Settle, Show, Tree, Count, Mark, Meet, Marks}
+use Rattle.td_script.specs.declared.command.Command.TheVariants.{Sites, Ins, Paste, Del, Flat, FlatAuto, Cancel, Give}
+use Rattle.td_script.specs.declared.command.Command.TheVariants.{GiveAll, Settle, Show, Tree, Count, Mark, Meet, Marks}
 use Rattle.td_script.specs.declared.command.Place.TheVariants.{Whole, Beside}
+use Rattle.td_script.specs.Characters.{space, point}
 use Rattle.td_script.specs.Texts.{quoted}
 
 -- a number behind a space
 abbrev pub spaced : ℕ → List ℕ
-spaced n = 0x20 ∷ decimal n
+spaced n = space ∷ decimal n
 
 -- a dot behind a space
 abbrev pub spaced_dot : DotValue → List ℕ
-spaced_dot d = spaced d.site ++ 0x2e ∷ decimal d.seq
+spaced_dot d = spaced d.site ++ point ∷ decimal d.seq
 
 -- the text of the atoms, in quotes, behind a space
 abbrev pub spaced_text : List (List ℕ) → List ℕ
-spaced_text atoms = 0x20 ∷ quoted (concat atoms)
+spaced_text atoms = space ∷ quoted (concat atoms)
 
 abbrev pub spaced_bit : Bit → List ℕ
 spaced_bit Left = codes " left"
@@ -41,7 +43,9 @@ line_of Settle = codes "settle"
 line_of (Show site) = codes "show" ++ spaced site
 line_of (Tree site) = codes "tree" ++ spaced site
 line_of (Count site) = codes "count" ++ spaced site
-line_of (Mark site true name index count) = codes "mark" ++ (spaced site ++ (spaced name ++ (spaced index ++ spaced count)))
-line_of (Mark site false name index count) = codes "unmark" ++ (spaced site ++ (spaced name ++ (spaced index ++ spaced count)))
+line_of (Mark site true name index count) =
+    codes "mark" ++ (spaced site ++ (spaced name ++ (spaced index ++ spaced count)))
+line_of (Mark site false name index count) =
+    codes "unmark" ++ (spaced site ++ (spaced name ++ (spaced index ++ spaced count)))
 line_of (Meet site other) = codes "meet" ++ (spaced site ++ spaced other)
 line_of (Marks site) = codes "marks" ++ spaced site

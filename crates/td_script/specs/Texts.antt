@@ -1,27 +1,29 @@
 -- How a text is written in quotes, and its clusters (UAX #29).
-use Rattle.std.specs.Prelude.{◌≡◌, ◌<◌, ◌≤◌, ◌==◌, ◌||◌, ℕ, Bool, true, false, List, [], ◌∷◌, ◌++◌, Option, Some, None, codes, length, nat_le, All, ⊤, if◌then◌else◌}
+use Rattle.std.specs.Prelude.{◌≡◌, ◌<◌, ◌≤◌, ◌==◌, ◌||◌, ℕ, nat_le, Bool, true, false, if◌then◌else◌, ⊤}
+use Rattle.std.specs.Prelude.{List, [], ◌∷◌, ◌++◌, Option, Some, None, codes, length, All}
 use Rattle.std.specs.List.{flat_map}
 use Rattle.td_base.specs.declared.atom.TheConstants.{MAX_ATOM_LEN}
 use Rattle.td_script.specs.declared.clusters.CutFault.{CutFault}
 use Rattle.td_script.specs.declared.clusters.CutFault.TheVariants.{Long, Memory}
+use Rattle.td_script.specs.Characters.{line_feed, quote, backslash}
 
 -- a byte of a text, as it is written: the quote, the backslash and LF have escapes
 abbrev pub escaped : ℕ → List ℕ
 escaped byte =
-    if byte == 0x22 then codes "\\\"" else
-    if byte == 0x5c then codes "\\\\" else
-    if byte == 0x0a then codes "\\n" else
+    if byte == quote then codes "\\\"" else
+    if byte == backslash then codes "\\\\" else
+    if byte == line_feed then codes "\\n" else
     byte ∷ []
 
 abbrev pub quoted : List ℕ → List ℕ
-quoted text = 0x22 ∷ (flat_map escaped text ++ 0x22 ∷ [])
+quoted text = quote ∷ (flat_map escaped text ++ quote ∷ [])
 
--- the byte that is written so, maybe behind a backslash
+-- the byte that is written so, maybe behind a backslash, where `n` is written for LF
 abbrev pub unescaped : Bool → ℕ → Option ℕ
 unescaped false byte = Some byte
 unescaped true byte =
-    if byte == 0x22 || byte == 0x5c then Some byte else
-    if byte == 0x6e then Some 0x0a else
+    if byte == quote || byte == backslash then Some byte else
+    if byte == 0x6e then Some line_feed else
     None
 
 -- a byte in front of a text, of which something is left behind it
@@ -33,8 +35,8 @@ onto_text _ _ = None
 abbrev pub unquoted : Bool → List ℕ → Option (List ℕ × List ℕ)
 unquoted _ [] = None
 unquoted false (byte ∷ bytes) =
-    if byte == 0x22 then Some ([], bytes) else
-    if byte == 0x5c then unquoted true bytes else
+    if byte == quote then Some ([], bytes) else
+    if byte == backslash then unquoted true bytes else
     onto_text (unescaped false byte) (unquoted false bytes)
 unquoted true (byte ∷ bytes) = onto_text (unescaped true byte) (unquoted false bytes)
 

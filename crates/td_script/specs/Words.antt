@@ -2,7 +2,8 @@
 use Rattle.std.specs.Prelude.{ℕ, List, [], ◌∷◌, Option, codes, find, bytes_eq}
 use Rattle.td_script.specs.declared.word.Word.{Word}
 use Rattle.td_script.specs.declared.word.Word.TheVariants.{Sites, Settle, AtSite}
-use Rattle.td_script.specs.declared.word.SiteWord.TheVariants.{Ins, Paste, Del, Flat, Cancel, Give, Show, Tree, Count, Mark, Unmark, Meet, Marks}
+use Rattle.td_script.specs.declared.word.SiteWord.TheVariants.{Ins, Paste, Del, Flat, Cancel}
+use Rattle.td_script.specs.declared.word.SiteWord.TheVariants.{Give, Show, Tree, Count, Mark, Unmark, Meet, Marks}
 
 abbrev pub spelling : Word → List ℕ
 spelling Sites = codes "sites"
@@ -23,8 +24,8 @@ spelling (AtSite Marks) = codes "marks"
 
 abbrev pub words : List Word
 words =
-    Sites ∷ Settle ∷ AtSite Ins ∷ AtSite Paste ∷ AtSite Del ∷ AtSite Flat ∷ AtSite Cancel ∷ AtSite Give ∷ AtSite Show ∷ AtSite Tree
-    ∷ AtSite Count ∷ AtSite Mark ∷ AtSite Unmark ∷ AtSite Meet ∷ AtSite Marks ∷ []
+    Sites ∷ Settle ∷ AtSite Ins ∷ AtSite Paste ∷ AtSite Del ∷ AtSite Flat ∷ AtSite Cancel ∷ AtSite Give ∷ AtSite Show
+    ∷ AtSite Tree ∷ AtSite Count ∷ AtSite Mark ∷ AtSite Unmark ∷ AtSite Meet ∷ AtSite Marks ∷ []
 
 -- the word that is written so
 abbrev pub word_named : List ℕ → Option Word

@@ -1,13 +1,14 @@
 // Arguments of one word: each is read from what is left of a line, and leaves what stands behind it.
 ghost use Rattle.std.specs.Prelude.{◌≡◌, ◌≤◌, MatchResult, Ok, Err};
-ghost use Rattle.td_script.specs.Arguments.{argument, bit_of, by_word, cut_word, dot_of, last, name_of, number_of, site_of, word_at};
+ghost use Rattle.td_script.specs.Arguments.{argument, by_word, cut_word, last, word_at};
+ghost use Rattle.td_script.specs.Arguments.{bit_of, dot_of, name_of, number_of, site_of};
 
 use crate::kind::Kind;
 use crate::number::number_of;
 use td_base::{Bit, Dot, MAX_SITE, Site};
 
 /// The greatest name of a mark.
-const MAX_NAME: u32 = 31;
+pub(crate) const MAX_NAME: u32 = 31;
 
 /// What stands up to the next space or to the end, and what stands from there on.
 pub(crate) fn split_word(text: &str) -> (&str, &str)
@@ -29,7 +30,8 @@ pub(crate) fn argument(rest: &str) -> Result<&str, Kind>
 
 /// The word of an argument.
 pub(crate) fn next_word(rest: &str) -> Result<(&str, &str), Kind>
-    ensures { MatchResult result (λ read. word_at rest.now ≡ Ok (read.0.now, read.1.now)) (λ kind. word_at rest.now ≡ Err kind) }
+    ensures { let read = word_at rest.now in
+        MatchResult result (λ found. read ≡ Ok (found.0.now, found.1.now)) (λ kind. read ≡ Err kind) }
 {
     let text = argument(rest)?;
     Ok(split_word(text))
@@ -39,15 +41,13 @@ pub(crate) fn next_word(rest: &str) -> Result<(&str, &str), Kind>
 pub(crate) fn number_word(word: &str) -> Result<u32, Kind>
     ensures { result ≡ number_of word.now }
 {
-    match number_of(word.as_bytes()) {
-        Some(number) => Ok(number),
-        None => Err(Kind::Number),
-    }
+    number_of(word.as_bytes()).ok_or(Kind::Number)
 }
 
 /// A number.
 pub(crate) fn number(rest: &str) -> Result<(u32, &str), Kind>
-    ensures { MatchResult result (λ read. by_word number_of rest.now ≡ Ok (read.0, read.1.now)) (λ kind. by_word number_of rest.now ≡ Err kind) }
+    ensures { let read = by_word number_of rest.now in
+        MatchResult result (λ found. read ≡ Ok (found.0, found.1.now)) (λ kind. read ≡ Err kind) }
 {
     let (text, rest) = next_word(rest)?;
     let number = number_word(text)?;
@@ -56,7 +56,8 @@ pub(crate) fn number(rest: &str) -> Result<(u32, &str), Kind>
 
 /// A name of a mark.
 pub(crate) fn mark_name(rest: &str) -> Result<(u8, &str), Kind>
-    ensures { MatchResult result (λ read. by_word name_of rest.now ≡ Ok (read.0, read.1.now)) (λ kind. by_word name_of rest.now ≡ Err kind) }
+    ensures { let read = by_word name_of rest.now in
+        MatchResult result (λ found. read ≡ Ok (found.0, found.1.now)) (λ kind. read ≡ Err kind) }
 {
     let (name, rest) = number(rest)?;
     if name > MAX_NAME {
@@ -74,10 +75,7 @@ pub(crate) fn site_word(word: &str, sites: u8) -> Result<Site, Kind>
     if number > u32::from(sites) {
         return Err(Kind::Site);
     }
-    match Site::new(number as u8) {
-        Some(site) => Ok(site),
-        None => Err(Kind::Site),
-    }
+    Site::new(number as u8).ok_or(Kind::Site)
 }
 
 /// The dot that the word is, of so many sites.
@@ -91,10 +89,7 @@ pub(crate) fn dot_word(word: &str, sites: u8) -> Result<Dot, Kind>
     let (Ok(site), Ok(seq)) = (site_word(site, sites), number_word(seq)) else {
         return Err(Kind::Dot);
     };
-    match Dot::new(site, seq) {
-        Some(dot) => Ok(dot),
-        None => Err(Kind::Dot),
-    }
+    Dot::new(site, seq).ok_or(Kind::Dot)
 }
 
 /// The bit that the word is.

@@ -42,18 +42,21 @@ impl Atoms {
         Ok(())
     }
 
+    /// How many atoms there are.
     pub fn len(&self) -> u32
         ensures { result ≡ length self.now }
     {
         self.items.len() as u32
     }
 
+    /// Whether there are none.
     pub fn is_empty(&self) -> bool
         ensures { IsTrue result ↔ (self.now ≡ []) }
     {
         self.items.is_empty()
     }
 
+    /// The atoms, in order.
     pub fn as_slice(&self) -> &[Atom]
         ensures { result.now ≡ self.now }
     {

@@ -10,7 +10,7 @@ use crate::word::Word;
 pub(crate) const MAX_NARROW: u8 = 16;
 
 /// The greatest number of sites at which the requests of a script are not limited.
-const MAX_FREE: u8 = 8;
+pub(crate) const MAX_FREE: u8 = 8;
 
 /// What stands before a line.
 #[derive(Clone, Copy)]

@@ -39,6 +39,7 @@ impl Commands {
         Ok(())
     }
 
+    /// The commands, in order.
     pub fn as_slice(&self) -> &[Command]
         ensures { result.now ≡ self.now }
     {

@@ -10,10 +10,7 @@ pub(crate) fn text_of_line(line: &[u8]) -> Option<&str>
     if has_control(line) {
         return None;
     }
-    match str::from_utf8(line) {
-        Ok(text) => Some(text),
-        Err(_) => None,
-    }
+    str::from_utf8(line).ok()
 }
 
 // Whether the line has a control character of ASCII.
@@ -27,10 +24,7 @@ fn has_control(line: &[u8]) -> bool
 pub(crate) fn is_skipped(line: &str) -> bool
     ensures { result ≡ is_skipped line.now }
 {
-    match line.as_bytes().first() {
-        None => true,
-        Some(byte) => *byte == b'#',
-    }
+    line.is_empty() || line.starts_with('#')
 }
 
 /// The first line, without its LF, and what stands behind it.
@@ -39,10 +33,7 @@ pub(crate) fn split_line(bytes: &[u8]) -> (&[u8], &[u8])
     ensures lines { lines_of bytes.now ≡ result.0.now ∷ lines_of result.1.now }
     ensures shorter { length result.1.now < length bytes.now }
 {
-    match split_once(bytes, b'\n') {
-        Some(parts) => parts,
-        None => (bytes, &[]),
-    }
+    split_once(bytes, b'\n').unwrap_or((bytes, &[]))
 }
 
 // What stands before the first such byte, and what stands behind it.

@@ -2,12 +2,12 @@ ghost use Rattle.std.specs.Prelude.{◌≡◌, ◌≢◌, ◌<◌, ◌^◌, ◌�
 ghost use Rattle.std.specs.Fmt.{decimal};
 
 /// The greatest number of digits of a number.
-const MAX_DIGITS: usize = 9;
+pub(crate) const MAX_DIGITS: usize = 9;
 
-/// The number that is written in these digits: `0`, or a digit from 1 to 9 and at most eight more.
+/// The number that is written in these digits: `0`, or a digit from 1 to 9 and others, up to `MAX_DIGITS`.
 pub(crate) fn number_of(digits: &[u8]) -> Option<u32>
-    ensures some { IfSome result (λ n. (n < 10 ^ 9) × (digits.now ≡ decimal n)) }
-    ensures none { IfNone result ((n : ℕ) → n < 10 ^ 9 → digits.now ≢ decimal n) }
+    ensures some { IfSome result (λ n. (n < 10 ^ MAX_DIGITS) × (digits.now ≡ decimal n)) }
+    ensures none { IfNone result ((n : ℕ) → n < 10 ^ MAX_DIGITS → digits.now ≢ decimal n) }
 {
     if !is_number(digits) {
         return None;
@@ -20,7 +20,7 @@ pub(crate) fn number_of(digits: &[u8]) -> Option<u32>
 }
 
 fn is_number(digits: &[u8]) -> bool
-    ensures { IsTrue result ↔ ((n : ℕ) × (n < 10 ^ 9) × (digits.now ≡ decimal n)) }
+    ensures { IsTrue result ↔ ((n : ℕ) × (n < 10 ^ MAX_DIGITS) × (digits.now ≡ decimal n)) }
 {
     match digits.first() {
         None => false,

@@ -1,4 +1,4 @@
-ghost use Rattle.std.specs.Prelude.{◌≡◌, ◌≤◌, ◌++◌, ◌∷◌, false, IfOk, IfSome, IfNone, Some, None, length, drop, string_bytes};
+ghost use Rattle.std.specs.Prelude.{◌≡◌, ◌≤◌, false, IfOk, IfSome, IfNone, Some, None, length, drop, string_bytes};
 ghost use Rattle.td_script.specs.Answers.{IsLineAnswer};
 ghost use Rattle.td_script.specs.Arguments.{behind, last, text_at};
 ghost use Rattle.td_script.specs.Texts.{unescaped, unquoted};

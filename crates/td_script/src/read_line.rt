@@ -1,6 +1,6 @@
 ghost use Rattle.std.specs.Prelude.{◌≡◌, ◌<◌, ◌≤◌, ◌^◌};
 ghost use Rattle.td_script.specs.Arguments.{cut_word};
-ghost use Rattle.td_script.specs.Faults.{judged, named};
+ghost use Rattle.td_script.specs.Faults.{judged, command_named};
 ghost use Rattle.td_script.specs.Answers.{IsLineAnswer};
 ghost use Rattle.td_script.specs.Words.{word_named};
 
@@ -29,9 +29,7 @@ pub(crate) fn read_line(
     if line.len() > MAX_LINE {
         return Err(LineFault::Faulty(Kind::Long));
     }
-    let Some(line) = text_of_line(line) else {
-        return Err(LineFault::Faulty(Kind::Bytes));
-    };
+    let line = text_of_line(line).ok_or(Kind::Bytes)?;
     if is_skipped(line) {
         return Ok(None);
     }
@@ -48,12 +46,10 @@ fn read_command(
 ) -> Result<Command, LineFault>
     requires sites { before.sites ≤ MAX_SITE }
     requires requests { before.requests < 2 ^ 63 }
-    ensures { IsLineAnswer (named size before (word_named (cut_word line.now).0) (cut_word line.now).1) result }
+    ensures { IsLineAnswer (command_named size before (word_named (cut_word line.now).0) (cut_word line.now).1) result }
 {
     let (name, rest) = split_word(line);
-    let Some(word) = Word::named(name) else {
-        return Err(LineFault::Faulty(Kind::Word));
-    };
+    let word = Word::named(name).ok_or(Kind::Word)?;
     if before.is_misplaced(word) {
         return Err(LineFault::Faulty(Kind::Sites));
     }

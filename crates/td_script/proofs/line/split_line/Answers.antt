@@ -1,12 +1,8 @@
-use Rattle.std.proofs.Common.{◌∙◌, ap}
-use Rattle.td_script.specs.Lines.{lines_of}
-use Rattle.td_script.proofs.Cutting.{line_cut, one_line}
+use Rattle.std.proofs.Common.{refl}
+use Rattle.td_script.proofs.Cutting.{first_line}
 use Rattle.td_script.proofs.line.split_line.Goals as goal
 
-pub returns-in-Some-clause-lines : goal.returns-in-Some-clause-lines
-returns-in-Some-clause-lines c =
-    let parts = c.in-Some.ensures.some in
-    ap lines_of parts.1 ∙ line_cut c.in-Some.parts.0.now c.in-Some.parts.1.now parts.0
-
-pub returns-in-None-clause-lines : goal.returns-in-None-clause-lines
-returns-in-None-clause-lines c = one_line c.args.bytes.now c.requires c.in-None.ensures.none
+pub returns-clause-lines : goal.returns-clause-lines
+returns-clause-lines c =
+    rw c.unwrap_or.ensures
+    (first_line c.args.bytes.now c.split_once.result _ refl refl c.requires c.split_once.ensures.some c.split_once.ensures.none)
