@@ -1,8 +1,8 @@
 -- Each argument: its spelling is read as its value, and what is read is its spelling.
-use Rattle.std.proofs.Common.{◌≡◌, ◌≢◌, ◌<◌, ◌≤◌, ◌^◌, ℕ, Bool, true, false, cond, eqb, leb, ◌&&◌, List, [], ◌∷◌, ◌++◌, get_or, codes, Option, Some, None, Result, Ok, Err, refl, ap, subst, ◌∙◌, bytes_eq, length-append, arith}
+use Rattle.std.proofs.Common.{◌≡◌, ◌≢◌, ◌<◌, ◌≤◌, ◌^◌, ℕ, Bool, true, false, cond, eqb, leb, List, [], ◌∷◌, ◌++◌, get_or, codes, Option, Some, None, Result, Ok, Err, refl, ap, subst, ◌∙◌, bytes_eq, length-append, arith}
 use Rattle.std.specs.Fmt.{decimal}
-use Rattle.std.specs.Int.{IsInRange}
-use Rattle.std.proofs.lemmas.Bool.{eqb-true, leb-true, le-leb, and_parts}
+use Rattle.std.specs.Int.{is_in_range, IsInRange}
+use Rattle.std.proofs.lemmas.Bool.{eqb-true, leb-true, le-leb}
 use Rattle.std.proofs.lemmas.List.{get_or_default}
 use Rattle.std.proofs.lemmas.List.Elements.{All-append}
 use Rattle.std.proofs.lemmas.Slice.Eq.{bytes_eq-Decides}
@@ -13,13 +13,13 @@ use Rattle.td_base.specs.declared.dot.TheConstants.{MAX_SEQ}
 use Rattle.td_base.specs.declared.site.TheConstants.{MAX_SITE}
 use Rattle.td_script.specs.declared.kind.Kind.{Kind}
 use Rattle.td_script.specs.declared.kind.Kind.TheVariants as Fault
-use Rattle.td_script.specs.Arguments.{tested, by_word, number_of, site_of, sites_of, name_of, dot_of, dot_of_parts, dot_of_numbers, cut_dot, onto_part, is_site, bit_of}
+use Rattle.td_script.specs.Arguments.{tested, by_word, number_of, site_of, sites_of, name_of, dot_of, dot_of_parts, dot_of_numbers, cut_dot, onto_part, bit_of}
 use Rattle.td_script.specs.Script.{IsNumber, IsSiteOf, IsDotOf}
 use Rattle.td_script.specs.Spelling.{spaced, spaced_dot, spaced_bit}
 use Rattle.td_script.proofs.Cutting.{dot_cut}
 use Rattle.td_script.proofs.Numbers.{form_of_decimal}
 use Rattle.td_script.proofs.NumberWords.{number_there, number_back}
-use Rattle.td_script.proofs.Results.{ok_same, err_is_no_ok, tested_in, is_site_in, is_site_back, dot_of_both}
+use Rattle.td_script.proofs.Results.{ok_same, err_is_no_ok, tested_in, in_range, range_in, dot_of_both}
 use Rattle.td_script.proofs.Splitting.{Lacks, lacks_by_test}
 use Rattle.td_script.proofs.WordLaws.{IsOpen, IsWord, by_word_there, by_word_back}
 
@@ -78,17 +78,17 @@ tested_at_back test kind Fits fits bytes n rest e =
 
 -- a site
 pub site_at_there : (sites n : ℕ) (rest : List ℕ) → sites ≤ MAX_SITE → IsSiteOf sites n → IsOpen rest → by_word (site_of sites) (spaced n ++ rest) ≡ Ok (n, rest)
-site_at_there sites n rest few h free = tested_at_there (is_site sites) Fault.Site n rest (omega (arith, h.1)) (is_site_in sites n h.0 h.1) free
+site_at_there sites n rest few h free = tested_at_there (is_in_range 1 sites) Fault.Site n rest (omega (arith, h.1)) (in_range 1 sites n h) free
 
 pub site_at_back : (sites : ℕ) (bytes : List ℕ) (n : ℕ) (rest : List ℕ) → by_word (site_of sites) bytes ≡ Ok (n, rest) → IsArgument spaced (IsSiteOf sites) bytes n rest
-site_at_back sites bytes n rest e = tested_at_back (is_site sites) Fault.Site (IsSiteOf sites) (is_site_back sites) bytes n rest e
+site_at_back sites bytes n rest e = tested_at_back (is_in_range 1 sites) Fault.Site (IsSiteOf sites) (range_in 1 sites) bytes n rest e
 
 -- how many sites there are
 pub sites_at_there : (n : ℕ) (rest : List ℕ) → IsSiteOf MAX_SITE n → IsOpen rest → by_word sites_of (spaced n ++ rest) ≡ Ok (n, rest)
-sites_at_there n rest h free = tested_at_there (is_site MAX_SITE) Fault.Sites n rest (omega (arith, h.1)) (is_site_in MAX_SITE n h.0 h.1) free
+sites_at_there n rest h free = tested_at_there (is_in_range 1 MAX_SITE) Fault.Sites n rest (omega (arith, h.1)) (in_range 1 MAX_SITE n h) free
 
 pub sites_at_back : (bytes : List ℕ) (n : ℕ) (rest : List ℕ) → by_word sites_of bytes ≡ Ok (n, rest) → IsArgument spaced (IsSiteOf MAX_SITE) bytes n rest
-sites_at_back bytes n rest e = tested_at_back (is_site MAX_SITE) Fault.Sites (IsSiteOf MAX_SITE) (is_site_back MAX_SITE) bytes n rest e
+sites_at_back bytes n rest e = tested_at_back (is_in_range 1 MAX_SITE) Fault.Sites (IsSiteOf MAX_SITE) (range_in 1 MAX_SITE) bytes n rest e
 
 -- a name of a mark
 pub name_at_there : (n : ℕ) (rest : List ℕ) → n ≤ 31 → IsOpen rest → by_word name_of (spaced n ++ rest) ≡ Ok (n, rest)
@@ -101,14 +101,14 @@ name_at_back bytes n rest e = tested_at_back (λ n. leb n 31) Fault.Number (λ n
 pub dot_at_there : (sites : ℕ) (d : DotValue) (rest : List ℕ) → sites ≤ MAX_SITE → IsDotOf sites d → IsOpen rest → by_word (dot_of sites) (spaced_dot d ++ rest) ≡ Ok (d, rest)
 dot_at_there sites d rest few h free =
     let site_small : d.site < 10 ^ 9 = omega (arith, h.0.1) in
-    let seq_small : d.seq < 10 ^ 9 = omega (arith, h.2) in
+    let seq_small : d.seq < 10 ^ 9 = omega (arith, h.1.1) in
     let lacks : Lacks 32 (decimal d.site ++ 46 ∷ decimal d.seq) =
     All-append (λ (byte : ℕ). byte ≢ 32) (decimal d.site) (46 ∷ decimal d.seq) (decimal_lacks 32 d.site site_small (omega arith))
     (All-append (λ (byte : ℕ). byte ≢ 32) (46 ∷ []) (decimal d.seq) (lacks_by_test 32 (46 ∷ []) refl) (decimal_lacks 32 d.seq seq_small (omega arith))) in
     let cut : cut_dot (decimal d.site ++ 46 ∷ decimal d.seq) ≡ Some (decimal d.site, decimal d.seq) = dot_cut (decimal d.site) (decimal d.seq) (decimal_lacks 46 d.site site_small (omega arith)) in
-    let site : site_of sites (decimal d.site) ≡ Ok d.site = tested_in (is_site sites) Fault.Site (number_of (decimal d.site)) d.site (number_of_decimal d.site site_small) (is_site_in sites d.site h.0.0 h.0.1) in
+    let site : site_of sites (decimal d.site) ≡ Ok d.site = tested_in (is_in_range 1 sites) Fault.Site (number_of (decimal d.site)) d.site (number_of_decimal d.site site_small) (in_range 1 sites d.site h.0) in
     let is : dot_of sites (decimal d.site ++ 46 ∷ decimal d.seq) ≡ Ok d =
-    ap (dot_of_parts sites) cut ∙ dot_of_both (site_of sites (decimal d.site)) (number_of (decimal d.seq)) d.site d.seq site (number_of_decimal d.seq seq_small) (h.1, h.2) in
+    ap (dot_of_parts sites) cut ∙ dot_of_both (site_of sites (decimal d.site)) (number_of (decimal d.seq)) d.site d.seq site (number_of_decimal d.seq seq_small) h.1 in
     by_word_there (dot_of sites) (decimal d.site ++ 46 ∷ decimal d.seq) rest d
     (omega (arith, length-append (decimal d.site) (46 ∷ decimal d.seq), (form_of_decimal d.site site_small).some)) lacks free is
 
@@ -136,17 +136,17 @@ cut_dot_back (b ∷ bs) front back e = at_point (eqb b 46) refl (cut_dot bs) (λ
 record HasNumbers (r s : Result ℕ Kind) (d : DotValue) : Type 0 where
   site : r ≡ Ok d.site
   seq : s ≡ Ok d.seq
-  least : 1 ≤ d.seq
-  greatest : d.seq ≤ MAX_SEQ
+  range : IsInRange 1 MAX_SEQ d.seq
 
 numbers_back : (r s : Result ℕ Kind) (d : DotValue) → dot_of_numbers r s ≡ Ok d → HasNumbers r s d
-numbers_back (Ok site) (Ok seq) d e = at_test (leb 1 seq && leb seq MAX_SEQ) refl e
+numbers_back (Ok site) (Ok seq) d e = at_test (is_in_range 1 MAX_SEQ seq) refl e
   where
-    at_test : (passes : Bool) → (leb 1 seq && leb seq MAX_SEQ) ≡ passes → cond {A = Result DotValue Kind} passes (Ok (record { site = site; seq = seq })) (Err Fault.Dot) ≡ Ok d → HasNumbers (Ok site) (Ok seq) d
+    at_test : (passes : Bool) → is_in_range 1 MAX_SEQ seq ≡ passes
+        → cond {A = Result DotValue Kind} passes (Ok (record { site = site; seq = seq })) (Err Fault.Dot) ≡ Ok d
+        → HasNumbers (Ok site) (Ok seq) d
     at_test true h e =
-        let same : record { site = site; seq = seq } ≡ d = ok_same (record { site = site; seq = seq }) d e in
-        let parts : (leb 1 seq ≡ true) × (leb seq MAX_SEQ ≡ true) = and_parts (leb 1 seq) (leb seq MAX_SEQ) h in
-        subst (HasNumbers (Ok site) (Ok seq)) same (record { site = refl; seq = refl; least = leb-true 1 seq parts.0; greatest = leb-true seq MAX_SEQ parts.1 })
+        subst (HasNumbers (Ok site) (Ok seq)) (ok_same (record { site = site; seq = seq }) d e)
+        (record { site = refl; seq = refl; range = range_in 1 MAX_SEQ seq h })
     at_test false h e = absurd (err_is_no_ok Fault.Dot d e)
 numbers_back (Ok site) (Err kind) d e = absurd (err_is_no_ok Fault.Dot d e)
 numbers_back (Err kind) s d e = absurd (err_is_no_ok Fault.Dot d e)
@@ -155,10 +155,10 @@ dot_back : (sites : ℕ) (word : List ℕ) (d : DotValue) (o : Option (List ℕ 
 dot_back sites word d None h e = absurd (err_is_no_ok Fault.Dot d e)
 dot_back sites word d (Some cut) h e =
     let numbers = numbers_back (site_of sites cut.0) (number_of cut.1) d e in
-    let site = tested_back (is_site sites) Fault.Site (number_of cut.0) d.site numbers.site in
+    let site = tested_back (is_in_range 1 sites) Fault.Site (number_of cut.0) d.site numbers.site in
     let front : cut.0 ≡ decimal d.site = (number_back cut.0 d.site site.0).1 in
     let back : cut.1 ≡ decimal d.seq = (number_back cut.1 d.seq numbers.seq).1 in (
-      (is_site_back sites d.site site.1, numbers.least, numbers.greatest),
+      (range_in 1 sites d.site site.1, numbers.range),
       cut_dot_back word cut.0 cut.1 h ∙ ap (λ (xs : List ℕ). xs ++ 46 ∷ cut.1) front ∙ ap (λ (xs : List ℕ). decimal d.site ++ 46 ∷ xs) back,
     )
 

@@ -26,7 +26,8 @@ use Rattle.td_script.specs.declared.word.SiteWord.{SiteWord}
 use Rattle.td_script.specs.declared.word.SiteWord.TheVariants as At
 use Rattle.td_script.specs.Arguments.{by_word, cut_word, last, site_of, sites_of}
 use Rattle.td_script.specs.Faults.{command, is_misplaced, is_too_much, is_too_wide, judged, command_named, said, sites_at, within}
-use Rattle.td_script.specs.Lines.{is_control, is_skipped, is_text_line}
+use Rattle.std.specs.Char.{is_ascii_control}
+use Rattle.td_script.specs.Lines.{is_skipped, is_text_line}
 use Rattle.td_script.specs.Script.{IsCommand, IsLine, IsSiteOf, requests}
 use Rattle.td_script.specs.Spelling.{line_of, spaced}
 use Rattle.td_script.specs.Words.{spelling, word_named, words}
@@ -48,28 +49,28 @@ data IsPlaced (size : ℕ) (before : Before) (word : Word) (c : Command) : Type 
   at_later : IsCommand before.sites c → ((before' : Before) → is_misplaced before' word ≡ eqb before'.sites 0) → IsPlaced size before word c
 
 -- lines of UTF-8 without control characters
-pub text_parts : (line : List ℕ) → is_text_line line ≡ true → (list_any is_control line ≡ false) × IsUtf8 line
+pub text_parts : (line : List ℕ) → is_text_line line ≡ true → (list_any is_ascii_control line ≡ false) × IsUtf8 line
 text_parts line h =
-    let parts : (not (list_any is_control line) ≡ true) × (is_utf8 line ≡ true) = and_parts (not (list_any is_control line)) (is_utf8 line) h in
-    (not-true (list_any is_control line) parts.0, IsUtf8-from_is_utf8 line parts.1)
+    let parts : (not (list_any is_ascii_control line) ≡ true) × (is_utf8 line ≡ true) = and_parts (not (list_any is_ascii_control line)) (is_utf8 line) h in
+    (not-true (list_any is_ascii_control line) parts.0, IsUtf8-from_is_utf8 line parts.1)
 
 -- the text of a line that was read as UTF-8, or not
 pub text_found : {E : Type 0} (line : List ℕ) (r : Result (Bor (List ℕ)) E) (P : E → Type 0)
-    → MatchResult r (λ text. (text.now ≡ line) × IsUtf8 line) (λ e. (¬ IsUtf8 line) × P e) → list_any is_control line ≡ false
+    → MatchResult r (λ text. (text.now ≡ line) × IsUtf8 line) (λ e. (¬ IsUtf8 line) × P e) → list_any is_ascii_control line ≡ false
     → IfSome (result_ok r) (λ text. (text.now ≡ line) × (is_text_line line ≡ true))
 text_found line (Ok text) P read plain =
-    (read.0, and_from (not (list_any is_control line)) (is_utf8 line) (not_from_false (list_any is_control line) plain) (is_utf8-from_IsUtf8 line read.1))
+    (read.0, and_from (not (list_any is_ascii_control line)) (is_utf8 line) (not_from_false (list_any is_ascii_control line) plain) (is_utf8-from_IsUtf8 line read.1))
 text_found line (Err e) P read plain = tt
 
 pub text_not_found : {E : Type 0} (line : List ℕ) (r : Result (Bor (List ℕ)) E) (P : E → Type 0)
     → MatchResult r (λ text. (text.now ≡ line) × IsUtf8 line) (λ e. (¬ IsUtf8 line) × P e) → IfNone (result_ok r) (is_text_line line ≡ false)
 text_not_found line (Ok text) P read = tt
 text_not_found line (Err e) P read =
-    and_right (not (list_any is_control line)) (is_utf8 line) (false_from_ne_true (is_utf8 line) (λ (e : is_utf8 line ≡ true). read.0 (IsUtf8-from_is_utf8 line e)))
+    and_right (not (list_any is_ascii_control line)) (is_utf8 line) (false_from_ne_true (is_utf8 line) (λ (e : is_utf8 line ≡ true). read.0 (IsUtf8-from_is_utf8 line e)))
 
-pub lacks_lf : (line : List ℕ) → list_any is_control line ≡ false → Lacks 10 line
+pub lacks_lf : (line : List ℕ) → list_any is_ascii_control line ≡ false → Lacks 10 line
 lacks_lf line h = λ i d inside e.
-    both_ways (list_any is_control line) h (list_any_at is_control line i d inside (subst (λ (b : ℕ). is_control b ≡ true) (sym e) refl))
+    both_ways (list_any is_ascii_control line) h (list_any_at is_ascii_control line i d inside (subst (λ (b : ℕ). is_ascii_control b ≡ true) (sym e) refl))
 
 pub ascii_by_test : (xs : List ℕ) → list_all (λ b. ltb b 128) xs ≡ true → IsUtf8 xs
 ascii_by_test xs h = IsUtf8-from_ascii xs (IsAscii-from_all xs (All-weaker (λ b. ltb b 128 ≡ true) (λ b. b < 128) (λ (b : ℕ) (e : ltb b 128 ≡ true). ltb-true b 128 e) xs (AllPass-from_list_all (λ b. ltb b 128) xs h)))

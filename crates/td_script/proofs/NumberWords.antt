@@ -3,7 +3,6 @@ use Rattle.std.proofs.Common.{◌≡◌, ◌≢◌, ◌<◌, ◌≤◌, ◌^◌,
 use Rattle.std.specs.Fmt.{decimal}
 use Rattle.std.specs.Option.{ok_or}
 use Rattle.std.specs.Prelude.{Option, Some, None, IfSome, IfNone}
-use Rattle.std.specs.Int.{IsInRange}
 use Rattle.std.specs.List.{list_all}
 use Rattle.std.specs.Str.Parse.{digits_value}
 use Rattle.std.proofs.lemmas.Bool.{false≢true, eqb-true, eqb-false, leb-true, ltb-true, le-leb, lt-ltb, and_parts, and_from, false_from_ne_true, cond-true, cond-false}
@@ -12,22 +11,17 @@ use Rattle.std.proofs.lemmas.List.Sums.{AllPass-from_list_all, list_all-from_All
 use Rattle.td_script.specs.declared.kind.Kind.{Kind}
 use Rattle.td_script.specs.declared.kind.Kind.TheVariants.{Number}
 use Rattle.td_script.specs.declared.number.TheConstants.{MAX_DIGITS}
-use Rattle.td_script.specs.Arguments.{is_digit, is_number, number_of}
-use Rattle.td_script.proofs.Results.{ok_same, err_is_no_ok}
+use Rattle.std.specs.Char.{is_ascii_digit}
+use Rattle.td_script.specs.Arguments.{is_number, number_of}
+use Rattle.td_script.proofs.Results.{in_range, range_in, ok_same, err_is_no_ok}
 use Rattle.td_script.proofs.Numbers.{AreDigits, IsIndexForm, IsNumberWord, form_of_number, number_of_form, value_of_number}
 
-digit_range : (b : ℕ) → is_digit b ≡ true → IsInRange 48 57 b
-digit_range b h = let parts : (leb 48 b ≡ true) × (leb b 57 ≡ true) = and_parts (leb 48 b) (leb b 57) h in (leb-true 48 b parts.0, leb-true b 57 parts.1)
+digits_by_test : (ds : List ℕ) → list_all is_ascii_digit ds ≡ true → AreDigits ds
+digits_by_test ds h = λ i inside. range_in 48 57 (get_or ds i 0) (AllPass-from_list_all is_ascii_digit ds h i 0 inside)
 
-range_digit : (b : ℕ) → IsInRange 48 57 b → is_digit b ≡ true
-range_digit b h = and_from (leb 48 b) (leb b 57) (le-leb 48 b h.0) (le-leb b 57 h.1)
-
-digits_by_test : (ds : List ℕ) → list_all is_digit ds ≡ true → AreDigits ds
-digits_by_test ds h = λ i inside. digit_range (get_or ds i 0) (AllPass-from_list_all is_digit ds h i 0 inside)
-
-test_of_digits : (ds : List ℕ) → AreDigits ds → list_all is_digit ds ≡ true
+test_of_digits : (ds : List ℕ) → AreDigits ds → list_all is_ascii_digit ds ≡ true
 test_of_digits ds h =
-    list_all-from_AllPass is_digit ds (λ i d inside. subst (λ (b : ℕ). is_digit b ≡ true) (get_or_default ds i 0 d inside) (range_digit (get_or ds i 0) (h i inside)))
+    list_all-from_AllPass is_ascii_digit ds (λ i d inside. subst (λ (b : ℕ). is_ascii_digit b ≡ true) (get_or_default ds i 0 d inside) (in_range 48 57 (get_or ds i 0) (h i inside)))
 
 zero_form : (d : ℕ) (ds : List ℕ) → d ≡ 48 → length ds ≤ 0 → IsIndexForm (d ∷ ds)
 zero_form d ds e short = record { digits = digits; some = omega arith; short = omega arith; leading = λ h. omega arith }
@@ -36,11 +30,11 @@ zero_form d ds e short = record { digits = digits; some = omega arith; short = o
     digits zero inside = (omega arith, omega arith)
     digits (suc i) inside = absurd (omega arith)
 
-form_at : (d : ℕ) (ds : List ℕ) (b : Bool) → eqb d 48 ≡ b → cond b (leb (length ds) 0) (list_all is_digit (d ∷ ds) && ltb (length ds) MAX_DIGITS) ≡ true → IsIndexForm (d ∷ ds)
+form_at : (d : ℕ) (ds : List ℕ) (b : Bool) → eqb d 48 ≡ b → cond b (leb (length ds) 0) (list_all is_ascii_digit (d ∷ ds) && ltb (length ds) MAX_DIGITS) ≡ true → IsIndexForm (d ∷ ds)
 form_at d ds true e h = zero_form d ds (eqb-true d 48 e) (leb-true (length ds) 0 h)
 form_at d ds false e h =
-    let parts : (list_all is_digit (d ∷ ds) ≡ true) × (ltb (length ds) MAX_DIGITS ≡ true) =
-    and_parts (list_all is_digit (d ∷ ds)) (ltb (length ds) MAX_DIGITS) h in
+    let parts : (list_all is_ascii_digit (d ∷ ds) ≡ true) × (ltb (length ds) MAX_DIGITS ≡ true) =
+    and_parts (list_all is_ascii_digit (d ∷ ds)) (ltb (length ds) MAX_DIGITS) h in
     let short : length ds < MAX_DIGITS = ltb-true (length ds) MAX_DIGITS parts.1 in
     record { digits = digits_by_test (d ∷ ds) parts.0; some = omega arith; short = omega arith; leading = λ (same : d ≡ 48). absurd (eqb-false d 48 e same) }
 
@@ -48,9 +42,9 @@ form_of_test : (ds : List ℕ) → is_number ds ≡ true → IsIndexForm ds
 form_of_test [] h = absurd (false≢true h)
 form_of_test (d ∷ ds) h = form_at d ds (eqb d 48) refl h
 
-test_at : (d : ℕ) (ds : List ℕ) (b : Bool) → eqb d 48 ≡ b → IsIndexForm (d ∷ ds) → cond b (leb (length ds) 0) (list_all is_digit (d ∷ ds) && ltb (length ds) MAX_DIGITS) ≡ true
+test_at : (d : ℕ) (ds : List ℕ) (b : Bool) → eqb d 48 ≡ b → IsIndexForm (d ∷ ds) → cond b (leb (length ds) 0) (list_all is_ascii_digit (d ∷ ds) && ltb (length ds) MAX_DIGITS) ≡ true
 test_at d ds true e h = le-leb (length ds) 0 (omega (arith, h.leading (eqb-true d 48 e)))
-test_at d ds false e h = and_from (list_all is_digit (d ∷ ds)) (ltb (length ds) MAX_DIGITS) (test_of_digits (d ∷ ds) h.digits)
+test_at d ds false e h = and_from (list_all is_ascii_digit (d ∷ ds)) (ltb (length ds) MAX_DIGITS) (test_of_digits (d ∷ ds) h.digits)
     (lt-ltb (length ds) MAX_DIGITS (omega (arith, h.short)))
 
 test_of_form : (ds : List ℕ) → IsIndexForm ds → is_number ds ≡ true

@@ -1,10 +1,10 @@
 -- The line of a command is UTF-8 without control characters where its text has none but LF.
 use Rattle.std.proofs.Common.{◌≡◌, ◌<◌, ◌≤◌, ℕ, Bool, true, false, cond, eqb, ltb, not, List, [], ◌∷◌, ◌++◌, get_or, All, codes, refl, ◌∙◌, IsUtf8, arith}
 use Rattle.std.specs.Fmt.{decimal}
-use Rattle.std.specs.Int.{IsInRange}
+use Rattle.std.specs.Int.{is_in_range, IsInRange}
 use Rattle.std.specs.List.{concat, flat_map, list_all, list_any}
 use Rattle.std.specs.Str.{is_utf8}
-use Rattle.std.proofs.lemmas.Bool.{and_from, not_from_false, or_from, le-ltb, ne_eqb, eqb-false}
+use Rattle.std.proofs.lemmas.Bool.{and_from, not_from_false, or_from, eqb-false}
 use Rattle.std.proofs.lemmas.List.{get_or_default}
 use Rattle.std.proofs.lemmas.List.Elements.{All-head, All-tail}
 use Rattle.std.proofs.lemmas.List.Folds.{list_any-append, list_any_none}
@@ -17,7 +17,8 @@ use Rattle.td_base.specs.declared.site.TheConstants.{MAX_SITE}
 use Rattle.td_script.specs.declared.command.Command.{Command}
 use Rattle.td_script.specs.declared.command.Command.TheVariants.{Sites, Ins, Paste, Del, Flat, FlatAuto, Cancel, Give, GiveAll, Settle, Show, Tree, Count, Mark, Meet, Marks}
 use Rattle.td_script.specs.declared.command.Place.TheVariants.{Whole, Beside}
-use Rattle.td_script.specs.Lines.{is_control, is_text_line}
+use Rattle.std.specs.Char.{is_ascii_control}
+use Rattle.td_script.specs.Lines.{is_text_line}
 use Rattle.td_script.specs.Script.{IsClusters, IsCommand, IsDotOf, IsNumber, IsSiteOf, IsTextByte, IsWritable}
 use Rattle.td_script.specs.Spelling.{line_of, spaced, spaced_bit, spaced_dot, spaced_text}
 use Rattle.td_script.specs.Texts.{escaped}
@@ -25,30 +26,33 @@ use Rattle.td_script.proofs.CommandLaws.{decimal_utf8}
 use Rattle.td_script.proofs.LineLaws.{ascii_by_test}
 use Rattle.td_script.proofs.Numbers.{form_of_decimal}
 use Rattle.td_script.proofs.TextWords.{written_utf8}
+use Rattle.td_script.proofs.Results.{out_of_range}
 
 -- bytes of a line that can be read
 record IsClean (bytes : List ℕ) : Type 0 where
-  plain : list_any is_control bytes ≡ false
+  plain : list_any is_ascii_control bytes ≡ false
   utf8 : IsUtf8 bytes
 
 text_line : (line : List ℕ) → IsClean line → is_text_line line ≡ true
-text_line line h = and_from (not (list_any is_control line)) (is_utf8 line) (not_from_false (list_any is_control line) h.plain) (is_utf8-from_IsUtf8 line h.utf8)
+text_line line h = and_from (not (list_any is_ascii_control line)) (is_utf8 line) (not_from_false (list_any is_ascii_control line) h.plain) (is_utf8-from_IsUtf8 line h.utf8)
 
 both : (xs ys : List ℕ) → IsClean xs → IsClean ys → IsClean (xs ++ ys)
 both xs ys h k = record {
-  plain = list_any-append is_control xs ys ∙ or_from (list_any is_control xs) (list_any is_control ys) h.plain k.plain;
+  plain = list_any-append is_ascii_control xs ys ∙ or_from (list_any is_ascii_control xs) (list_any is_ascii_control ys) h.plain k.plain;
   utf8 = IsUtf8-append xs ys h.utf8 k.utf8;
 }
 
-by_test : (xs : List ℕ) → list_any is_control xs ≡ false → list_all (λ b. ltb b 128) xs ≡ true → IsClean xs
+by_test : (xs : List ℕ) → list_any is_ascii_control xs ≡ false → list_all (λ b. ltb b 128) xs ≡ true → IsClean xs
 by_test xs h k = record { plain = h; utf8 = ascii_by_test xs k }
 
-printed : (b : ℕ) → 32 ≤ b → b < 127 → is_control b ≡ false
-printed b h k = or_from (ltb b 32) (eqb b 127) (le-ltb b 32 h) (ne_eqb b 127 (λ (e : b ≡ 127). absurd (omega arith)))
+printed : (b : ℕ) → 32 ≤ b → b < 127 → is_ascii_control b ≡ false
+printed b h k =
+    or_from (is_in_range 0 31 b) (is_in_range 127 127 b) (out_of_range 0 31 b (λ r. absurd (omega (arith, r.1))))
+    (out_of_range 127 127 b (λ r. absurd (omega (arith, r.0))))
 
 digits_clean : (n : ℕ) → IsNumber n → IsClean (decimal n)
 digits_clean n small = record {
-  plain = list_any_none is_control (decimal n) (λ i d inside.
+  plain = list_any_none is_ascii_control (decimal n) (λ i d inside.
       let same : get_or (decimal n) i d ≡ get_or (decimal n) i 0 = get_or_default (decimal n) i d 0 inside in
       let digit : IsInRange 48 57 (get_or (decimal n) i 0) = (form_of_decimal n small).digits i inside in
       printed (get_or (decimal n) i d) (omega arith) (omega arith));
@@ -62,23 +66,23 @@ site_clean : (sites n : ℕ) → sites ≤ MAX_SITE → IsSiteOf sites n → IsC
 site_clean sites n few h = spaced_clean n (omega (arith, h.1))
 
 dot_clean : (sites : ℕ) (d : DotValue) → sites ≤ MAX_SITE → IsDotOf sites d → IsClean (spaced_dot d)
-dot_clean sites d few h = both (spaced d.site) (46 ∷ decimal d.seq) (site_clean sites d.site few h.0) (both (46 ∷ []) (decimal d.seq) (by_test (46 ∷ []) refl refl) (digits_clean d.seq (omega (arith, h.2))))
+dot_clean sites d few h = both (spaced d.site) (46 ∷ decimal d.seq) (site_clean sites d.site few h.0) (both (46 ∷ []) (decimal d.seq) (by_test (46 ∷ []) refl refl) (digits_clean d.seq (omega (arith, h.1.1))))
 
 bit_clean : (bit : Bit) → IsClean (spaced_bit bit)
 bit_clean Left = by_test (codes " left") refl refl
 bit_clean Right = by_test (codes " right") refl refl
 
-byte_plain : (b : ℕ) (x y z : Bool) → eqb b 10 ≡ z → IsTextByte b → list_any is_control (cond x (92 ∷ 34 ∷ []) (cond y (92 ∷ 92 ∷ []) (cond z (92 ∷ 110 ∷ []) (b ∷ [])))) ≡ false
+byte_plain : (b : ℕ) (x y z : Bool) → eqb b 10 ≡ z → IsTextByte b → list_any is_ascii_control (cond x (92 ∷ 34 ∷ []) (cond y (92 ∷ 92 ∷ []) (cond z (92 ∷ 110 ∷ []) (b ∷ [])))) ≡ false
 byte_plain b true y z e h = refl
 byte_plain b false true z e h = refl
 byte_plain b false false true e h = refl
-byte_plain b false false false e h = or_from (is_control b) false (h (eqb-false b 10 e)) refl
+byte_plain b false false false e h = or_from (is_ascii_control b) false (h (eqb-false b 10 e)) refl
 
-written_plain : (text : List ℕ) → All IsTextByte text → list_any is_control (flat_map escaped text) ≡ false
+written_plain : (text : List ℕ) → All IsTextByte text → list_any is_ascii_control (flat_map escaped text) ≡ false
 written_plain [] h = refl
 written_plain (b ∷ text) h =
-    list_any-append is_control (escaped b) (flat_map escaped text)
-    ∙ or_from (list_any is_control (escaped b)) (list_any is_control (flat_map escaped text)) (byte_plain b (eqb b 34) (eqb b 92) (eqb b 10) refl (All-head IsTextByte b text h)) (written_plain text (All-tail IsTextByte b text h))
+    list_any-append is_ascii_control (escaped b) (flat_map escaped text)
+    ∙ or_from (list_any is_ascii_control (escaped b)) (list_any is_ascii_control (flat_map escaped text)) (byte_plain b (eqb b 34) (eqb b 92) (eqb b 10) refl (All-head IsTextByte b text h)) (written_plain text (All-tail IsTextByte b text h))
 
 atoms_utf8 : (atoms : List (List ℕ)) → All IsAtom atoms → IsUtf8 (concat atoms)
 atoms_utf8 [] h = IsUtf8-nil
@@ -90,10 +94,10 @@ text_clean atoms h k =
     both (32 ∷ 34 ∷ []) (flat_map escaped (concat atoms) ++ 34 ∷ []) (by_test (32 ∷ 34 ∷ []) refl refl) (both (flat_map escaped (concat atoms)) (34 ∷ []) inner (by_test (34 ∷ []) refl refl))
 
 -- a word, a site and the rest of a line
-line_clean : (word : List ℕ) (sites site : ℕ) (rest : List ℕ) → list_any is_control word ≡ false → list_all (λ b. ltb b 128) word ≡ true → sites ≤ MAX_SITE → IsSiteOf sites site → IsClean rest → IsClean (word ++ (spaced site ++ rest))
+line_clean : (word : List ℕ) (sites site : ℕ) (rest : List ℕ) → list_any is_ascii_control word ≡ false → list_all (λ b. ltb b 128) word ≡ true → sites ≤ MAX_SITE → IsSiteOf sites site → IsClean rest → IsClean (word ++ (spaced site ++ rest))
 line_clean word sites site rest h k few is clean = both word (spaced site ++ rest) (by_test word h k) (both (spaced site) rest (site_clean sites site few is) clean)
 
-alone_clean : (word : List ℕ) (sites site : ℕ) → list_any is_control word ≡ false → list_all (λ b. ltb b 128) word ≡ true → sites ≤ MAX_SITE → IsSiteOf sites site → IsClean (word ++ spaced site)
+alone_clean : (word : List ℕ) (sites site : ℕ) → list_any is_ascii_control word ≡ false → list_all (λ b. ltb b 128) word ≡ true → sites ≤ MAX_SITE → IsSiteOf sites site → IsClean (word ++ spaced site)
 alone_clean word sites site h k few is = both word (spaced site) (by_test word h k) (site_clean sites site few is)
 
 command_clean : (sites : ℕ) (c : Command) → sites ≤ MAX_SITE → IsCommand sites c → IsWritable c → IsClean (line_of c)

@@ -2,6 +2,8 @@
 -- stands behind it.
 use Rattle.std.specs.Prelude.{ℕ, Bool, true, false, ◌&&◌, ◌==◌, nat_le, nat_lt, if◌then◌else◌}
 use Rattle.std.specs.Prelude.{List, [], ◌∷◌, Option, Some, None, Result, Ok, Err, codes, length, bytes_eq}
+use Rattle.std.specs.Char.{is_ascii_digit}
+use Rattle.std.specs.Int.{is_in_range}
 use Rattle.std.specs.List.{list_all}
 use Rattle.std.specs.Str.Parse.{digits_value}
 use Rattle.td_base.specs.Value.{DotValue}
@@ -61,15 +63,12 @@ with_rest rest (Err kind) = Err kind
 abbrev pub by_word : {V : Type 0} → (List ℕ → Result V Kind) → List ℕ → Reading V
 by_word read rest = behind (word_at rest) (λ word rest. with_rest rest (read word))
 
-abbrev pub is_digit : ℕ → Bool
-is_digit byte = nat_le 0x30 byte && nat_le byte 0x39
-
 -- a number: `0`, or a digit from 1 to 9 and others, up to `MAX_DIGITS`
 abbrev pub is_number : List ℕ → Bool
 is_number [] = false
 is_number (digit ∷ digits) =
     if digit == 0x30 then nat_le (length digits) 0 else
-    list_all is_digit (digit ∷ digits) && nat_lt (length digits) MAX_DIGITS
+    list_all is_ascii_digit (digit ∷ digits) && nat_lt (length digits) MAX_DIGITS
 
 abbrev pub number_of : List ℕ → Result ℕ Kind
 number_of word = if is_number word then Ok (digits_value 10 word) else Err Fault.Number
@@ -79,16 +78,13 @@ abbrev pub tested : {V : Type 0} → (V → Bool) → Kind → Result V Kind →
 tested test kind (Ok value) = if test value then Ok value else Err kind
 tested test kind (Err other) = Err other
 
-abbrev pub is_site : ℕ → ℕ → Bool
-is_site sites n = nat_le 1 n && nat_le n sites
-
 -- a site among so many
 abbrev pub site_of : ℕ → List ℕ → Result ℕ Kind
-site_of sites word = tested (is_site sites) Fault.Site (number_of word)
+site_of sites word = tested (is_in_range 1 sites) Fault.Site (number_of word)
 
 -- how many sites there are
 abbrev pub sites_of : List ℕ → Result ℕ Kind
-sites_of word = tested (is_site MAX_SITE) Fault.Sites (number_of word)
+sites_of word = tested (is_in_range 1 MAX_SITE) Fault.Sites (number_of word)
 
 -- a name of a mark
 abbrev pub name_of : List ℕ → Result ℕ Kind
@@ -105,7 +101,7 @@ cut_dot (byte ∷ bytes) = if byte == point then Some ([], bytes) else onto_part
 
 abbrev pub dot_of_numbers : Result ℕ Kind → Result ℕ Kind → Result DotValue Kind
 dot_of_numbers (Ok site) (Ok seq) =
-    if nat_le 1 seq && nat_le seq MAX_SEQ then Ok (record { site = site; seq = seq }) else Err Fault.Dot
+    if is_in_range 1 MAX_SEQ seq then Ok (record { site = site; seq = seq }) else Err Fault.Dot
 dot_of_numbers _ _ = Err Fault.Dot
 
 abbrev pub dot_of_parts : ℕ → Option (List ℕ × List ℕ) → Result DotValue Kind

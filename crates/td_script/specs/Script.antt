@@ -1,6 +1,7 @@
 -- The grammar: which bytes spell which script.
 use Rattle.std.specs.Prelude.{◌≡◌, ◌≢◌, ◌<◌, ◌≤◌, ◌^◌, ⊤, ℕ, true, false, not}
 use Rattle.std.specs.Prelude.{List, [], ◌∷◌, ◌++◌, All, length, filter, map, sum_by}
+use Rattle.std.specs.Int.{IsInRange}
 use Rattle.std.specs.List.{concat, flat_map}
 use Rattle.td_base.specs.Atom.{IsAtom}
 use Rattle.td_base.specs.Value.{DotValue}
@@ -17,7 +18,8 @@ use Rattle.td_script.specs.declared.script.Script.{Script}
 use Rattle.td_script.specs.declared.script.TheConstants.{MAX_SCRIPT, MAX_LINE}
 use Rattle.td_script.specs.declared.script.TheConstants.{MAX_WIDE_SCRIPT, MAX_WIDE_REQUESTS, MAX_MIDDLE_REQUESTS}
 use Rattle.td_script.specs.Characters.{line_feed}
-use Rattle.td_script.specs.Lines.{lines_of, is_control, is_text_line, is_skipped}
+use Rattle.std.specs.Char.{is_ascii_control}
+use Rattle.td_script.specs.Lines.{lines_of, is_text_line, is_skipped}
 use Rattle.td_script.specs.Spelling.{line_of}
 use Rattle.unicode_segmentation.specs.Grapheme.{graphemes}
 
@@ -26,10 +28,10 @@ IsNumber n = n < 10 ^ MAX_DIGITS
 
 -- a site among so many
 abbrev pub IsSiteOf : ℕ → ℕ → Type 0
-IsSiteOf sites site = (1 ≤ site) × (site ≤ sites)
+IsSiteOf sites site = IsInRange 1 sites site
 
 abbrev pub IsDotOf : ℕ → DotValue → Type 0
-IsDotOf sites d = IsSiteOf sites d.site × (1 ≤ d.seq) × (d.seq ≤ MAX_SEQ)
+IsDotOf sites d = IsSiteOf sites d.site × IsInRange 1 MAX_SEQ d.seq
 
 -- the clusters of a text, each of which is an atom
 pub record IsClusters (atoms : List (List ℕ)) : Type 0 where
@@ -97,7 +99,7 @@ spelled commands = flat_map (λ c. line_of c ++ line_feed ∷ []) commands
 
 -- a byte of a text that can be written: no control character but LF
 abbrev pub IsTextByte : ℕ → Type 0
-IsTextByte byte = byte ≢ line_feed → is_control byte ≡ false
+IsTextByte byte = byte ≢ line_feed → is_ascii_control byte ≡ false
 
 -- a command whose text can be written
 abbrev pub IsWritable : Command → Type 0

@@ -1,6 +1,7 @@
 ghost use Rattle.std.specs.Prelude.{◌≡◌, ◌≢◌, ◌<◌, ◌∷◌, ◌++◌, All, IfNone, IfSome, false, true, length};
+ghost use Rattle.std.specs.Char.{is_ascii_control};
 ghost use Rattle.std.specs.List.{list_any};
-ghost use Rattle.td_script.specs.Lines.{is_control, is_skipped, is_text_line, lines_of};
+ghost use Rattle.td_script.specs.Lines.{is_skipped, is_text_line, lines_of};
 
 /// The line as a text, where it is UTF-8 without control characters.
 pub(crate) fn text_of_line(line: &[u8]) -> Option<&str>
@@ -15,9 +16,9 @@ pub(crate) fn text_of_line(line: &[u8]) -> Option<&str>
 
 // Whether the line has a control character of ASCII.
 fn has_control(line: &[u8]) -> bool
-    ensures { result ≡ list_any is_control line.now }
+    ensures { result ≡ list_any is_ascii_control line.now }
 {
-    line.iter().any(|byte| *byte < 0x20 || *byte == 0x7f)
+    line.iter().any(|byte| byte.is_ascii_control())
 }
 
 /// An empty line, and a line that begins with `#`, says nothing.
