@@ -10,8 +10,6 @@ pub(crate) fn code_point(word: &str) -> Option<char>
     if word.starts_with('+') {
         return None;
     }
-    match u32::from_str_radix(word, 16) {
-        Ok(number) => char::from_u32(number),
-        Err(_) => None,
-    }
+    let number = u32::from_str_radix(word, 16).ok()?;
+    char::from_u32(number)
 }

@@ -14,7 +14,8 @@ pub(crate) fn before_comment(line: &str) -> &str {
     }
 }
 
-/// What stands between one break of the sample and the next. `None` where it is no sample, or has a cluster that is no atom.
+/// What stands between one break of the sample and the next. `None` where it is no sample, or has a cluster that is no
+/// atom.
 pub(crate) fn clusters_of(alloc: Global, sample: &str) -> Result<Option<Atoms>, Memory> {
     let mut clusters = Atoms::new(alloc);
     let Some(inner) = between_outer_breaks(sample) else {

@@ -1,33 +1,28 @@
 -- One byte that passes a test, one in a range, and numbers in a range.
-use Rattle.std.proofs.Common.{◌≡◌, ℕ, suc, ◌+◌, ◌*◌, ◌/◌, ◌%◌, ◌<◌, ◌≤◌, Bool, true, false, cond, leb, eqb, ◌&&◌, List, [], ◌∷◌, ◌++◌, length, Ok, Err, refl, sym, ap, ◌∙◌, arith}
+use Rattle.std.proofs.Common.{◌≡◌, ℕ, suc, ◌+◌, ◌*◌, ◌/◌, ◌%◌, ◌<◌, ◌≤◌, Bool, true, false, cond, leb, eqb, List, [], ◌∷◌, ◌++◌, length, Ok, Err, refl, sym, ap, ◌∙◌, arith}
 use Rattle.std.proofs.lemmas.Bool.{leb-true, le-leb, eqb-true, eqb-false, and_parts, and_from, both_ways}
+use Rattle.std.specs.Int.{is_in_range}
 use Rattle.td_wire.specs.Spelling.{number_bytes as number}
 use Rattle.td_wire.specs.Reading.{Read, ◌>>=◌, passing_at, byte_at, low_least, low_most, number_at}
-use Rattle.td_wire.proofs.Exact.{IsFault, Reads, Done, Seq, Field, done, same, renamed, chain, then}
+use Rattle.td_wire.proofs.Exact.{ok, ok_is, IsFault, Reads, Done, Seq, Field, done, same, renamed, chain, then}
 
 pub record Passes (p : ℕ → Bool) (n : ℕ) (xs : List ℕ) : Type 0 where
   pub passes : p n ≡ true
   pub is : xs ≡ n ∷ []
 
-abbrev read_is : ℕ × List ℕ → Read ℕ
-read_is x = Ok x
-
-pair_is : (x y : ℕ × List ℕ) → read_is x ≡ read_is y → x ≡ y
-pair_is x y e = cc
-
 pub passing_sound : (p : ℕ → Bool) (xs : List ℕ) (n : ℕ) (rest : List ℕ) → passing_at p xs ≡ Ok (n, rest) → (front : List ℕ) × (xs ≡ front ++ rest) × Passes p n front
 passing_sound p [] n rest e = absurd cc
 passing_sound p (b ∷ bytes) n rest e = by_test (p b) refl e where
-  by_test : (t : Bool) → p b ≡ t → cond t (Ok (b, bytes)) (Err (suc (length bytes))) ≡ read_is (n, rest) → (front : List ℕ) × (b ∷ bytes ≡ front ++ rest) × Passes p n front
+  by_test : (t : Bool) → p b ≡ t → cond {A = Read ℕ} t (Ok (b, bytes)) (Err (suc (length bytes))) ≡ Ok (n, rest) → (front : List ℕ) × (b ∷ bytes ≡ front ++ rest) × Passes p n front
   by_test true is e =
-      let both = pair_is (b, bytes) (n, rest) e in
+      let both = ok_is (b, bytes) (n, rest) e in
       let value : b ≡ n = ap (λ (x : ℕ × List ℕ). x.0) both in
       let after : bytes ≡ rest = ap (λ (x : ℕ × List ℕ). x.1) both in
       (b ∷ [], ap (λ (ys : List ℕ). b ∷ ys) after, record { passes = ap p (sym value) ∙ is; is = ap (λ (m : ℕ). m ∷ []) value })
   by_test false is e = absurd cc
 
 passing_again : (p : ℕ → Bool) (n : ℕ) (front rest : List ℕ) → Passes p n front → passing_at p (front ++ rest) ≡ Ok (n, rest)
-passing_again p n front rest g = rw g.is (ap (λ t. cond t (read_is (n, rest)) (Err (suc (length rest)))) g.passes)
+passing_again p n front rest g = rw g.is (ap (λ t. cond t (ok (n, rest)) (Err (suc (length rest)))) g.passes)
 
 left_is : (k left : ℕ) → ◌≡◌ {A = Read ℕ} (Err k) (Err left) → k ≡ left
 left_is k left e = cc
@@ -45,7 +40,7 @@ passing_fault p n some (b ∷ bytes) left e = by_test (p b) refl e where
   first_is : (m : ℕ) (more : List ℕ) → (b ∷ []) ++ more ≡ m ∷ [] → b ≡ m
   first_is m more e = cc
 
-  by_test : (t : Bool) → p b ≡ t → cond t (read_is (b, bytes)) (Err (suc (length bytes))) ≡ Err left → IsFault (Passes p) (b ∷ bytes) left
+  by_test : (t : Bool) → p b ≡ t → cond {A = Read ℕ} t (Ok (b, bytes)) (Err (suc (length bytes))) ≡ Err left → IsFault (Passes p) (b ∷ bytes) left
   by_test true is e = absurd cc
   by_test false is e = record {
     good = [];
@@ -75,14 +70,11 @@ one_byte n = n ∷ []
 abbrev pub Byte : ℕ → ℕ → ℕ → List ℕ → Type 0
 Byte low high = Field (InRange low high) one_byte
 
-abbrev in_range : ℕ → ℕ → ℕ → Bool
-in_range low high b = leb low b && leb b high
-
 pub byte_reads : (low high : ℕ) → low ≤ high → Reads (Byte low high) (byte_at low high)
-byte_reads low high some = same (Passes (in_range low high)) (Byte low high) (byte_at low high)
+byte_reads low high some = same (Passes (is_in_range low high)) (Byte low high) (byte_at low high)
     (λ n xs g. let parts = and_parts (leb low n) (leb n high) g.passes in record { can = record { least = leb-true low n parts.0; most = leb-true n high parts.1 }; is = g.is })
     (λ n xs g. record { passes = and_from (leb low n) (leb n high) (le-leb low n g.can.least) (le-leb n high g.can.most); is = g.is })
-    (passing_reads (in_range low high) low (and_from (leb low low) (leb low high) (le-leb low low (omega arith)) (le-leb low high some)))
+    (passing_reads (is_in_range low high) low (and_from (leb low low) (leb low high) (le-leb low low (omega arith)) (le-leb low high some)))
 
 -- ---- numbers
 

@@ -4,6 +4,7 @@ use Rattle.std.proofs.lemmas.List.{append-nil, length-append, nil_from_length, t
 use Rattle.std.proofs.Math.Seq.{take-append-add}
 use Rattle.td_op.specs.declared.message.Message.{Message}
 use Rattle.td_op.specs.declared.message.Message.TheVariants.{Op, Vote}
+use Rattle.td_wire.specs.declared.length.TheConstants.{MAX_PACKET_LEN}
 use Rattle.td_wire.specs.declared.format.Format.{Format}
 use Rattle.td_wire.specs.declared.format.Format.TheVariants.{One, Two}
 use Rattle.td_wire.specs.Spelling.{spelling, Spells, SpellsIn, BeginsSpelling, IsFaultAt}
@@ -15,20 +16,8 @@ use Rattle.td_wire.proofs.Bytes.{InRange}
 use Rattle.td_wire.proofs.Loops.{byte_range}
 use Rattle.td_wire.proofs.Operations.{op_reads}
 use Rattle.td_wire.proofs.Sizes.{spelling_short}
-use Rattle.td_wire.proofs.Exact.{Stops, IsFault}
+use Rattle.td_wire.proofs.Exact.{ok, ok_is, ok_differs, Stops, IsFault}
 use Rattle.td_wire.proofs.Messages.{to_op, message_reads}
-
-abbrev read_is : Message × List ℕ → Read Message
-read_is x = Ok x
-
-abbrev op_read : OpValue → List ℕ → Read OpValue
-op_read o rest = Ok (o, rest)
-
-pair_is : (x y : Message × List ℕ) → read_is x ≡ read_is y → x ≡ y
-pair_is x y e = cc
-
-differ : (x : Message × List ℕ) (left : ℕ) → read_is x ≡ Err left → ⊥
-differ x left e = cc
 
 -- a spelling is read whole
 pub whole_read : (bytes : List ℕ) (m : Message) → SpellsIn m bytes → message_at bytes ≡ Ok (m, [])
@@ -36,7 +25,7 @@ whole_read bytes m s = ap message_at (sym (append-nil bytes)) ∙ message_reads.
 
 pub one_message : (bytes : List ℕ) (f g : Format) (m n : Message) → Spells f m bytes → Spells g n bytes → m ≡ n
 one_message bytes f g m n s t =
-    ap (λ (x : Message × List ℕ). x.0) (pair_is (m, []) (n, []) (sym (whole_read bytes m (f, s)) ∙ whole_read bytes n (g, t)))
+    ap (λ (x : Message × List ℕ). x.0) (ok_is (m, []) (n, []) (sym (whole_read bytes m (f, s)) ∙ whole_read bytes n (g, t)))
 
 -- the second byte
 abbrev second : List ℕ → ℕ
@@ -75,11 +64,11 @@ spelled bytes m rest e none =
 -- the only message that is spelled is the one that is read
 pub only_read : (bytes : List ℕ) (m n : Message) (rest : List ℕ) → message_at bytes ≡ Ok (m, rest) → SpellsIn n bytes → (m ≡ n) × (rest ≡ [])
 only_read bytes m n rest e s =
-    let both = pair_is (m, rest) (n, []) (sym e ∙ whole_read bytes n s) in
+    let both = ok_is (m, rest) (n, []) (sym e ∙ whole_read bytes n s) in
     (ap (λ (x : Message × List ℕ). x.0) both, ap (λ (x : Message × List ℕ). x.1) both)
 
 pub none_spelled : (bytes : List ℕ) (left : ℕ) (n : Message) → message_at bytes ≡ Err left → SpellsIn n bytes → ⊥
-none_spelled bytes left n e s = differ (n, []) left (sym (whole_read bytes n s) ∙ e)
+none_spelled bytes left n e s = ok_differs (n, []) left (sym (whole_read bytes n s) ∙ e)
 
 -- what a fault says of the fronts of the bytes
 longest : (good bad : List ℕ) → Stops SpellsIn good bad → (k : ℕ) → length good < k → k ≤ length (good ++ bad) → ¬ BeginsSpelling (take k (good ++ bad))
@@ -122,7 +111,7 @@ rest_stops m front (b ∷ rest) s = λ begins.
     let whole = message_reads.again begins.0 ((front ++ b ∷ []) ++ begins.1) [] begins.2 in
     let here : message_at (((front ++ b ∷ []) ++ begins.1) ++ []) ≡ Ok (m, b ∷ begins.1) =
     ap message_at (append-nil ((front ++ b ∷ []) ++ begins.1) ∙ append_assoc front (b ∷ []) begins.1) ∙ message_reads.again m front (b ∷ begins.1) s in
-    let both = ap (λ (x : Message × List ℕ). length x.1) (pair_is (begins.0, []) (m, b ∷ begins.1) (sym whole ∙ here)) in
+    let both = ap (λ (x : Message × List ℕ). length x.1) (ok_is (begins.0, []) (m, b ∷ begins.1) (sym whole ∙ here)) in
     absurd (omega (arith, both))
 
 pub rejected_rest : (bytes : List ℕ) (m : Message) (rest : List ℕ) → message_at bytes ≡ Ok (m, rest) → (length rest ≡ 0 → ⊥) → Rejected bytes (length rest)
@@ -136,7 +125,7 @@ rejected_rest bytes m rest e some =
 pub left_within : (bytes : List ℕ) (left : ℕ) → Rejected bytes left → left ≤ length bytes
 left_within bytes left r = omega (arith, ap length r.fault.parts, length-append r.fault.good r.fault.bad, r.fault.left_is)
 
-pub fault_short : (bytes : List ℕ) (left : ℕ) → Rejected bytes left → length bytes - left ≤ 402
+pub fault_short : (bytes : List ℕ) (left : ℕ) → Rejected bytes left → length bytes - left ≤ MAX_PACKET_LEN
 fault_short bytes left r =
     let begins = r.fault.begins in
     let spelled = begins.2.1 in
@@ -157,10 +146,10 @@ op_in f k own n ds b xs after_own after_n after_deps rest range e1 e2 e3 e4 =
     let o : OpValue = record { dot = own; deps = ds; body = b } in
     let whole : op_at f k xs ≡ Ok (o, rest) =
     ap (λ (r : Read DotValue). r >>= λ own. byte_at own.0.site (max_site f) own.1 >>= λ n. deps_at own.0 1 n.0 n.1 >>= λ known. body_at f k n.0 known.1 >>= λ what.
-    op_read (record { dot = own.0; deps = known.0; body = what.0 }) what.1) e1
-    ∙ ap (λ (r : Read ℕ). r >>= λ n. deps_at own 1 n.0 n.1 >>= λ known. body_at f k n.0 known.1 >>= λ what. op_read (record { dot = own; deps = known.0; body = what.0 }) what.1) e2
-    ∙ ap (λ (r : Read (List ℕ)). r >>= λ known. body_at f k n known.1 >>= λ what. op_read (record { dot = own; deps = known.0; body = what.0 }) what.1) e3
-    ∙ ap (λ (r : Read Body). r >>= λ what. op_read (record { dot = own; deps = ds; body = what.0 }) what.1) e4 in
+    ok (record { dot = own.0; deps = known.0; body = what.0 }, what.1)) e1
+    ∙ ap (λ (r : Read ℕ). r >>= λ n. deps_at own 1 n.0 n.1 >>= λ known. body_at f k n.0 known.1 >>= λ what. ok (record { dot = own; deps = known.0; body = what.0 }, what.1)) e2
+    ∙ ap (λ (r : Read (List ℕ)). r >>= λ known. body_at f k n known.1 >>= λ what. ok (record { dot = own; deps = known.0; body = what.0 }, what.1)) e3
+    ∙ ap (λ (r : Read Body). r >>= λ what. ok (record { dot = own; deps = ds; body = what.0 }, what.1)) e4 in
     (to_op f k o ((op_reads f k range).sound xs o rest whole).2.can).op
 
 pub size_some : (own : DotValue) (n max_site : ℕ) (xs rest : List ℕ) → 1 ≤ own.site → byte_at own.site max_site xs ≡ Ok (n, rest) → (1 ≤ n) × (n ≤ max_site)

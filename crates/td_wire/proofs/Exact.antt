@@ -43,11 +43,14 @@ pub record Seq {A C : Type 0} (G : A → List ℕ → Type 0) (H : A → C → L
   pub head : G first front
   pub tail : H first c back
 
-abbrev ok : {A : Type 0} → A → Result A ℕ
+abbrev pub ok : {A : Type 0} → A → Result A ℕ
 ok x = Ok x
 
-ok_is : {A : Type 0} (x y : A) → ok x ≡ ok y → x ≡ y
+pub ok_is : {A : Type 0} (x y : A) → ok x ≡ ok y → x ≡ y
 ok_is x y e = cc
+
+pub ok_differs : {A : Type 0} (x : A) (left : ℕ) → ok x ≡ Err left → ⊥
+ok_differs x left e = cc
 
 -- the value of a step that did not fail
 pub bind_ok : {A B : Type 0} (r : Result A ℕ) (f : A → Result B ℕ) (y : B) → (r >>= f) ≡ Ok y → (x : A) × (r ≡ Ok x) × (f x ≡ Ok y)
@@ -145,10 +148,8 @@ module _ {A C : Type 0} (G : A → List ℕ → Type 0) (H : A → C → List �
             let regroup : good ++ b ∷ bad ≡ q.front ++ (p.0 ++ bad) =
             sym (append_assoc good (b ∷ []) bad) ∙ ap (λ (ys : List ℕ). ys ++ bad) p.1 ∙ append_assoc q.front p.0 bad in
             let read : r (good ++ b ∷ bad) ≡ Ok (q.first, p.0 ++ bad) = ap r regroup ∙ one.again q.first q.front (p.0 ++ bad) q.head in
-            absurd (differ left (q.first, p.0 ++ bad) (sym e ∙ read))
-      ] where
-        differ : (left : ℕ) (x : A × List ℕ) → ◌≡◌ {A = Result (A × List ℕ) ℕ} (Err left) (Ok x) → ⊥
-        differ left x e = cc
+            absurd (ok_differs (q.first, p.0 ++ bad) left (sym read ∙ e))
+      ]
 
   stops_second : (a : A) (front good bad : List ℕ) → G a front → Stops (H a) good bad → Stops (Seq G H) (front ++ good) bad
   stops_second a front good [] g stop = tt

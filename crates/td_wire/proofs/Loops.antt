@@ -1,7 +1,8 @@
 -- Loops that read one field after another: what was read so far, put in front of what reading gives for the rest, is what
 -- reading gives for all.
-use Rattle.std.proofs.Common.{◌≡◌, ℕ, zero, suc, ◌+◌, ◌-◌, ◌*◌, ◌/◌, ◌%◌, ◌<◌, ◌≤◌, leb, ◌&&◌, List, [], ◌∷◌, ◌++◌, length, take, drop, get_or, map, sum, All, Option, Some, None, Result, Ok, Err, refl, sym, ap, subst, ◌∙◌, append_assoc, add-one, arith}
+use Rattle.std.proofs.Common.{◌≡◌, ℕ, zero, suc, ◌+◌, ◌-◌, ◌*◌, ◌/◌, ◌%◌, ◌<◌, ◌≤◌, leb, List, [], ◌∷◌, ◌++◌, length, take, drop, get_or, map, sum, All, Option, Some, None, Result, Ok, Err, refl, sym, ap, subst, ◌∙◌, append_assoc, add-one, arith}
 use Rattle.std.specs.Prelude.{IsSome, slice_set}
+use Rattle.std.specs.Int.{is_in_range}
 use Rattle.std.specs.Option.{SomeIff}
 use Rattle.std.specs.Result.{result_ok}
 use Rattle.td_base.specs.Run.{IsRun, pieces}
@@ -17,6 +18,7 @@ use Rattle.std.proofs.Math.Seq.{take-suc-set, drop-cons}
 use Rattle.td_base.specs.Value.{DotValue}
 use Rattle.td_wire.specs.Reading.{Read, ◌>>=◌, byte_at, number_at, character_len, second_least, second_most, lead_at, continuations_at, character_at, text_at, atom_at, lengths_at, atoms_at, dep_least, dep_most, deps_at}
 use Rattle.td_wire.proofs.Bytes.{InRange, passing_sound, number_is, number_reads}
+use Rattle.td_wire.proofs.Exact.{ok, ok_is}
 use Rattle.td_wire.proofs.Texts.{character_reads}
 use Rattle.td_wire.proofs.Runs.{AtomOf, atom_reads, Lengths, to_lengths, lengths_reads, AtomsFrom, atoms_reads, to_atoms, from_atoms, length_concat, run_from}
 
@@ -28,11 +30,8 @@ mapped f r = r >>= λ x. Ok (f x.0, x.1)
 abbrev pub joined : {X A : Type 0} → (X → A → A) → Read X → (X × List ℕ → Read A) → Read A
 joined join first next = first >>= λ y. next y >>= λ a. Ok (join y.0 a.0, a.1)
 
-abbrev done : {A : Type 0} → A → List ℕ → Read A
-done a rest = Ok (a, rest)
-
 mapped_twice : {A B C : Type 0} (f : B → C) (g : A → B) (h : A → C) (r : Read A) → ((a : A) → f (g a) ≡ h a) → mapped f (mapped g r) ≡ mapped h r
-mapped_twice f g h (Ok x) same = ap (λ c. done c x.1) (same x.0)
+mapped_twice f g h (Ok x) same = ap (λ c. ok (c, x.1)) (same x.0)
 mapped_twice f g h (Err left) same = refl
 
 pub goes_on : {X A B : Type 0} (join : X → A → A) (first : Read X) (next : X × List ℕ → Read A) (f g : A → B) (x : X) (after : List ℕ) (total : Read B)
@@ -44,12 +43,12 @@ pub ends : {X A B : Type 0} (join : X → A → A) (first : Read X) (next : X ×
     → first ≡ Err left → mapped f (joined join first next) ≡ total → total ≡ Err left
 ends {X} join first next f left total read so_far = sym so_far ∙ ap (λ (r : Read X). mapped f (joined join r next)) read
 
-pub is_done : {A B : Type 0} (f : A → B) (a : A) (b : B) (rest : List ℕ) (total : Read B) → f a ≡ b → mapped f (done a rest) ≡ total → total ≡ Ok (b, rest)
-is_done f a b rest total e so_far = sym so_far ∙ ap (λ c. done c rest) e
+pub is_done : {A B : Type 0} (f : A → B) (a : A) (b : B) (rest : List ℕ) (total : Read B) → f a ≡ b → mapped f (ok (a, rest)) ≡ total → total ≡ Ok (b, rest)
+is_done f a b rest total e so_far = sym so_far ∙ ap (λ c. ok (c, rest)) e
 
 -- nothing was read so far
 pub begins : {A : Type 0} (f : A → A) (r : Read A) → ((a : A) → f a ≡ a) → mapped f r ≡ r
-begins f (Ok x) same = ap (λ c. done c x.1) (same x.0)
+begins f (Ok x) same = ap (λ c. ok (c, x.1)) (same x.0)
 begins f (Err left) same = refl
 
 -- ---- values that are in range
@@ -81,7 +80,7 @@ number_in_front low high n (a ∷ []) four is byte least most short = absurd (om
 number_in_front low high n (a ∷ b ∷ []) four is byte least most short = absurd (omega (arith, four))
 number_in_front low high n (a ∷ b ∷ c ∷ []) four is byte least most short = absurd (omega (arith, four))
 number_in_front low high n (a ∷ b ∷ c ∷ d ∷ rest) four is byte least most short =
-    number_taken low high n a b c d rest is byte least most short ∙ ap (λ ys. done n ys) (sym (take_all (length (a ∷ b ∷ c ∷ d ∷ rest) - 4) rest (omega arith)))
+    number_taken low high n a b c d rest is byte least most short ∙ ap (λ ys. ok (n, ys)) (sym (take_all (length (a ∷ b ∷ c ∷ d ∷ rest) - 4) rest (omega arith)))
 
 pub character_in : (room : ℕ) (xs : List ℕ) (n : ℕ) (rest : List ℕ) → 1 ≤ room → character_at room xs ≡ Ok (n, rest) → (1 ≤ n) × (n ≤ room)
 character_in room xs n rest some read = let c = ((character_reads room some).sound xs n rest read).2 in (c.some, c.short)
@@ -159,12 +158,12 @@ continues_done count i least most xs total le ge so_far =
 
 byte_is : (low high : ℕ) (xs : List ℕ) (b : ℕ) (after : List ℕ) → byte_at low high xs ≡ Ok (b, after) → xs ≡ b ∷ after
 byte_is low high xs b after read =
-    let p = passing_sound (λ n. leb low n && leb n high) xs b after read in
+    let p = passing_sound (is_in_range low high) xs b after read in
     p.1 ∙ ap (λ (ys : List ℕ). ys ++ after) p.2.is
 
 pub byte_range : (low high : ℕ) (xs : List ℕ) (b : ℕ) (after : List ℕ) → byte_at low high xs ≡ Ok (b, after) → InRange low high b
 byte_range low high xs b after read =
-    let p = passing_sound (λ n. leb low n && leb n high) xs b after read in
+    let p = passing_sound (is_in_range low high) xs b after read in
     let parts = and_parts (leb low b) (leb b high) p.2.passes in
     record { least = leb-true low b parts.0; most = leb-true b high parts.1 }
 
@@ -182,7 +181,7 @@ character_done room b len least most xs ys zs len_is some least_is most_is first
     let behind : continuations_at (character_len b - 1) (second_least b) (second_most b) ys ≡ Ok (len - 1, zs) =
     rw (← len_is, ← least_is, ← most_is) read in
     ap (λ (r : Read ℕ). r >>= λ x. mapped suc (continuations_at (character_len x.0 - 1) (second_least x.0) (second_most x.0) x.1)) first
-    ∙ ap (mapped suc) behind ∙ ap (λ n. done n zs) (omega (arith, some))
+    ∙ ap (mapped suc) behind ∙ ap (λ n. ok (n, zs)) (omega (arith, some))
 
 pub lengths_step : (items : List ℕ) (count i room l : ℕ) (after : List ℕ) (total : Read (List ℕ)) → i < count → byte_at 1 (room - (count - i - 1)) (drop i items) ≡ Ok (l, after)
     → mapped (λ ls. take i items ++ ls) (lengths_at (count - i) room (drop i items)) ≡ total
@@ -274,13 +273,13 @@ pub record Taken (len : ℕ) (xs rest : List ℕ) : Type 0 where
 pub text_taken : (len n : ℕ) (xs rest : List ℕ) → text_at len len xs ≡ Ok (n, rest) → Taken len xs rest
 unfolding atom_at
 text_taken len n xs rest read =
-    let whole : atom_at len xs ≡ Ok (take len xs, rest) = ap (λ (r : Read ℕ). r >>= λ t. done (take len xs) t.1) read in
+    let whole : atom_at len xs ≡ Ok (take len xs, rest) = ap (λ (r : Read ℕ). r >>= λ t. ok (take len xs, t.1)) read in
     let field = ((atom_reads len).sound xs (take len xs) rest whole).2 in
     record { atom = field.can; read = whole }
 
 pub atom_end : (len left : ℕ) (xs : List ℕ) → text_at len len xs ≡ Err left → atom_at len xs ≡ Err left
 unfolding atom_at
-atom_end len left xs read = ap (λ (r : Read ℕ). r >>= λ t. done (take len xs) t.1) read
+atom_end len left xs read = ap (λ (r : Read ℕ). r >>= λ t. ok (take len xs, t.1)) read
 
 -- ---- atoms
 
@@ -309,14 +308,8 @@ atoms_end lens i left xs all lt read so_far =
     fault_again all left (ends (λ a more. a ∷ more) (atom_at len xs) (λ x. atoms_at (drop (suc i) lens) x.1) (λ _. []) left (passed all) (atom_end len left xs read)
     (subst (λ (ls : List ℕ). passed (atoms_at ls xs) ≡ passed all) (drop-cons lens i 0 lt) so_far))
 
-abbrev read_is : List (List ℕ) × List ℕ → Read (List (List ℕ))
-read_is x = Ok x
-
-pair_is : (x y : List (List ℕ) × List ℕ) → read_is x ≡ read_is y → x ≡ y
-pair_is x y e = cc
-
 atoms_again : (r : Read (List (List ℕ))) (rest : List ℕ) → passed r ≡ Ok ([], rest) → (atoms : List (List ℕ)) × (r ≡ Ok (atoms, rest))
-atoms_again (Ok x) rest e = let same : x.1 ≡ rest = ap (λ (y : List (List ℕ) × List ℕ). y.1) (pair_is ([], x.1) ([], rest) e) in (x.0, ap (λ ys. done x.0 ys) same)
+atoms_again (Ok x) rest e = let same : x.1 ≡ rest = ap (λ (y : List (List ℕ) × List ℕ). y.1) (ok_is ([], x.1) ([], rest) e) in (x.0, ap (λ ys. ok (x.0, ys)) same)
 atoms_again (Err k) rest e = absurd cc
 
 atoms_done : (lens : List ℕ) (i : ℕ) (xs : List ℕ) (all : Read (List (List ℕ))) → length lens ≤ i → passed (atoms_at (drop i lens) xs) ≡ passed all
@@ -344,7 +337,7 @@ atoms_cut lens i xs rest end some each together so_far =
     let cut : pieces lens s.0 ≡ atoms = (λ j. pieces (sym lengths j) (s.2.is j)) ∙ pieces_again atoms in
     let size : sum lens ≡ length s.0 = ap sum (sym lengths) ∙ sym (length_concat atoms) ∙ ap length (sym s.2.is) in
     let run : IsRun atoms = run_from lens atoms s.2.can some (recursion_from_All (λ l. 1 ≤ l) lens each) together in
-    let made : IsCut lens xs s.0 rest = record { within = omega (arith, long); whole = size; run = rw cut run; read = read.1 ∙ ap (λ a. done a rest) (sym cut) } in
+    let made : IsCut lens xs s.0 rest = record { within = omega (arith, long); whole = size; run = rw cut run; read = read.1 ∙ ap (λ a. ok (a, rest)) (sym cut) } in
     rw front made
 
 -- pieces of ASCII are texts

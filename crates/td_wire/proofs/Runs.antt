@@ -11,7 +11,7 @@ use Rattle.td_wire.specs.declared.format.Format.{Format}
 use Rattle.td_wire.specs.declared.format.Format.TheVariants.{One, Two}
 use Rattle.td_wire.specs.Spelling.{run_bytes as run}
 use Rattle.td_wire.specs.Reading.{Read, ◌>>=◌, byte_at, text_at, atom_at, lengths_at, atoms_at, run_at}
-use Rattle.td_wire.proofs.Exact.{Begins, Stops, IsFault, Reads, Field, renamed, made, chain, nothing, bind_ok, bind_err}
+use Rattle.td_wire.proofs.Exact.{ok, ok_is, ok_differs, Begins, Stops, IsFault, Reads, Field, renamed, made, chain, nothing, bind_ok, bind_err}
 use Rattle.td_wire.proofs.Bytes.{InRange, one_byte, byte_reads}
 use Rattle.td_wire.proofs.Texts.{Text, text_reads}
 
@@ -24,23 +24,14 @@ pub record AtomOf (len : ℕ) (a : List ℕ) : Type 0 where
 abbrev pub itself : List ℕ → List ℕ
 itself a = a
 
-abbrev read_is : List ℕ × List ℕ → Read (List ℕ)
-read_is x = Ok x
-
-pair_is : (x y : List ℕ × List ℕ) → read_is x ≡ read_is y → x ≡ y
-pair_is x y e = cc
-
 abbrev taking : ℕ → List ℕ → ℕ × List ℕ → Read (List ℕ)
 taking len xs t = Ok (take len xs, t.1)
-
-no_fault : (x : List ℕ × List ℕ) (left : ℕ) → read_is x ≡ Err left → ⊥
-no_fault x left e = cc
 
 atom_sound : (len : ℕ) (xs a rest : List ℕ) → (text_at len len xs >>= taking len xs) ≡ Ok (a, rest) → (front : List ℕ) × (xs ≡ front ++ rest) × Field (AtomOf len) itself a front
 atom_sound len xs a rest e =
     let step = bind_ok (text_at len len xs) (taking len xs) (a, rest) e in
     let t = (text_reads len len (omega arith)).sound xs step.0.0 step.0.1 step.1 in
-    let both = pair_is (take len xs, step.0.1) (a, rest) step.2 in
+    let both = ok_is (take len xs, step.0.1) (a, rest) step.2 in
     let front : take len xs ≡ t.0 = ap (take len) t.1 ∙ take_at t.0 step.0.1 len t.2.len_is in
     let value : t.0 ≡ a = sym front ∙ ap (λ (x : List ℕ × List ℕ). x.0) both in (
       t.0,
@@ -52,7 +43,7 @@ atom_again : (len : ℕ) (a front rest : List ℕ) → Field (AtomOf len) itself
 atom_again len a front rest f =
     let long : length front ≡ len = ap length f.is ∙ f.can.len_is in
     let read = (text_reads len len (omega arith)).again len front rest (record { value = refl; len_is = long; text = subst IsUtf8 (sym f.is) f.can.text }) in
-    ap (λ (t : Read ℕ). t >>= taking len (front ++ rest)) read ∙ ap (λ (x : List ℕ). read_is (x, rest)) (take_at front rest len long ∙ f.is)
+    ap (λ (t : Read ℕ). t >>= taking len (front ++ rest)) read ∙ ap (λ (x : List ℕ). ok (x, rest)) (take_at front rest len long ∙ f.is)
 
 to_begins : (len : ℕ) (xs : List ℕ) → Begins (Text len) xs → Begins (Field (AtomOf len) itself) xs
 to_begins len xs b = (xs ++ b.1, b.1, record { can = record { len_is = b.2.len_is; text = b.2.text }; is = refl })
@@ -69,7 +60,7 @@ atom_fault len xs left e = elim (bind_err (text_at len len xs) (taking len xs) l
   | inl first ↦
       let f = (text_reads len len (omega arith)).fault xs left first in
       record { good = f.good; bad = f.bad; parts = f.parts; left_is = f.left_is; begins = to_begins len f.good f.begins; stops = atom_stops len f.good f.bad f.stops }
-  | inr second ↦ absurd (no_fault (take len xs, second.0.1) left second.2)
+  | inr second ↦ absurd (ok_differs (take len xs, second.0.1) left second.2)
 ]
 
 pub atom_reads : (len : ℕ) → Reads (Field (AtomOf len) itself) (atom_at len)

@@ -4,11 +4,12 @@ use Rattle.std.specs.Str.{IsUtf8, encode_utf8_all, all_scalars}
 use Rattle.std.specs.Char.{IsScalar, encode_utf8}
 use Rattle.std.proofs.lemmas.Bool.{ltb-true, leb-true, lt-ltb, le-leb, and_parts, and_from, cases_lt}
 use Rattle.std.proofs.lemmas.List.{append-nil, length-append}
-use Rattle.std.proofs.lemmas.Str.{IsUtf8-append, IsUtf8-encode}
+use Rattle.std.proofs.Math.Utf8.{low_scalar, scalar_cases}
+use Rattle.std.proofs.lemmas.Str.{IsUtf8-nil, IsUtf8-append, IsUtf8-encode, encode_ascii, length-encode, len_utf8_bounds}
 use Rattle.td_wire.specs.Reading.{byte_at, character_len, second_least, second_most, lead_at, continuations_at, character_at, text_at}
 use Rattle.td_wire.proofs.Exact.{Reads, Done, Seq, done, same, then}
 use Rattle.td_wire.proofs.Bytes.{Passes, passing_reads, Byte, byte_reads}
-use Rattle.td_wire.proofs.Utf8.{Lead, lead_1, lead_2, lead_3, lead_4, lead_is, len_1, len_2, len_3, len_4, Second, to_second, from_second, second_some, IsCharacter, made_2, made_3, made_4, encode_1, encode_2, encode_3, encode_4, low_scalar, scalar_is}
+use Rattle.td_wire.proofs.Utf8.{Lead, lead_1, lead_2, lead_3, lead_4, lead_is, len_1, len_2, len_3, len_4, Second, to_second, from_second, second_some, IsCharacter, made_2, made_3, made_4, encode_2, encode_3, encode_4}
 
 -- so many bytes that continue a character, the first of them in a range of its own
 abbrev Continues : ℕ → ℕ → ℕ → ℕ → List ℕ → Type 0
@@ -78,7 +79,7 @@ by_lead b room k ys n (lead_1 h) short c =
       len_is = rw (c.nothing, ← c.is) refl;
       some = omega arith;
       short = omega (arith, c.is, short);
-      character = record { code = b; scalar = low_scalar b (omega arith); spelled = encode_1 b h ∙ ap (λ (zs : List ℕ). b ∷ zs) (sym c.nothing) };
+      character = record { code = b; scalar = low_scalar b (omega arith); spelled = encode_ascii b h ∙ ap (λ (zs : List ℕ). b ∷ zs) (sym c.nothing) };
     }
 by_lead b room k ys n (lead_2 h l) short c =
     let x = next 0 (second_least b) (second_most b) k ys c in
@@ -158,7 +159,7 @@ from_character room len xs ch = by_code ch.character.code ch.character.scalar ch
   by_code : (c : ℕ) → IsScalar c → encode_utf8 c ≡ xs → Spelled room len xs
   by_code c scalar spelled = elim (cases_lt c 128) [
     | inl h ↦
-        let bytes = sym (encode_1 c h) ∙ spelled in
+        let bytes = sym (encode_ascii c h) ∙ spelled in
         let long : 1 ≡ len = ap length bytes ∙ ch.len_is in
         spelled_from room len c 1 0 [] xs (len_1 c h) (omega arith) (omega (arith, long, ch.short)) (none (second_least c) (second_most c)) long bytes
     | inr g ↦ elim (cases_lt c 2048) [
@@ -187,7 +188,7 @@ from_character room len xs ch = by_code ch.character.code ch.character.scalar ch
               least = omega arith;
               most = omega arith;
               after_224 = λ e. omega (arith, e);
-              after_237 = λ e. elim (scalar_is c scalar) [ inl t ↦ omega (arith, e, t) | inr t ↦ absurd (omega (arith, e, t.0)) ];
+              after_237 = λ e. elim (scalar_cases c scalar) [ inl t ↦ omega (arith, e, t) | inr t ↦ absurd (omega (arith, e, t.0)) ];
               after_240 = λ e. absurd (omega (arith, e));
               after_244 = λ e. absurd (omega (arith, e));
             } in
@@ -201,7 +202,7 @@ from_character room len xs ch = by_code ch.character.code ch.character.scalar ch
             let b : ℕ = 128 + c / 4096 % 64 in
             let d : ℕ = 128 + c / 64 % 64 in
             let f : ℕ = 128 + c % 64 in
-            let top : c < 1114112 = elim (scalar_is c scalar) [ inl t ↦ omega (arith, t) | inr t ↦ t.1 ] in
+            let top : c < 1114112 = elim (scalar_cases c scalar) [ inl t ↦ omega (arith, t) | inr t ↦ t.1 ] in
             let s : Second a b = record {
               least = omega arith;
               most = omega arith;
@@ -234,9 +235,6 @@ pub record Text (room n : ℕ) (xs : List ℕ) : Type 0 where
   pub len_is : length xs ≡ room
   pub text : IsUtf8 xs
 
-empty_text : IsUtf8 []
-empty_text = ([], (refl, refl))
-
 no_text : (n : ℕ) (xs : List ℕ) → Text 0 n xs → Done 0 n xs
 no_text n [] t = record { is = t.value; nothing = refl }
 no_text n (b ∷ xs) t = absurd (omega (arith, t.len_is))
@@ -256,26 +254,16 @@ to_text room n xs q =
       text = subst IsUtf8 (sym bytes) (IsUtf8-append q.front q.tail.front first t.text);
     }
 
--- the bytes of a character are one at least
-some_bytes : (c : ℕ) → 1 ≤ length (encode_utf8 c)
-some_bytes c = elim (cases_lt c 128) [
-  | inl h ↦ rw (encode_1 c h) (omega arith)
-  | inr g ↦ elim (cases_lt c 2048) [
-    | inl h ↦ rw (encode_2 c g h) (omega arith)
-    | inr g ↦ elim (cases_lt c 65536) [ inl h ↦ rw (encode_3 c g h) (omega arith) | inr g ↦ rw (encode_4 c g) (omega arith) ]
-  ]
-]
-
 from_text : (room n : ℕ) (xs : List ℕ) → 1 ≤ room → Text room n xs → Split room n xs
 from_text room n xs some t = by_codes t.text.0 t.text.1.0 t.text.1.1 where
   by_codes : (cs : List ℕ) → all_scalars cs ≡ true → encode_utf8_all cs ≡ xs → Split room n xs
   by_codes [] scalars spelled = absurd (omega (arith, ap length spelled, t.len_is, some))
   by_codes (c ∷ cs) scalars spelled =
+      let first : 1 ≤ length (encode_utf8 c) = omega (arith, length-encode c, len_utf8_bounds c) in
       let each = and_parts _ (all_scalars cs) scalars in
       let long = length-append (encode_utf8 c) (encode_utf8_all cs) in
       let whole = ap length spelled in
       let len : ℕ = length (encode_utf8 c) in
-      let first = some_bytes c in
       record {
         first = len;
         front = encode_utf8 c;
@@ -294,8 +282,8 @@ from_text room n xs some t = by_codes t.text.0 t.text.1.0 t.text.1.1 where
 
 pub text_reads : (bound room : ℕ) → room ≤ bound → Reads (Text room) (text_at bound room)
 unfolding text_at
-text_reads zero zero h = same (Done 0) (Text 0) _ (λ n xs d. record { value = d.is; len_is = ap length d.nothing; text = subst IsUtf8 (sym d.nothing) empty_text }) no_text (done 0)
-text_reads (suc bound) zero h = same (Done 0) (Text 0) _ (λ n xs d. record { value = d.is; len_is = ap length d.nothing; text = subst IsUtf8 (sym d.nothing) empty_text }) no_text (done 0)
+text_reads zero zero h = same (Done 0) (Text 0) _ (λ n xs d. record { value = d.is; len_is = ap length d.nothing; text = subst IsUtf8 (sym d.nothing) IsUtf8-nil }) no_text (done 0)
+text_reads (suc bound) zero h = same (Done 0) (Text 0) _ (λ n xs d. record { value = d.is; len_is = ap length d.nothing; text = subst IsUtf8 (sym d.nothing) IsUtf8-nil }) no_text (done 0)
 text_reads zero (suc room) h = absurd (omega (arith, h))
 text_reads (suc bound) (suc room) h = same (Split (suc room)) (Text (suc room)) _ (to_text (suc room)) (λ n xs t. from_text (suc room) n xs (omega arith) t)
     (then (Character (suc room)) (λ len. Seq (Text (suc room - len)) (λ m. Done (len + m))) (character_at (suc room)) _ (character_reads (suc room) (omega arith)) (λ len front ch.

@@ -1,7 +1,8 @@
 -- Texts of a stated length, character by character, as RFC 3629 has the bytes of a character.
 use Rattle.std.proofs.Common.{◌≡◌, ℕ, ◌+◌, ◌-◌, ◌*◌, ◌/◌, ◌%◌, ◌<◌, ◌≤◌, true, leb, ltb, eqb, List, [], ◌∷◌, ◌⊎◌, inl, inr, sym, ap, subst, ◌∙◌, arith}
 use Rattle.std.specs.Char.{IsScalar, encode_utf8}
-use Rattle.std.proofs.lemmas.Bool.{ltb-true, leb-true, lt-ltb, le-ltb, le-leb, eq-eqb, ne_eqb, and_parts, and_from, cond-true, cond-false, cases_lt, cases_eq}
+use Rattle.std.proofs.Math.Utf8.{low_scalar}
+use Rattle.std.proofs.lemmas.Bool.{lt-ltb, le-ltb, le-leb, eq-eqb, ne_eqb, and_from, cond-true, cond-false, cases_lt, cases_eq}
 use Rattle.td_wire.specs.Reading.{character_len, second_least, second_most}
 use Rattle.td_wire.proofs.Bytes.{InRange}
 
@@ -124,10 +125,6 @@ from_second b c s = record {
 
 -- ---- characters and their bytes
 
-pub encode_1 : (c : ℕ) → c < 128 → encode_utf8 c ≡ c ∷ []
-unfolding encode_utf8
-encode_1 c h = cond-true (ltb c 128) _ _ (lt-ltb c 128 h)
-
 pub encode_2 : (c : ℕ) → 128 ≤ c → c < 2048 → encode_utf8 c ≡ (192 + c / 64) ∷ (128 + c % 64) ∷ []
 unfolding encode_utf8
 encode_2 c h k = cond-false (ltb c 128) _ _ (le-ltb c 128 h) ∙ cond-true (ltb c 2048) _ _ (lt-ltb c 2048 k)
@@ -140,19 +137,8 @@ pub encode_4 : (c : ℕ) → 65536 ≤ c → encode_utf8 c ≡ (240 + c / 262144
 unfolding encode_utf8
 encode_4 c h = cond-false (ltb c 128) _ _ (le-ltb c 128 (omega arith)) ∙ cond-false (ltb c 2048) _ _ (le-ltb c 2048 (omega arith)) ∙ cond-false (ltb c 65536) _ _ (le-ltb c 65536 h)
 
-pub low_scalar : (c : ℕ) → c < 55296 → IsScalar c
-low_scalar c h = cond-true (ltb c 55296) true _ (lt-ltb c 55296 h)
-
 high_scalar : (c : ℕ) → 57344 ≤ c → c < 1114112 → IsScalar c
 high_scalar c h k = cond-false (ltb c 55296) true _ (le-ltb c 55296 (omega arith)) ∙ and_from (leb 57344 c) (ltb c 1114112) (le-leb 57344 c h) (lt-ltb c 1114112 k)
-
-pub scalar_is : (c : ℕ) → IsScalar c → (c < 55296) ⊎ ((57344 ≤ c) × (c < 1114112))
-scalar_is c h = elim (cases_lt c 55296) [
-  | inl a ↦ inl a
-  | inr a ↦
-      let parts = and_parts (leb 57344 c) (ltb c 1114112) (sym (cond-false (ltb c 55296) true _ (le-ltb c 55296 a)) ∙ h) in
-      inr (leb-true 57344 c parts.0, ltb-true c 1114112 parts.1)
-]
 
 -- the bytes are those of one character
 pub record IsCharacter (xs : List ℕ) : Type 0 where

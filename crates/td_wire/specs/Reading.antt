@@ -1,6 +1,7 @@
 -- How the private readers go through the bytes, one field after another. No clause of a public call speaks of it.
 use Rattle.std.specs.Prelude.{◌≡◌, ℕ, zero, suc, ◌+◌, ◌-◌, ◌*◌, ◌/◌, ◌%◌, Bool, ◌&&◌, nat_le, nat_lt, ◌==◌, if◌then◌else◌}
 use Rattle.std.specs.Prelude.{List, [], ◌∷◌, length, take, Result, Ok, Err}
+use Rattle.std.specs.Int.{is_in_range}
 use Rattle.td_base.specs.Value.{DotValue, AtomIdValue}
 use Rattle.td_base.specs.declared.site.TheConstants.{MAX_SITE}
 use Rattle.td_base.specs.declared.dot.TheConstants.{MAX_SEQ}
@@ -48,7 +49,7 @@ passing_at p [] = Err 0
 passing_at p (b ∷ bytes) = if p b then Ok (b, bytes) else Err (suc (length bytes))
 
 abbrev pub byte_at : ℕ → ℕ → List ℕ → Read ℕ
-byte_at least most bytes = passing_at (λ b. nat_le least b && nat_le b most) bytes
+byte_at least most bytes = passing_at (is_in_range least most) bytes
 
 -- of the lowest byte of a number in a range, where the byte above it is known
 abbrev pub low_least : ℕ → ℕ → ℕ

@@ -1,12 +1,9 @@
-use Rattle.std.proofs.Common.{ℕ, List, Ok, take, sym, ap, ◌∙◌, refl, arith}
+use Rattle.std.proofs.Common.{take, sym, ap, ◌∙◌, refl, arith}
 use Rattle.std.proofs.lemmas.Result.{err_from_is_err_and, Ok-from_Ok_iff}
 use Rattle.td_base.specs.Atom.{IsAtom}
-use Rattle.td_wire.specs.Reading.{Read}
+use Rattle.td_wire.proofs.Exact.{ok}
 use Rattle.td_wire.proofs.Loops.{text_taken, atom_end, ok_value}
 use Rattle.td_wire.proofs.reader.Reader.atom.Goals as goal
-
-abbrev read_of : List ℕ → List ℕ → Read (List ℕ)
-read_of a rest = Ok (a, rest)
 
 pub returns-in_err-text : goal.returns-in_err-text
 returns-in_err-text c =
@@ -29,4 +26,4 @@ returns c =
     let t = text_taken c.args.len c.args.len c.args.self.now.rest.now c.text.new.self.rest.now c.in_ok-text.ensures in
     let atom : IsAtom (take c.args.len c.args.self.now.rest.now) = record { some = omega (arith, t.atom.len_is); short = omega (arith, t.atom.len_is); text = t.atom.text } in
     let made = Ok-from_Ok_iff c.new.result _ _ c.new.ensures.ok atom in
-    t.read ∙ ap (λ a. read_of a c.text.new.self.rest.now) (ok_value c.new.result c.ok.result c.unwrap.result (take c.args.len c.args.self.now.rest.now) c.ok.ensures.value made c.unwrap.ensures)
+    t.read ∙ ap (λ a. ok (a, c.text.new.self.rest.now)) (ok_value c.new.result c.ok.result c.unwrap.result (take c.args.len c.args.self.now.rest.now) c.ok.ensures.value made c.unwrap.ensures)

@@ -1,10 +1,5 @@
-use Rattle.std.proofs.Common.{ℕ, List, Ok}
-use Rattle.td_wire.specs.Reading.{Read}
 use Rattle.td_wire.proofs.Loops.{ascii_cut}
 use Rattle.td_wire.proofs.reader.Reader.atoms.Goals as goal
-
-abbrev read_of : List (List ℕ) → List ℕ → Read (List (List ℕ))
-read_of a rest = Ok (a, rest)
 
 pub cut-requires-clause-run : goal.cut-requires-clause-run
 cut-requires-clause-run c =

@@ -1,12 +1,10 @@
-use Rattle.std.proofs.Common.{◌≡◌, ℕ, List, ◌+◌, ◌-◌, ◌≤◌, ◌++◌, Ok, take, drop, subst, sym, ap, ◌∙◌, arith}
+use Rattle.std.proofs.Common.{◌≡◌, ℕ, List, ◌+◌, ◌-◌, ◌≤◌, ◌++◌, take, drop, subst, sym, ap, ◌∙◌, arith}
 use Rattle.std.proofs.lemmas.Result.{err_from_is_err_and}
 use Rattle.std.proofs.lemmas.List.Elements.{All-from_recursion}
-use Rattle.td_wire.specs.Reading.{Read, byte_at, lengths_at}
+use Rattle.td_wire.specs.Reading.{byte_at, lengths_at}
+use Rattle.td_wire.proofs.Exact.{ok}
 use Rattle.td_wire.proofs.Loops.{mapped, lengths_step, lengths_end, lengths_done, lengths_in, behind_byte}
 use Rattle.td_wire.proofs.reader.Reader.lengths.Goals as goal
-
-abbrev read_of : List ℕ → List ℕ → Read (List ℕ)
-read_of ls rest = Ok (ls, rest)
 
 pub returns-in_err-room-clause-read : goal.returns-in_err-room-clause-read
 returns-in_err-room-clause-read c =
@@ -36,7 +34,7 @@ pub returns-clause-read : goal.returns-clause-read
 returns-clause-read c =
     let items : List ℕ = c.args.self.now.rest.now in
     lengths_done items c.args.count c.loop-i.i c.loop-i.room _ c.loop-i-test.false (omega arith) c.loop-i.invariant.read
-    ∙ ap (λ ys. read_of (take c.args.count items) ys) (sym c.loop-i.invariant.at)
+    ∙ ap (λ ys. ok (take c.args.count items, ys)) (sym c.loop-i.invariant.at)
 
 pub returns-clause-each : goal.returns-clause-each
 returns-clause-each c =

@@ -1,11 +1,9 @@
-use Rattle.std.proofs.Common.{ℕ, List, Ok, ap, sym, ◌∙◌, refl}
+use Rattle.std.proofs.Common.{ap, sym, ◌∙◌, refl}
 use Rattle.std.proofs.lemmas.Result.{err_from_is_err_and}
-use Rattle.td_wire.specs.Reading.{Read, atoms_at}
+use Rattle.td_wire.specs.Reading.{atoms_at}
+use Rattle.td_wire.proofs.Exact.{ok}
 use Rattle.td_wire.proofs.Loops.{atoms_step, atoms_end, atoms_cut}
 use Rattle.td_wire.proofs.reader.Reader.texts.Goals as goal
-
-abbrev read_of : List (List ℕ) → List ℕ → Read (List (List ℕ))
-read_of a rest = Ok (a, rest)
 
 pub loop-len-init : goal.loop-len-init
 loop-len-init c = refl
@@ -35,4 +33,4 @@ cut-requires-clause-run c =
 pub returns : goal.returns
 returns c =
     (atoms_cut c.args.lengths.now c.loop-len.len-index c.args.self.now.rest.now c.loop-len.self.rest.now c.loop-len-test.false c.requires.some c.requires.each c.requires.together c.loop-len.invariant).read
-    ∙ ap (λ a. read_of a c.loop-len.self.rest.now) (sym c.cut.ensures)
+    ∙ ap (λ a. ok (a, c.loop-len.self.rest.now)) (sym c.cut.ensures)
