@@ -1,10 +1,14 @@
 -- What is judged of a line: a command where the line is the line of a command that can stand there, and only there.
-use Rattle.std.proofs.Common.{◌≡◌, ◌≢◌, ◌<◌, ◌≤◌, ◌+◌, ◌^◌, ℕ, Bool, true, false, cond, not, eqb, ltb, List, [], ◌∷◌, ◌++◌, length, codes, find, Option, Some, None, Result, Ok, Err, Bor, MatchResult, refl, sym, ap, subst, ◌∙◌, bytes_eq, IsUtf8, arith}
+use Rattle.std.proofs.Common.{◌≡◌, ◌≢◌, ◌<◌, ◌≤◌, ◌+◌, ◌^◌, ℕ, Bool, true, false, cond, not, eqb, ltb, List, [], ◌∷◌}
+use Rattle.std.proofs.Common.{◌++◌, length, codes, find, Option, Some, None, Result, Ok, Err, Bor, MatchResult, refl}
+use Rattle.std.proofs.Common.{sym, ap, subst, ◌∙◌, bytes_eq, IsUtf8, arith}
 use Rattle.std.specs.List.{list_all, list_any}
 use Rattle.std.specs.Prelude.{IfSome, IfNone}
 use Rattle.std.specs.Result.{result_ok}
 use Rattle.std.specs.Str.{is_utf8}
-use Rattle.std.proofs.lemmas.Bool.{both_ways, eqb-false, ne_eqb, ltb-true, ltb-false, le-ltb, cond-true, cond-false, and_parts, and_from, and_right, not-true, not_from_true, not_from_false, false_from_ne_true}
+use Rattle.std.proofs.lemmas.Bool.{both_ways, eqb-false, ne_eqb, ltb-true, ltb-false, le-ltb, cond-true, cond-false}
+use Rattle.std.proofs.lemmas.Bool.{and_parts, and_from, and_right, not-true, not_from_true, not_from_false}
+use Rattle.std.proofs.lemmas.Bool.{false_from_ne_true}
 use Rattle.std.proofs.lemmas.List.Folds.{list_any_at}
 use Rattle.std.proofs.lemmas.List.Sums.{AllPass-from_list_all}
 use Rattle.std.proofs.lemmas.List.Elements.{All-weaker}
@@ -15,7 +19,8 @@ use Rattle.td_base.specs.declared.site.TheConstants.{MAX_SITE}
 use Rattle.unicode_segmentation.proofs.TextLemmas.{IsUtf8-after}
 use Rattle.td_script.specs.declared.before.Before.{Before}
 use Rattle.td_script.specs.declared.command.Command.{Command}
-use Rattle.td_script.specs.declared.command.Command.TheVariants.{Sites, Ins, Paste, Del, Flat, FlatAuto, Cancel, Give, GiveAll, Settle, Show, Tree, Count, Mark, Meet, Marks}
+use Rattle.td_script.specs.declared.command.Command.TheVariants.{Sites, Ins, Paste, Del, Flat, FlatAuto, Cancel, Give}
+use Rattle.td_script.specs.declared.command.Command.TheVariants.{GiveAll, Settle, Show, Tree, Count, Mark, Meet, Marks}
 use Rattle.td_script.specs.declared.command.Place.TheVariants.{Whole, Beside}
 use Rattle.td_script.specs.declared.kind.Kind.{Kind}
 use Rattle.td_script.specs.declared.kind.Kind.TheVariants as Fault
@@ -25,7 +30,8 @@ use Rattle.td_script.specs.declared.word.Word.TheVariants as First
 use Rattle.td_script.specs.declared.word.SiteWord.{SiteWord}
 use Rattle.td_script.specs.declared.word.SiteWord.TheVariants as At
 use Rattle.td_script.specs.Arguments.{by_word, cut_word, last, site_of, sites_of}
-use Rattle.td_script.specs.Faults.{command, is_misplaced, is_too_much, is_too_wide, judged, command_named, said, sites_at, within}
+use Rattle.td_script.specs.Faults.{command, is_misplaced, is_too_much, is_too_wide, judged, command_named, said}
+use Rattle.td_script.specs.Faults.{sites_at, within}
 use Rattle.std.specs.Char.{is_ascii_control}
 use Rattle.td_script.specs.Lines.{is_skipped, is_text_line}
 use Rattle.td_script.specs.Script.{IsCommand, IsLine, IsSiteOf, requests}
@@ -40,40 +46,54 @@ use Rattle.td_script.proofs.WordLaws.{behind_back, cut_back, last_back}
 
 -- a command can stand behind what stands before it: `sites` first, and the others behind it
 pub data CanStand (size : ℕ) (before : Before) (c : Command) : Type 0 where
-  begins : (n : ℕ) → c ≡ Sites n → before.sites ≡ 0 → IsSiteOf MAX_SITE n → is_too_wide size n ≡ false → CanStand size before c
-  follows : 1 ≤ before.sites → IsCommand before.sites c → is_too_much before.sites (before.requests + requests c) ≡ false → CanStand size before c
+  begins : (n : ℕ) → c ≡ Sites n → before.sites ≡ 0 → IsSiteOf MAX_SITE n → is_too_wide size n ≡ false
+      → CanStand size before c
+  follows : 1 ≤ before.sites → IsCommand before.sites c
+      → is_too_much before.sites (before.requests + requests c) ≡ false → CanStand size before c
 
 -- a command without the test of the sum
 data IsPlaced (size : ℕ) (before : Before) (word : Word) (c : Command) : Type 0 where
-  at_first : (n : ℕ) → c ≡ Sites n → word ≡ First.Sites → IsSiteOf MAX_SITE n → is_too_wide size n ≡ false → IsPlaced size before word c
-  at_later : IsCommand before.sites c → ((before' : Before) → is_misplaced before' word ≡ eqb before'.sites 0) → IsPlaced size before word c
+  at_first : (n : ℕ) → c ≡ Sites n → word ≡ First.Sites → IsSiteOf MAX_SITE n → is_too_wide size n ≡ false
+      → IsPlaced size before word c
+  at_later : IsCommand before.sites c → ((before' : Before) → is_misplaced before' word ≡ eqb before'.sites 0)
+      → IsPlaced size before word c
 
 -- lines of UTF-8 without control characters
 pub text_parts : (line : List ℕ) → is_text_line line ≡ true → (list_any is_ascii_control line ≡ false) × IsUtf8 line
 text_parts line h =
-    let parts : (not (list_any is_ascii_control line) ≡ true) × (is_utf8 line ≡ true) = and_parts (not (list_any is_ascii_control line)) (is_utf8 line) h in
+    let parts : (not (list_any is_ascii_control line) ≡ true) × (is_utf8 line ≡ true) =
+    and_parts (not (list_any is_ascii_control line)) (is_utf8 line) h in
     (not-true (list_any is_ascii_control line) parts.0, IsUtf8-from_is_utf8 line parts.1)
 
 -- the text of a line that was read as UTF-8, or not
 pub text_found : {E : Type 0} (line : List ℕ) (r : Result (Bor (List ℕ)) E) (P : E → Type 0)
-    → MatchResult r (λ text. (text.now ≡ line) × IsUtf8 line) (λ e. (¬ IsUtf8 line) × P e) → list_any is_ascii_control line ≡ false
+    → MatchResult r (λ text. (text.now ≡ line) × IsUtf8 line) (λ e. (¬ IsUtf8 line) × P e)
+    → list_any is_ascii_control line ≡ false
     → IfSome (result_ok r) (λ text. (text.now ≡ line) × (is_text_line line ≡ true))
-text_found line (Ok text) P read plain =
-    (read.0, and_from (not (list_any is_ascii_control line)) (is_utf8 line) (not_from_false (list_any is_ascii_control line) plain) (is_utf8-from_IsUtf8 line read.1))
+text_found line (Ok text) P read plain = (
+  read.0,
+  and_from (not (list_any is_ascii_control line)) (is_utf8 line)
+      (not_from_false (list_any is_ascii_control line) plain) (is_utf8-from_IsUtf8 line read.1),
+)
 text_found line (Err e) P read plain = tt
 
 pub text_not_found : {E : Type 0} (line : List ℕ) (r : Result (Bor (List ℕ)) E) (P : E → Type 0)
-    → MatchResult r (λ text. (text.now ≡ line) × IsUtf8 line) (λ e. (¬ IsUtf8 line) × P e) → IfNone (result_ok r) (is_text_line line ≡ false)
+    → MatchResult r (λ text. (text.now ≡ line) × IsUtf8 line) (λ e. (¬ IsUtf8 line) × P e)
+    → IfNone (result_ok r) (is_text_line line ≡ false)
 text_not_found line (Ok text) P read = tt
 text_not_found line (Err e) P read =
-    and_right (not (list_any is_ascii_control line)) (is_utf8 line) (false_from_ne_true (is_utf8 line) (λ (e : is_utf8 line ≡ true). read.0 (IsUtf8-from_is_utf8 line e)))
+    and_right (not (list_any is_ascii_control line)) (is_utf8 line)
+    (false_from_ne_true (is_utf8 line) (λ (e : is_utf8 line ≡ true). read.0 (IsUtf8-from_is_utf8 line e)))
 
 pub lacks_lf : (line : List ℕ) → list_any is_ascii_control line ≡ false → Lacks 10 line
 lacks_lf line h = λ i d inside e.
-    both_ways (list_any is_ascii_control line) h (list_any_at is_ascii_control line i d inside (subst (λ (b : ℕ). is_ascii_control b ≡ true) (sym e) refl))
+    both_ways (list_any is_ascii_control line) h
+    (list_any_at is_ascii_control line i d inside (subst (λ (b : ℕ). is_ascii_control b ≡ true) (sym e) refl))
 
 pub ascii_by_test : (xs : List ℕ) → list_all (λ b. ltb b 128) xs ≡ true → IsUtf8 xs
-ascii_by_test xs h = IsUtf8-from_ascii xs (IsAscii-from_all xs (All-weaker (λ b. ltb b 128 ≡ true) (λ b. b < 128) (λ (b : ℕ) (e : ltb b 128 ≡ true). ltb-true b 128 e) xs (AllPass-from_list_all (λ b. ltb b 128) xs h)))
+ascii_by_test xs h = IsUtf8-from_ascii xs
+    (IsAscii-from_all xs (All-weaker (λ b. ltb b 128 ≡ true) (λ b. b < 128)
+    (λ (b : ℕ) (e : ltb b 128 ≡ true). ltb-true b 128 e) xs (AllPass-from_list_all (λ b. ltb b 128) xs h)))
 
 site_spelling_ascii : (word : SiteWord) → list_all (λ b. ltb b 128) (spelling (First.AtSite word)) ≡ true
 site_spelling_ascii At.Ins = refl
@@ -125,62 +145,88 @@ find_back : (p : Word → Bool) (xs : List Word) (word : Word) → find p xs ≡
 find_back p [] word e = absurd (none_is_no_word word e)
 find_back p (x ∷ xs) word e = at_test (p x) refl (find_back p xs word) e
   where
-    at_test : (is : Bool) → p x ≡ is → (find p xs ≡ Some word → p word ≡ true) → cond is (Some x) (find p xs) ≡ Some word → p word ≡ true
+    at_test : (is : Bool) → p x ≡ is → (find p xs ≡ Some word → p word ≡ true)
+        → cond is (Some x) (find p xs) ≡ Some word → p word ≡ true
     at_test true h ih e = subst (λ (w : Word). p w ≡ true) (word_same x word e) h
     at_test false h ih e = ih e
 
 named_back : (name : List ℕ) (word : Word) → word_named name ≡ Some word → spelling word ≡ name
-named_back name word e = (bytes_eq-Decides (spelling word) name).0 (find_back (λ w. bytes_eq (spelling w) name) words word e)
+named_back name word e = (bytes_eq-Decides (spelling word) name).0
+    (find_back (λ w. bytes_eq (spelling w) name) words word e)
 
 -- what a line says behind its word
 record SaysCommand (size : ℕ) (before : Before) (word : Word) (rest : List ℕ) (c : Command) : Type 0 where
   whole : spelling word ++ rest ≡ line_of c
   placed : IsPlaced size before word c
 
-sites_back : (size : ℕ) (before : Before) (rest : List ℕ) (c : Command) → sites_at size rest ≡ Ok c → SaysCommand size before First.Sites rest c
+sites_back : (size : ℕ) (before : Before) (rest : List ℕ) (c : Command) → sites_at size rest ≡ Ok c
+    → SaysCommand size before First.Sites rest c
 sites_back size before rest c e =
     let first = behind_back (by_word sites_of rest) _ c e in
     let n = sites_at_back rest first.value first.rest first.is in
     at_test first.value first.rest n.fits n.whole (is_too_wide size first.value) refl first.then_is
   where
-    at_test : (n : ℕ) (left : List ℕ) → IsSiteOf MAX_SITE n → rest ≡ spaced n ++ left → (wide : Bool) → is_too_wide size n ≡ wide
-        → cond {A = Result Command Kind} wide (Err Fault.Size) (last (Sites n) left) ≡ Ok c → SaysCommand size before First.Sites rest c
+    at_test : (n : ℕ) (left : List ℕ) → IsSiteOf MAX_SITE n → rest ≡ spaced n ++ left → (wide : Bool)
+        → is_too_wide size n ≡ wide
+        → cond {A = Result Command Kind} wide (Err Fault.Size) (last (Sites n) left) ≡ Ok c
+        → SaysCommand size before First.Sites rest c
     at_test n left fits whole true h e = absurd (err_is_no_ok Fault.Size c e)
     at_test n left fits whole false h e =
         let end = last_back (Sites n) c left e in
         subst (SaysCommand size before First.Sites rest) end.0
-        (record { whole = ap (λ (xs : List ℕ). codes "sites" ++ xs) (whole ∙ ended (spaced n) left end.1); placed = at_first n refl refl fits h })
+        (record {
+          whole = ap (λ (xs : List ℕ). codes "sites" ++ xs) (whole ∙ ended (spaced n) left end.1);
+          placed =
+              at_first n refl refl fits h;
+        })
 
-command_back : (size : ℕ) (before : Before) (word : Word) (rest : List ℕ) (c : Command) → before.sites ≤ MAX_SITE → IsUtf8 rest → Lacks 10 rest → command size before word rest ≡ Ok c → SaysCommand size before word rest c
+command_back : (size : ℕ) (before : Before) (word : Word) (rest : List ℕ) (c : Command) → before.sites ≤ MAX_SITE
+    → IsUtf8 rest → Lacks 10 rest → command size before word rest ≡ Ok c → SaysCommand size before word rest c
 command_back size before First.Sites rest c few u lacks e = sites_back size before rest c e
 command_back size before First.Settle rest c few u lacks e =
     let end = last_back Settle c rest e in
-    subst (SaysCommand size before First.Settle rest) end.0 (record { whole = ap (λ (xs : List ℕ). codes "settle" ++ xs) end.1; placed = at_later tt (λ before'. refl) })
+    subst (SaysCommand size before First.Settle rest) end.0
+    (record { whole = ap (λ (xs : List ℕ). codes "settle" ++ xs) end.1; placed = at_later tt (λ before'. refl) })
 command_back size before (First.AtSite word) rest c few u lacks e =
     let first = behind_back (by_word (site_of before.sites) rest) _ c e in
     let site = site_at_back before.sites rest first.value first.rest first.is in
     let small : first.value < 10 ^ 9 = omega (arith, site.fits) in
-    let said = site_command_back before.sites first.value word first.rest c (IsUtf8-after rest (spaced first.value) first.rest u (spaced_utf8 first.value small) site.whole)
+    let said = site_command_back before.sites first.value word first.rest c
+    (IsUtf8-after rest (spaced first.value) first.rest u (spaced_utf8 first.value small) site.whole)
     (lacks_behind 10 (spaced first.value) first.rest (subst (Lacks 10) site.whole lacks)) first.then_is in
-    record { whole = ap (λ (xs : List ℕ). spelling (First.AtSite word) ++ xs) site.whole ∙ said.1; placed = at_later (said.0 site.fits) (λ before'. refl) }
+    record {
+      whole = ap (λ (xs : List ℕ). spelling (First.AtSite word) ++ xs) site.whole
+          ∙ said.1;
+      placed = at_later (said.0 site.fits) (λ before'. refl);
+    }
 
 -- a command that passes the test of the sum
-within_back : (before : Before) (r : Result Command Kind) (c : Command) → within before r ≡ Ok c → (r ≡ Ok c) × (is_too_much before.sites (before.requests + requests c) ≡ false)
+within_back : (before : Before) (r : Result Command Kind) (c : Command) → within before r ≡ Ok c
+    → (r ≡ Ok c) × (is_too_much before.sites (before.requests + requests c) ≡ false)
 within_back before (Err kind) c e = absurd (err_is_no_ok kind c e)
 within_back before (Ok got) c e = at_test (is_too_much before.sites (before.requests + requests got)) refl e
   where
-    at_test : (much : Bool) → is_too_much before.sites (before.requests + requests got) ≡ much → cond {A = Result Command Kind} much (Err Fault.Size) (Ok got) ≡ Ok c
-        → (◌≡◌ {A = Result Command Kind} (Ok got) (Ok c)) × (is_too_much before.sites (before.requests + requests c) ≡ false)
+    at_test : (much : Bool) → is_too_much before.sites (before.requests + requests got) ≡ much
+        → cond {A = Result Command Kind} much (Err Fault.Size) (Ok got) ≡ Ok c
+        → (◌≡◌ {A = Result Command Kind} (Ok got) (Ok c))
+        × (is_too_much before.sites (before.requests + requests c) ≡ false)
     at_test true h e = absurd (err_is_no_ok Fault.Size c e)
-    at_test false h e = (e, subst (λ (x : Command). is_too_much before.sites (before.requests + requests x) ≡ false) (ok_same got c e) h)
+    at_test false h e = (
+      e,
+      subst (λ (x : Command). is_too_much before.sites (before.requests + requests x) ≡ false)
+          (ok_same got c e) h,
+    )
 
-stands : (size : ℕ) (before : Before) (word : Word) (c : Command) → IsPlaced size before word c → is_misplaced before word ≡ false → is_too_much before.sites (before.requests + requests c) ≡ false → CanStand size before c
+stands : (size : ℕ) (before : Before) (word : Word) (c : Command) → IsPlaced size before word c
+    → is_misplaced before word ≡ false → is_too_much before.sites (before.requests + requests c) ≡ false
+    → CanStand size before c
 stands size before word c (at_first n e f fits narrow) placed few =
     begins n e (none_before before.sites (sym (ap (λ (w : Word). is_misplaced before w) f) ∙ placed)) fits narrow
   where
     none_before : (sites : ℕ) → ltb 0 sites ≡ false → sites ≡ 0
     none_before sites h = omega (arith, ltb-false 0 sites h)
-stands size before word c (at_later fits later) placed few = follows (some_before before.sites (sym (later before) ∙ placed)) fits few
+stands size before word c (at_later fits later) placed few =
+    follows (some_before before.sites (sym (later before) ∙ placed)) fits few
   where
     some_before : (sites : ℕ) → eqb sites 0 ≡ false → 1 ≤ sites
     some_before sites h = let none : sites ≢ 0 = eqb-false sites 0 h in omega arith
@@ -190,32 +236,43 @@ record SaysLine (size : ℕ) (before : Before) (line : List ℕ) (c : Command) :
   whole : line ≡ line_of c
   stands_there : CanStand size before c
 
-named_command_back : (size : ℕ) (before : Before) (line name rest : List ℕ) (c : Command) (o : Option Word) → before.sites ≤ MAX_SITE → IsUtf8 line → Lacks 10 line → line ≡ name ++ rest
+named_command_back : (size : ℕ) (before : Before) (line name rest : List ℕ) (c : Command) (o : Option Word)
+    → before.sites ≤ MAX_SITE → IsUtf8 line → Lacks 10 line → line ≡ name ++ rest
     → word_named name ≡ o → command_named size before o rest ≡ Ok c → SaysLine size before line c
 named_command_back size before line name rest c None few u lacks whole h e = absurd (err_is_no_ok Fault.Word c e)
-named_command_back size before line name rest c (Some word) few u lacks whole h e = at_test (is_misplaced before word) refl e
+named_command_back size before line name rest c (Some word) few u lacks whole h e =
+    at_test (is_misplaced before word) refl e
   where
     spelled : line ≡ spelling word ++ rest
     spelled = whole ∙ ap (λ (xs : List ℕ). xs ++ rest) (sym (named_back name word h))
 
-    at_test : (misplaced : Bool) → is_misplaced before word ≡ misplaced → cond {A = Result Command Kind} misplaced (Err Fault.Sites) (within before (command size before word rest)) ≡ Ok c → SaysLine size before line c
+    at_test : (misplaced : Bool) → is_misplaced before word ≡ misplaced
+        → cond {A = Result Command Kind} misplaced (Err Fault.Sites)
+        (within before (command size before word rest)) ≡ Ok c → SaysLine size before line c
     at_test true g e = absurd (err_is_no_ok Fault.Sites c e)
     at_test false g e =
         let got = within_back before (command size before word rest) c e in
-        let said = command_back size before word rest c few (IsUtf8-after line (spelling word) rest u (spelling_utf8 word) spelled) (lacks_behind 10 (spelling word) rest (subst (Lacks 10) spelled lacks)) got.0 in
+        let said = command_back size before word rest c few
+        (IsUtf8-after line (spelling word) rest u (spelling_utf8 word) spelled)
+        (lacks_behind 10 (spelling word) rest (subst (Lacks 10) spelled lacks)) got.0 in
         record { whole = spelled ∙ said.whole; stands_there = stands size before word c said.placed g got.1 }
 
 -- what was judged of a line
 pub data IsJudged (size : ℕ) (before : Before) (line : List ℕ) (o : Option Command) : Type 0 where
   says_nothing : IsLine line → is_skipped line ≡ true → o ≡ None → IsJudged size before line o
-  says : IsLine line → is_skipped line ≡ false → (c : Command) → o ≡ Some c → line ≡ line_of c → CanStand size before c → IsJudged size before line o
+  says : IsLine line → is_skipped line ≡ false → (c : Command) → o ≡ Some c → line ≡ line_of c → CanStand size before c
+      → IsJudged size before line o
 
 said_back : (r : Result Command Kind) (o : Option Command) → said r ≡ Ok o → (c : Command) × (r ≡ Ok c) × (o ≡ Some c)
 said_back (Ok c) o e = (c, refl, sym (ok_same (Some c) o e))
 said_back (Err kind) o e = absurd (err_is_no_ok kind o e)
 
-judged_at : (size : ℕ) (before : Before) (line : List ℕ) (o : Option Command) (long text skipped : Bool) → before.sites ≤ MAX_SITE → ltb MAX_LINE (length line) ≡ long → is_text_line line ≡ text → is_skipped line ≡ skipped
-    → cond {A = Result (Option Command) Kind} long (Err Fault.Long) (cond {A = Result (Option Command) Kind} (not text) (Err Fault.Bytes) (cond {A = Result (Option Command) Kind} skipped (Ok None) (said (command_named size before (word_named (cut_word line).0) (cut_word line).1)))) ≡ Ok o
+judged_at : (size : ℕ) (before : Before) (line : List ℕ) (o : Option Command) (long text skipped : Bool)
+    → before.sites ≤ MAX_SITE → ltb MAX_LINE (length line) ≡ long → is_text_line line ≡ text → is_skipped line ≡ skipped
+    → cond {A = Result (Option Command) Kind} long (Err Fault.Long)
+    (cond {A = Result (Option Command) Kind} (not text) (Err Fault.Bytes)
+    (cond {A = Result (Option Command) Kind} skipped (Ok None)
+    (said (command_named size before (word_named (cut_word line).0) (cut_word line).1)))) ≡ Ok o
     → IsJudged size before line o
 judged_at size before line o true text skipped few f g h e = absurd (err_is_no_ok Fault.Long o e)
 judged_at size before line o false false skipped few f g h e = absurd (err_is_no_ok Fault.Bytes o e)
@@ -224,34 +281,48 @@ judged_at size before line o false true true few f g h e =
 judged_at size before line o false true false few f g h e =
     let got = said_back (command_named size before (word_named (cut_word line).0) (cut_word line).1) o e in
     let parts = text_parts line g in
-    let is = named_command_back size before line (cut_word line).0 (cut_word line).1 got.0 (word_named (cut_word line).0) few parts.1 (lacks_lf line parts.0) (cut_back line).whole refl got.1 in
+    let is = named_command_back size before line (cut_word line).0 (cut_word line).1 got.0
+    (word_named (cut_word line).0) few parts.1 (lacks_lf line parts.0) (cut_back line).whole refl got.1 in
     says (record { short = ltb-false MAX_LINE (length line) f; text = g }) h got.0 got.2 is.whole is.stands_there
 
-pub judged_back : (size : ℕ) (before : Before) (line : List ℕ) (o : Option Command) → before.sites ≤ MAX_SITE → judged size before line ≡ Ok o → IsJudged size before line o
-judged_back size before line o few e = judged_at size before line o (ltb MAX_LINE (length line)) (is_text_line line) (is_skipped line) few refl refl refl e
+pub judged_back : (size : ℕ) (before : Before) (line : List ℕ) (o : Option Command) → before.sites ≤ MAX_SITE
+    → judged size before line ≡ Ok o → IsJudged size before line o
+judged_back size before line o few e = judged_at size before line o (ltb MAX_LINE (length line)) (is_text_line line)
+    (is_skipped line) few refl refl refl e
 
 -- a line that is one is judged further
 pub line_passes : (size : ℕ) (before : Before) (line : List ℕ) → IsLine line
-    → judged size before line ≡ cond {A = Result (Option Command) Kind} (is_skipped line) (Ok None) (said (command_named size before (word_named (cut_word line).0) (cut_word line).1))
+    → judged size before line ≡ cond {A = Result (Option Command) Kind} (is_skipped line) (Ok None)
+    (said (command_named size before (word_named (cut_word line).0) (cut_word line).1))
 line_passes size before line h =
-    let more = cond {A = Result (Option Command) Kind} (is_skipped line) (Ok None) (said (command_named size before (word_named (cut_word line).0) (cut_word line).1)) in
-    cond-false {A = Result (Option Command) Kind} (ltb MAX_LINE (length line)) (Err Fault.Long) (cond {A = Result (Option Command) Kind} (not (is_text_line line)) (Err Fault.Bytes) more) (le-ltb MAX_LINE (length line) h.short)
-    ∙ cond-false {A = Result (Option Command) Kind} (not (is_text_line line)) (Err Fault.Bytes) more (not_from_true (is_text_line line) h.text)
+    let more = cond {A = Result (Option Command) Kind} (is_skipped line) (Ok None)
+    (said (command_named size before (word_named (cut_word line).0) (cut_word line).1)) in
+    cond-false {A = Result (Option Command) Kind} (ltb MAX_LINE (length line)) (Err Fault.Long)
+    (cond {A = Result (Option Command) Kind} (not (is_text_line line)) (Err Fault.Bytes) more)
+    (le-ltb MAX_LINE (length line) h.short)
+    ∙ cond-false {A = Result (Option Command) Kind} (not (is_text_line line)) (Err Fault.Bytes) more
+    (not_from_true (is_text_line line) h.text)
 
-pub skipped_there : (size : ℕ) (before : Before) (line : List ℕ) → IsLine line → is_skipped line ≡ true → judged size before line ≡ Ok None
+pub skipped_there : (size : ℕ) (before : Before) (line : List ℕ) → IsLine line → is_skipped line ≡ true
+    → judged size before line ≡ Ok None
 skipped_there size before line h e =
-    line_passes size before line h ∙ cond-true {A = Result (Option Command) Kind} (is_skipped line) (Ok None) (said (command_named size before (word_named (cut_word line).0) (cut_word line).1)) e
+    line_passes size before line h ∙ cond-true {A = Result (Option Command) Kind} (is_skipped line) (Ok None)
+    (said (command_named size before (word_named (cut_word line).0) (cut_word line).1)) e
 
-named_command_there : (size : ℕ) (before : Before) (line : List ℕ) (c : Command) → IsLine line → is_skipped line ≡ false → (misplaced : Bool) → (is : IsLineOf size before line c misplaced) → misplaced ≡ false
+named_command_there : (size : ℕ) (before : Before) (line : List ℕ) (c : Command) → IsLine line → is_skipped line ≡ false
+    → (misplaced : Bool) → (is : IsLineOf size before line c misplaced) → misplaced ≡ false
     → is_too_much before.sites (before.requests + requests c) ≡ false → judged size before line ≡ Ok (Some c)
 named_command_there size before line c h spoken misplaced is placed few =
     line_passes size before line h
-    ∙ cond-false {A = Result (Option Command) Kind} (is_skipped line) (Ok None) (said (command_named size before (word_named (cut_word line).0) (cut_word line).1)) spoken
+    ∙ cond-false {A = Result (Option Command) Kind} (is_skipped line) (Ok None)
+    (said (command_named size before (word_named (cut_word line).0) (cut_word line).1)) spoken
     ∙ ap (λ (cut : List ℕ × List ℕ). said (command_named size before (word_named cut.0) cut.1)) is.cut
     ∙ ap (λ (o : Option Word). said (command_named size before o is.rest)) (named_there is.word)
-    ∙ ap said (cond-false {A = Result Command Kind} (is_misplaced before is.word) (Err Fault.Sites) (within before (command size before is.word is.rest)) (is.placed ∙ placed)
+    ∙ ap said (cond-false {A = Result Command Kind} (is_misplaced before is.word) (Err Fault.Sites)
+    (within before (command size before is.word is.rest)) (is.placed ∙ placed)
     ∙ ap (within before) is.read
-    ∙ cond-false {A = Result Command Kind} (is_too_much before.sites (before.requests + requests c)) (Err Fault.Size) (Ok c) few)
+    ∙ cond-false {A = Result Command Kind} (is_too_much before.sites (before.requests + requests c)) (Err Fault.Size)
+    (Ok c) few)
 
 -- no command's line is skipped
 pub spoken : (c : Command) → is_skipped (line_of c) ≡ false
@@ -275,10 +346,13 @@ spoken (Meet site other) = refl
 spoken (Marks site) = refl
 
 -- the line of a command that can stand there says the command
-pub judged_there : (size : ℕ) (before : Before) (c : Command) → before.sites ≤ MAX_SITE → CanStand size before c → IsLine (line_of c) → judged size before (line_of c) ≡ Ok (Some c)
+pub judged_there : (size : ℕ) (before : Before) (c : Command) → before.sites ≤ MAX_SITE → CanStand size before c
+    → IsLine (line_of c) → judged size before (line_of c) ≡ Ok (Some c)
 judged_there size before c few (begins n e none fits narrow) h =
     subst (λ (x : Command). judged size before (line_of x) ≡ Ok (Some x)) (sym e)
-    (named_command_there size before (line_of (Sites n)) (Sites n) (subst (λ (x : Command). IsLine (line_of x)) e h) (spoken (Sites n)) (ltb 0 before.sites) (sites_line_there size before n fits narrow)
+    (named_command_there size before (line_of (Sites n)) (Sites n) (subst (λ (x : Command). IsLine (line_of x)) e h)
+    (spoken (Sites n)) (ltb 0 before.sites) (sites_line_there size before n fits narrow)
     (le-ltb 0 before.sites (omega arith)) (ap (λ (s : ℕ). is_too_much s (before.requests + 0)) none))
 judged_there size before c few (follows some fits sum) h =
-    named_command_there size before (line_of c) c h (spoken c) (eqb before.sites 0) (line_there size before c few fits) (ne_eqb before.sites 0 (λ (e : before.sites ≡ 0). absurd (omega arith))) sum
+    named_command_there size before (line_of c) c h (spoken c) (eqb before.sites 0) (line_there size before c few fits)
+    (ne_eqb before.sites 0 (λ (e : before.sites ≡ 0). absurd (omega arith))) sum

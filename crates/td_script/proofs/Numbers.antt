@@ -1,14 +1,18 @@
--- How an index is written: what `decimal` writes of a number below 10^9, and what the digits of such a number are worth.
-use Rattle.std.proofs.Common.{Bool, false, IsTrue, ◌↔◌, All, nat_eq, nat_le, eq-eqb, ◌≡◌, ◌≢◌, ◌+◌, ◌*◌, ◌-◌, ◌<◌, ◌≤◌, ◌^◌, ℕ, List, length, take, get_or, sym, ap, subst, ◌∙◌, zero, suc, arith}
+-- How an index is written: what `decimal` writes of a number below 10^9, and what the digits of such a number are
+-- worth.
+use Rattle.std.proofs.Common.{Bool, false, IsTrue, ◌↔◌, All, nat_eq, nat_le, eq-eqb, ◌≡◌, ◌≢◌, ◌+◌, ◌*◌, ◌-◌, ◌<◌, ◌≤◌}
+use Rattle.std.proofs.Common.{◌^◌, ℕ, List, length, take, get_or, sym, ap, subst, ◌∙◌, zero, suc, arith}
 use Rattle.std.specs.Fmt.{decimal}
 use Rattle.std.proofs.lemmas.Bool.{eqb-true, leb-true, false≢true}
 use Rattle.std.proofs.lemmas.List.{get_or_default}
 use Rattle.std.specs.Int.{IsInRange}
 use Rattle.std.specs.Char.{digit_value}
 use Rattle.std.specs.Str.Parse.{digits_value}
-use Rattle.std.proofs.lemmas.Fmt.{decimal_digit, decimal_nonempty, length-decimal-le, first_decimal, digits_decimal, digits_value-decimal, decimal-digits_value}
+use Rattle.std.proofs.lemmas.Fmt.{decimal_digit, decimal_nonempty, length-decimal-le, first_decimal, digits_decimal}
+use Rattle.std.proofs.lemmas.Fmt.{digits_value-decimal, decimal-digits_value}
 use Rattle.std.proofs.lemmas.Str.{digit_value_digit}
-use Rattle.std.proofs.lemmas.Str.Parse.{IsNumeralModel, numerals_by_value, tells_by_index, digits_value_short, digits_value-take-le}
+use Rattle.std.proofs.lemmas.Str.Parse.{IsNumeralModel, numerals_by_value, tells_by_index, digits_value_short}
+use Rattle.std.proofs.lemmas.Str.Parse.{digits_value-take-le}
 use Rattle.std.proofs.lemmas.Int.Digits.{digits_value_more}
 
 -- each byte is a digit
@@ -56,17 +60,22 @@ no_number : (ds : List ℕ) (r : Bool) → ¬ IsTrue r → ¬ IsNumberWord ds �
 no_number ds r untrue none = (λ t. absurd (untrue t), λ number. absurd (none number))
 
 pub empty_number : (ds : List ℕ) → length ds ≤ 0 → IsTrue false ↔ IsNumberWord ds
-empty_number ds e = no_number ds false false≢true (λ (number : IsNumberWord ds). absurd (omega (arith, (form_of_number ds number).some)))
+empty_number ds e = no_number ds false false≢true
+    (λ (number : IsNumberWord ds). absurd (omega (arith, (form_of_number ds number).some)))
 
 pub long_number : (ds : List ℕ) → 9 < length ds → IsTrue (nat_le (length ds) 9) ↔ IsNumberWord ds
 long_number ds long =
-    no_number ds (nat_le (length ds) 9) (λ (t : IsTrue (nat_le (length ds) 9)). absurd (omega (arith, leb-true (length ds) 9 t)))
+    no_number ds (nat_le (length ds) 9) (λ (t : IsTrue (nat_le (length ds) 9)). absurd
+    (omega (arith, leb-true (length ds) 9 t)))
     (λ (number : IsNumberWord ds). absurd (omega (arith, (form_of_number ds number).short)))
 
 -- digits that begin with 0 are a number where there are no others
 pub zero_number : (ds : List ℕ) → get_or ds 0 0 ≡ 48 → IsTrue (nat_eq (length ds) 1) ↔ IsNumberWord ds
-zero_number ds zero_first =
-    (λ (t : IsTrue (nat_eq (length ds) 1)). one (eqb-true (length ds) 1 t), λ (number : IsNumberWord ds). eq-eqb (length ds) 1 ((form_of_number ds number).leading zero_first))
+zero_number ds zero_first = (
+  λ (t : IsTrue (nat_eq (length ds) 1)). one (eqb-true (length ds) 1 t),
+  λ (number : IsNumberWord ds). eq-eqb
+      (length ds) 1 ((form_of_number ds number).leading zero_first),
+)
   where
     alone : length ds ≡ 1 → AreDigits ds
     alone single = λ i inside.
@@ -74,17 +83,30 @@ zero_number ds zero_first =
         (omega arith, omega arith)
 
     one : length ds ≡ 1 → IsNumberWord ds
-    one single = number_of_form ds (record { digits = alone single; some = omega arith; short = omega arith; leading = λ e. single })
+    one single = number_of_form ds (record {
+      digits = alone single;
+      some = omega arith;
+      short = omega arith;
+      leading =
+          λ e. single;
+    })
 
-pub other_number : (ds : List ℕ) (r : Bool) → 0 < length ds → length ds ≤ 9 → get_or ds 0 0 ≢ 48 → IsTrue r ↔ All (IsInRange 48 57) ds → IsTrue r ↔ IsNumberWord ds
-other_number ds r some short other digits =
-    (λ (t : IsTrue r). number_of_form ds (record { digits = λ i inside. digits.0 t i 0 inside; some = some; short = short; leading = λ e. absurd (other e) }), λ (number : IsNumberWord ds). digits.1 (λ i d inside. all number i d inside))
+pub other_number : (ds : List ℕ) (r : Bool) → 0 < length ds → length ds ≤ 9 → get_or ds 0 0 ≢ 48
+    → IsTrue r ↔ All (IsInRange 48 57) ds → IsTrue r ↔ IsNumberWord ds
+other_number ds r some short other digits = (
+  λ (t : IsTrue r). number_of_form ds (record
+      { digits = λ i inside. digits.0 t i 0 inside; some = some; short = short; leading = λ e. absurd (other e) }),
+  λ
+      (number : IsNumberWord ds). digits.1 (λ i d inside. all number i d inside),
+)
   where
     all : IsNumberWord ds → All (IsInRange 48 57) ds
-    all number = λ i d inside. subst (IsInRange 48 57) (get_or_default ds i 0 d inside) ((form_of_number ds number).digits i inside)
+    all number = λ i d inside. subst (IsInRange 48 57) (get_or_default ds i 0 d inside)
+        ((form_of_number ds number).digits i inside)
 
 pub value_of_number : (ds : List ℕ) (number : IsNumberWord ds) → digits_value 10 ds ≡ number.0
-value_of_number ds number = ap (digits_value 10) number.2 ∙ digits_value-decimal numerals number.0 (small number.0 number.1)
+value_of_number ds number = ap (digits_value 10) number.2
+    ∙ digits_value-decimal numerals number.0 (small number.0 number.1)
 
 -- one more digit of an index
 pub record AddsDigit (ds : List ℕ) (i value : ℕ) : Type 0 where
@@ -92,11 +114,14 @@ pub record AddsDigit (ds : List ℕ) (i value : ℕ) : Type 0 where
   pub more : 10 * value + (get_or ds i 0 - 48) ≡ digits_value 10 (take (i + 1) ds)
   pub below : 10 * value + (get_or ds i 0 - 48) < 10 ^ 9
 
-pub adds_digit : (ds : List ℕ) (i value : ℕ) → IsNumberWord ds → i < length ds → value ≡ digits_value 10 (take i ds) → AddsDigit ds i value
+pub adds_digit : (ds : List ℕ) (i value : ℕ) → IsNumberWord ds → i < length ds → value ≡ digits_value 10 (take i ds)
+    → AddsDigit ds i value
 adds_digit ds i value number inside is =
     let range : IsInRange 48 57 (get_or ds i 0) = (form_of_number ds number).digits i inside in
     let digit : digit_value (get_or ds i 0) + 48 ≡ get_or ds i 0 = digit_value_digit (get_or ds i 0) range in
-    let step : digits_value 10 (take (i + 1) ds) ≡ digits_value 10 (take i ds) * 10 + digit_value (get_or ds i 0) = digits_value_more 10 ds i inside in
-    let within : digits_value 10 (take (i + 1) ds) ≤ digits_value 10 ds = digits_value-take-le 10 ds (i + 1) (omega arith) in
+    let step : digits_value 10 (take (i + 1) ds) ≡ digits_value 10 (take i ds) * 10 + digit_value (get_or ds i 0) =
+    digits_value_more 10 ds i inside in
+    let within : digits_value 10 (take (i + 1) ds) ≤ digits_value 10 ds =
+    digits_value-take-le 10 ds (i + 1) (omega arith) in
     let whole : digits_value 10 ds ≡ number.0 = value_of_number ds number in
     record { low = range.0; more = omega arith; below = omega (arith, number.1) }

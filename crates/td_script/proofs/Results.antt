@@ -16,19 +16,24 @@ pub err_is_no_ok : {V : Type 0} (kind : Kind) (x : V) → ◌≡◌ {A = Result 
 err_is_no_ok kind x e = cc
 
 -- what passes the test stays
-pub tested_in : {V : Type 0} (test : V → Bool) (kind : Kind) (r : Result V Kind) (v : V) → r ≡ Ok v → test v ≡ true → tested test kind r ≡ Ok v
-tested_in {V = V} test kind r v e h = ap (tested test kind) e ∙ cond-true {A = Result V Kind} (test v) (Ok v) (Err kind) h
+pub tested_in : {V : Type 0} (test : V → Bool) (kind : Kind) (r : Result V Kind) (v : V) → r ≡ Ok v → test v ≡ true
+    → tested test kind r ≡ Ok v
+tested_in {V = V} test kind r v e h = ap (tested test kind) e
+    ∙ cond-true {A = Result V Kind} (test v) (Ok v) (Err kind) h
 
 -- what does not is the fault
-pub tested_out : {V : Type 0} (test : V → Bool) (kind : Kind) (r : Result V Kind) (v : V) → r ≡ Ok v → test v ≡ false → tested test kind r ≡ Err kind
-tested_out {V = V} test kind r v e h = ap (tested test kind) e ∙ cond-false {A = Result V Kind} (test v) (Ok v) (Err kind) h
+pub tested_out : {V : Type 0} (test : V → Bool) (kind : Kind) (r : Result V Kind) (v : V) → r ≡ Ok v → test v ≡ false
+    → tested test kind r ≡ Err kind
+tested_out {V = V} test kind r v e h = ap (tested test kind) e
+    ∙ cond-false {A = Result V Kind} (test v) (Ok v) (Err kind) h
 
 -- the test of a range
 pub in_range : (least most n : ℕ) → IsInRange least most n → is_in_range least most n ≡ true
 in_range least most n h = and_from (leb least n) (leb n most) (le-leb least n h.0) (le-leb n most h.1)
 
 pub range_in : (least most n : ℕ) → is_in_range least most n ≡ true → IsInRange least most n
-range_in least most n e = let parts = and_parts (leb least n) (leb n most) e in (leb-true least n parts.0, leb-true n most parts.1)
+range_in least most n e = let parts = and_parts (leb least n) (leb n most) e in
+    (leb-true least n parts.0, leb-true n most parts.1)
 
 pub out_of_range : (least most n : ℕ) → ¬ IsInRange least most n → is_in_range least most n ≡ false
 out_of_range least most n h =
@@ -47,14 +52,16 @@ pub dot_of_both : (r s : Result ℕ Kind) (site seq : ℕ) → r ≡ Ok site →
     → dot_of_numbers r s ≡ Ok (record { site = site; seq = seq })
 dot_of_both r s site seq e f h =
     ap (λ (x : Result ℕ Kind). dot_of_numbers x s) e ∙ ap (dot_of_numbers (Ok site)) f
-    ∙ cond-true {A = Result DotValue Kind} (is_in_range 1 MAX_SEQ seq) (Ok (record { site = site; seq = seq })) (Err Dot)
+    ∙ cond-true {A = Result DotValue Kind} (is_in_range 1 MAX_SEQ seq) (Ok (record { site = site; seq = seq }))
+    (Err Dot)
     (in_range 1 MAX_SEQ seq h)
 
 dot_of_other : (r s : Result ℕ Kind) (site seq : ℕ) → r ≡ Ok site → s ≡ Ok seq → ¬ IsInRange 1 MAX_SEQ seq
     → dot_of_numbers r s ≡ Err Dot
 dot_of_other r s site seq e f h =
     ap (λ (x : Result ℕ Kind). dot_of_numbers x s) e ∙ ap (dot_of_numbers (Ok site)) f
-    ∙ cond-false {A = Result DotValue Kind} (is_in_range 1 MAX_SEQ seq) (Ok (record { site = site; seq = seq })) (Err Dot)
+    ∙ cond-false {A = Result DotValue Kind} (is_in_range 1 MAX_SEQ seq) (Ok (record { site = site; seq = seq }))
+    (Err Dot)
     (out_of_range 1 MAX_SEQ seq h)
 
 -- the dot that is made of a site and a number, or the fault

@@ -1,5 +1,6 @@
 -- One byte that passes a test, one in a range, and numbers in a range.
-use Rattle.std.proofs.Common.{◌≡◌, ℕ, suc, ◌+◌, ◌*◌, ◌/◌, ◌%◌, ◌<◌, ◌≤◌, Bool, true, false, cond, leb, eqb, List, [], ◌∷◌, ◌++◌, length, Ok, Err, refl, sym, ap, ◌∙◌, arith}
+use Rattle.std.proofs.Common.{◌≡◌, ℕ, suc, ◌+◌, ◌*◌, ◌/◌, ◌%◌, ◌<◌, ◌≤◌, Bool, true, false, cond, leb, eqb, List, []}
+use Rattle.std.proofs.Common.{◌∷◌, ◌++◌, length, Ok, Err, refl, sym, ap, ◌∙◌, arith}
 use Rattle.std.proofs.lemmas.Bool.{leb-true, le-leb, eqb-true, eqb-false, and_parts, and_from, both_ways}
 use Rattle.std.specs.Int.{is_in_range}
 use Rattle.td_wire.specs.Spelling.{number_bytes as number}
@@ -10,24 +11,31 @@ pub record Passes (p : ℕ → Bool) (n : ℕ) (xs : List ℕ) : Type 0 where
   pub passes : p n ≡ true
   pub is : xs ≡ n ∷ []
 
-pub passing_sound : (p : ℕ → Bool) (xs : List ℕ) (n : ℕ) (rest : List ℕ) → passing_at p xs ≡ Ok (n, rest) → (front : List ℕ) × (xs ≡ front ++ rest) × Passes p n front
+pub passing_sound : (p : ℕ → Bool) (xs : List ℕ) (n : ℕ) (rest : List ℕ) → passing_at p xs ≡ Ok (n, rest)
+    → (front : List ℕ) × (xs ≡ front ++ rest) × Passes p n front
 passing_sound p [] n rest e = absurd cc
 passing_sound p (b ∷ bytes) n rest e = by_test (p b) refl e where
-  by_test : (t : Bool) → p b ≡ t → cond {A = Read ℕ} t (Ok (b, bytes)) (Err (suc (length bytes))) ≡ Ok (n, rest) → (front : List ℕ) × (b ∷ bytes ≡ front ++ rest) × Passes p n front
+  by_test : (t : Bool) → p b ≡ t → cond {A = Read ℕ} t (Ok (b, bytes)) (Err (suc (length bytes))) ≡ Ok (n, rest)
+      → (front : List ℕ) × (b ∷ bytes ≡ front ++ rest) × Passes p n front
   by_test true is e =
       let both = ok_is (b, bytes) (n, rest) e in
       let value : b ≡ n = ap (λ (x : ℕ × List ℕ). x.0) both in
-      let after : bytes ≡ rest = ap (λ (x : ℕ × List ℕ). x.1) both in
-      (b ∷ [], ap (λ (ys : List ℕ). b ∷ ys) after, record { passes = ap p (sym value) ∙ is; is = ap (λ (m : ℕ). m ∷ []) value })
+      let after : bytes ≡ rest = ap (λ (x : ℕ × List ℕ). x.1) both in (
+        b ∷ [],
+        ap (λ (ys : List ℕ). b ∷ ys) after,
+        record { passes = ap p (sym value) ∙ is; is = ap (λ (m : ℕ). m ∷ []) value },
+      )
   by_test false is e = absurd cc
 
-passing_again : (p : ℕ → Bool) (n : ℕ) (front rest : List ℕ) → Passes p n front → passing_at p (front ++ rest) ≡ Ok (n, rest)
+passing_again : (p : ℕ → Bool) (n : ℕ) (front rest : List ℕ) → Passes p n front
+    → passing_at p (front ++ rest) ≡ Ok (n, rest)
 passing_again p n front rest g = rw g.is (ap (λ t. cond t (ok (n, rest)) (Err (suc (length rest)))) g.passes)
 
 left_is : (k left : ℕ) → ◌≡◌ {A = Read ℕ} (Err k) (Err left) → k ≡ left
 left_is k left e = cc
 
-passing_fault : (p : ℕ → Bool) (n : ℕ) → p n ≡ true → (xs : List ℕ) (left : ℕ) → passing_at p xs ≡ Err left → IsFault (Passes p) xs left
+passing_fault : (p : ℕ → Bool) (n : ℕ) → p n ≡ true → (xs : List ℕ) (left : ℕ) → passing_at p xs ≡ Err left
+    → IsFault (Passes p) xs left
 passing_fault p n some [] left e = record {
   good = [];
   bad = [];
@@ -40,7 +48,8 @@ passing_fault p n some (b ∷ bytes) left e = by_test (p b) refl e where
   first_is : (m : ℕ) (more : List ℕ) → (b ∷ []) ++ more ≡ m ∷ [] → b ≡ m
   first_is m more e = cc
 
-  by_test : (t : Bool) → p b ≡ t → cond {A = Read ℕ} t (Ok (b, bytes)) (Err (suc (length bytes))) ≡ Err left → IsFault (Passes p) (b ∷ bytes) left
+  by_test : (t : Bool) → p b ≡ t → cond {A = Read ℕ} t (Ok (b, bytes)) (Err (suc (length bytes))) ≡ Err left
+      → IsFault (Passes p) (b ∷ bytes) left
   by_test true is e = absurd cc
   by_test false is e = record {
     good = [];
@@ -72,9 +81,15 @@ Byte low high = Field (InRange low high) one_byte
 
 pub byte_reads : (low high : ℕ) → low ≤ high → Reads (Byte low high) (byte_at low high)
 byte_reads low high some = same (Passes (is_in_range low high)) (Byte low high) (byte_at low high)
-    (λ n xs g. let parts = and_parts (leb low n) (leb n high) g.passes in record { can = record { least = leb-true low n parts.0; most = leb-true n high parts.1 }; is = g.is })
-    (λ n xs g. record { passes = and_from (leb low n) (leb n high) (le-leb low n g.can.least) (le-leb n high g.can.most); is = g.is })
-    (passing_reads (is_in_range low high) low (and_from (leb low low) (leb low high) (le-leb low low (omega arith)) (le-leb low high some)))
+    (λ n xs g. let parts = and_parts (leb low n) (leb n high) g.passes in
+    record { can = record { least = leb-true low n parts.0; most = leb-true n high parts.1 }; is = g.is })
+    (λ n xs g. record {
+      passes = and_from (leb low n) (leb n high) (le-leb low n g.can.least)
+          (le-leb n high g.can.most);
+      is = g.is;
+    })
+    (passing_reads (is_in_range low high) low
+    (and_from (leb low low) (leb low high) (le-leb low low (omega arith)) (le-leb low high some)))
 
 -- ---- numbers
 
@@ -117,7 +132,8 @@ most_from high a b h k = by_test (eqb a (high / 256)) refl k where
 -- the range of the low byte is not empty, and it is one of bytes
 low_range : (low high a : ℕ) → low ≤ high → low / 256 ≤ a → a ≤ high / 256 → low_least low a ≤ low_most high a
 low_range low high a h k l = by_tests (eqb a (low / 256)) (eqb a (high / 256)) refl refl where
-  by_tests : (s t : Bool) → eqb a (low / 256) ≡ s → eqb a (high / 256) ≡ t → cond s (low % 256) 0 ≤ cond t (high % 256) 255
+  by_tests : (s t : Bool) → eqb a (low / 256) ≡ s → eqb a (high / 256) ≡ t
+      → cond s (low % 256) 0 ≤ cond t (high % 256) 255
   by_tests true true x y = let e = eqb-true _ _ x in let f = eqb-true _ _ y in omega (arith, e, f)
   by_tests true false x y = omega arith
   by_tests false t x y = omega arith
@@ -136,8 +152,10 @@ abbrev low_spelled : ℕ → List ℕ
 low_spelled n = n % 256 ∷ []
 
 low_reads : (low high a : ℕ) → low ≤ high → InRange (low / 256) (high / 256) a
-    → Reads (Field (LowCan low high a) low_spelled) (λ xs. byte_at (low_least low a) (low_most high a) xs >>= λ x. Ok (a * 256 + x.0, x.1))
-low_reads low high a some g = same (Seq (Byte (low_least low a) (low_most high a)) (λ b. Done (a * 256 + b))) (Field (LowCan low high a) low_spelled) _
+    → Reads (Field (LowCan low high a) low_spelled)
+    (λ xs. byte_at (low_least low a) (low_most high a) xs >>= λ x. Ok (a * 256 + x.0, x.1))
+low_reads low high a some g = same (Seq (Byte (low_least low a) (low_most high a)) (λ b. Done (a * 256 + b)))
+    (Field (LowCan low high a) low_spelled) _
     (λ n xs q.
     let byte = low_byte high a q.first q.head.can.most in
     let value : a * 256 + q.first ≡ n = q.tail.is in
@@ -151,8 +169,10 @@ low_reads low high a some g = same (Seq (Byte (low_least low a) (low_most high a
       head = record { can = f.can.0; is = refl };
       tail = record { is = f.can.1; nothing = refl };
     })
-    (then (Byte (low_least low a) (low_most high a)) (λ b. Done (a * 256 + b)) (byte_at (low_least low a) (low_most high a)) (λ b ys. Ok (a * 256 + b, ys))
-    (byte_reads (low_least low a) (low_most high a) (low_range low high a some g.least g.most)) (λ b front h. done (a * 256 + b)))
+    (then (Byte (low_least low a) (low_most high a)) (λ b. Done (a * 256 + b))
+    (byte_at (low_least low a) (low_most high a)) (λ b ys. Ok (a * 256 + b, ys))
+    (byte_reads (low_least low a) (low_most high a) (low_range low high a some g.least g.most))
+    (λ b front h. done (a * 256 + b)))
 
 zero_in : InRange 0 0 0
 zero_in = record { least = omega arith; most = omega arith }
@@ -180,7 +200,11 @@ number_reads low high some small = renamed
       ),
     ))
     (λ n h. sym (number_is n (omega (arith, h.most, small))))
-    (chain (InRange 0 0) one_byte _ _ nought (byte_at 0 0) _ (λ a n z h. omega (arith, z.most)) (byte_reads 0 0 (omega arith)) (λ _ _.
-    chain (InRange 0 0) one_byte _ _ nought (byte_at 0 0) _ (λ a n z h. omega (arith, z.most)) (byte_reads 0 0 (omega arith)) (λ _ _.
-    chain (InRange (low / 256) (high / 256)) one_byte (LowCan low high) (λ a. low_spelled) (λ n. n / 256) (byte_at (low / 256) (high / 256)) _
-    (λ a n z h. omega (arith, h.1)) (byte_reads (low / 256) (high / 256) (omega arith)) (λ a g. low_reads low high a some g))))
+    (chain (InRange 0 0) one_byte _ _ nought (byte_at 0 0) _ (λ a n z h. omega (arith, z.most))
+    (byte_reads 0 0 (omega arith)) (λ _ _.
+    chain (InRange 0 0) one_byte _ _ nought (byte_at 0 0) _ (λ a n z h. omega (arith, z.most))
+    (byte_reads 0 0 (omega arith)) (λ _ _.
+    chain (InRange (low / 256) (high / 256)) one_byte (LowCan low high) (λ a. low_spelled) (λ n. n / 256)
+    (byte_at (low / 256) (high / 256)) _
+    (λ a n z h. omega (arith, h.1)) (byte_reads (low / 256) (high / 256) (omega arith))
+    (λ a g. low_reads low high a some g))))

@@ -1,7 +1,10 @@
--- A field is a relation between values and their spellings. A reader reads a field exactly where it takes each spelling,
--- takes nothing else, and tells the first byte that no spelling has. What reads one field and then another, which may depend
+-- A field is a relation between values and their spellings. A reader reads a field exactly where it takes each
+-- spelling,
+-- takes nothing else, and tells the first byte that no spelling has. What reads one field and then another, which may
+-- depend
 -- on the first value, reads the two exactly.
-use Rattle.std.proofs.Common.{◌≡◌, ℕ, List, [], ◌∷◌, ◌++◌, length, Result, Ok, Err, ◌⊎◌, inl, inr, refl, sym, ap, subst, ◌∙◌, append_assoc}
+use Rattle.std.proofs.Common.{◌≡◌, ℕ, List, [], ◌∷◌, ◌++◌, length, Result, Ok, Err, ◌⊎◌, inl, inr, refl, sym, ap, subst}
+use Rattle.std.proofs.Common.{◌∙◌, append_assoc}
 use Rattle.std.proofs.lemmas.List.{append-nil}
 use Rattle.td_wire.specs.Reading.{Read, ◌>>=◌}
 
@@ -25,7 +28,8 @@ pub record IsFault {A : Type 0} (G : A → List ℕ → Type 0) (xs : List ℕ) 
 
 pub record Reads {A : Type 0} (G : A → List ℕ → Type 0) (read : List ℕ → Read A) : Type 0 where
   pub some : Begins G []
-  pub sound : (xs : List ℕ) (a : A) (rest : List ℕ) → read xs ≡ Ok (a, rest) → (front : List ℕ) × (xs ≡ front ++ rest) × G a front
+  pub sound : (xs : List ℕ) (a : A) (rest : List ℕ) → read xs ≡ Ok (a, rest)
+      → (front : List ℕ) × (xs ≡ front ++ rest) × G a front
   pub again : (a : A) (front rest : List ℕ) → G a front → read (front ++ rest) ≡ Ok (a, rest)
   pub fault : (xs : List ℕ) (left : ℕ) → read xs ≡ Err left → IsFault G xs left
 
@@ -35,7 +39,8 @@ pub record Done {A : Type 0} (v a : A) (xs : List ℕ) : Type 0 where
   pub nothing : xs ≡ []
 
 -- the spelling of a value and then one of a field that depends on it
-pub record Seq {A C : Type 0} (G : A → List ℕ → Type 0) (H : A → C → List ℕ → Type 0) (c : C) (xs : List ℕ) : Type 0 where
+pub record Seq {A C : Type 0} (G : A → List ℕ → Type 0) (H : A → C → List ℕ → Type 0) (c : C)
+    (xs : List ℕ) : Type 0 where
   pub first : A
   pub front : List ℕ
   pub back : List ℕ
@@ -53,7 +58,8 @@ pub ok_differs : {A : Type 0} (x : A) (left : ℕ) → ok x ≡ Err left → ⊥
 ok_differs x left e = cc
 
 -- the value of a step that did not fail
-pub bind_ok : {A B : Type 0} (r : Result A ℕ) (f : A → Result B ℕ) (y : B) → (r >>= f) ≡ Ok y → (x : A) × (r ≡ Ok x) × (f x ≡ Ok y)
+pub bind_ok : {A B : Type 0} (r : Result A ℕ) (f : A → Result B ℕ) (y : B) → (r >>= f) ≡ Ok y
+    → (x : A) × (r ≡ Ok x) × (f x ≡ Ok y)
 bind_ok (Ok x) f y e = (x, refl, e)
 bind_ok (Err left) f y e = absurd cc
 
@@ -87,7 +93,8 @@ done {A} v = record {
 }
 
 -- the same relation in other words
-pub same : {A : Type 0} (G K : A → List ℕ → Type 0) (read : List ℕ → Read A) → ((a : A) (xs : List ℕ) → G a xs → K a xs) → ((a : A) (xs : List ℕ) → K a xs → G a xs)
+pub same : {A : Type 0} (G K : A → List ℕ → Type 0) (read : List ℕ → Read A) → ((a : A) (xs : List ℕ) → G a xs → K a xs)
+    → ((a : A) (xs : List ℕ) → K a xs → G a xs)
     → Reads G read → Reads K read
 same {A} G K read to from reads = record {
   some = (reads.some.0, reads.some.1, to _ _ reads.some.2);
@@ -108,7 +115,8 @@ same {A} G K read to from reads = record {
   stops good (b ∷ bad) s = λ begins. s (begins.0, begins.1, from _ _ begins.2)
 
 -- one and then the other
-module _ {A C : Type 0} (G : A → List ℕ → Type 0) (H : A → C → List ℕ → Type 0) (r : List ℕ → Read A) (s : A → List ℕ → Read C)
+module _ {A C : Type 0} (G : A → List ℕ → Type 0) (H : A → C → List ℕ → Type 0) (r : List ℕ → Read A)
+    (s : A → List ℕ → Read C)
     (one : Reads G r) (two : (a : A) (front : List ℕ) → G a front → Reads (H a) (s a)) where
   abbrev both : List ℕ → Read C
   both xs = r xs >>= λ x. s x.0 x.1
@@ -117,10 +125,22 @@ module _ {A C : Type 0} (G : A → List ℕ → Type 0) (H : A → C → List �
   both_some =
       let a = one.some.0 in
       let g = one.some.2 in
-      let next = (two a one.some.1 g).some in
-      (next.0, one.some.1 ++ next.1, record { first = a; front = one.some.1; back = next.1; parts = refl; head = g; tail = next.2 })
+      let next = (two a one.some.1 g).some in (
+        next.0,
+        one.some.1 ++ next.1,
+        record {
+          first = a;
+          front = one.some.1;
+          back = next.1;
+          parts = refl;
+          head =
+              g;
+          tail = next.2;
+        },
+      )
 
-  both_sound : (xs : List ℕ) (c : C) (rest : List ℕ) → both xs ≡ Ok (c, rest) → (front : List ℕ) × (xs ≡ front ++ rest) × Seq G H c front
+  both_sound : (xs : List ℕ) (c : C) (rest : List ℕ) → both xs ≡ Ok (c, rest)
+      → (front : List ℕ) × (xs ≡ front ++ rest) × Seq G H c front
   both_sound xs c rest e =
       let step = bind_ok (r xs) (λ (x : A × List ℕ). s x.0 x.1) (c, rest) e in
       let a : A = step.0.0 in
@@ -134,11 +154,14 @@ module _ {A C : Type 0} (G : A → List ℕ → Type 0) (H : A → C → List �
   both_again : (c : C) (xs rest : List ℕ) → Seq G H c xs → both (xs ++ rest) ≡ Ok (c, rest)
   both_again c xs rest q =
       let first : r (xs ++ rest) ≡ Ok (q.first, q.back ++ rest) =
-      ap (λ (ys : List ℕ). r (ys ++ rest)) q.parts ∙ ap r (append_assoc q.front q.back rest) ∙ one.again q.first q.front (q.back ++ rest) q.head in
-      ap (λ (x : Result (A × List ℕ) ℕ). x >>= λ y. s y.0 y.1) first ∙ (two q.first q.front q.head).again c q.back rest q.tail
+      ap (λ (ys : List ℕ). r (ys ++ rest)) q.parts ∙ ap r (append_assoc q.front q.back rest)
+      ∙ one.again q.first q.front (q.back ++ rest) q.head in
+      ap (λ (x : Result (A × List ℕ) ℕ). x >>= λ y. s y.0 y.1) first
+      ∙ (two q.first q.front q.head).again c q.back rest q.tail
 
   -- where no spelling of the first field begins the bytes, no spelling of both does
-  stops_first : (good bad : List ℕ) (left : ℕ) → r (good ++ bad) ≡ Err left → Stops G good bad → Stops (Seq G H) good bad
+  stops_first : (good bad : List ℕ) (left : ℕ) → r (good ++ bad) ≡ Err left → Stops G good bad
+      → Stops (Seq G H) good bad
   stops_first good [] left e stop = tt
   stops_first good (b ∷ bad) left e stop = λ begins.
       let q = begins.2 in
@@ -147,20 +170,24 @@ module _ {A C : Type 0} (G : A → List ℕ → Type 0) (H : A → C → List �
         | inr p ↦
             let regroup : good ++ b ∷ bad ≡ q.front ++ (p.0 ++ bad) =
             sym (append_assoc good (b ∷ []) bad) ∙ ap (λ (ys : List ℕ). ys ++ bad) p.1 ∙ append_assoc q.front p.0 bad in
-            let read : r (good ++ b ∷ bad) ≡ Ok (q.first, p.0 ++ bad) = ap r regroup ∙ one.again q.first q.front (p.0 ++ bad) q.head in
+            let read : r (good ++ b ∷ bad) ≡ Ok (q.first, p.0 ++ bad) = ap r regroup
+            ∙ one.again q.first q.front (p.0 ++ bad) q.head in
             absurd (ok_differs (q.first, p.0 ++ bad) left (sym read ∙ e))
       ]
 
-  stops_second : (a : A) (front good bad : List ℕ) → G a front → Stops (H a) good bad → Stops (Seq G H) (front ++ good) bad
+  stops_second : (a : A) (front good bad : List ℕ) → G a front → Stops (H a) good bad
+      → Stops (Seq G H) (front ++ good) bad
   stops_second a front good [] g stop = tt
   stops_second a front good (b ∷ bad) g stop = λ begins.
       let q = begins.2 in
       let more : List ℕ = begins.1 in
       let regroup : ((front ++ good) ++ b ∷ []) ++ more ≡ front ++ ((good ++ b ∷ []) ++ more) =
       ap (λ (ys : List ℕ). ys ++ more) (append_assoc front good (b ∷ [])) ∙ append_assoc front (good ++ b ∷ []) more in
-      let here : r (q.front ++ q.back) ≡ Ok (a, (good ++ b ∷ []) ++ more) = ap r (sym q.parts ∙ regroup) ∙ one.again a front ((good ++ b ∷ []) ++ more) g in
+      let here : r (q.front ++ q.back) ≡ Ok (a, (good ++ b ∷ []) ++ more) = ap r (sym q.parts ∙ regroup)
+      ∙ one.again a front ((good ++ b ∷ []) ++ more) g in
       let there : r (q.front ++ q.back) ≡ Ok (q.first, q.back) = one.again q.first q.front q.back q.head in
-      let equal : (q.first, q.back) ≡ (a, (good ++ b ∷ []) ++ more) = ok_is (q.first, q.back) (a, (good ++ b ∷ []) ++ more) (sym there ∙ here) in
+      let equal : (q.first, q.back) ≡ (a, (good ++ b ∷ []) ++ more) =
+      ok_is (q.first, q.back) (a, (good ++ b ∷ []) ++ more) (sym there ∙ here) in
       stop (begins.0, more, subst (λ (p : A × List ℕ). H p.0 begins.0 p.1) equal q.tail)
 
   both_fault : (xs : List ℕ) (left : ℕ) → both xs ≡ Err left → IsFault (Seq G H) xs left
@@ -223,18 +250,22 @@ pub record Field {A : Type 0} (P : A → Type 0) (spell : A → List ℕ) (a : A
   pub is : xs ≡ spell a
 
 -- the same field in other words
-pub renamed : {A : Type 0} (P Q : A → Type 0) (s t : A → List ℕ) (r : List ℕ → Read A) → ((a : A) → P a → Q a) → ((a : A) → Q a → P a) → ((a : A) → Q a → s a ≡ t a)
+pub renamed : {A : Type 0} (P Q : A → Type 0) (s t : A → List ℕ) (r : List ℕ → Read A) → ((a : A) → P a → Q a)
+    → ((a : A) → Q a → P a) → ((a : A) → Q a → s a ≡ t a)
     → Reads (Field P s) r → Reads (Field Q t) r
 renamed P Q s t r to from spelled = same (Field P s) (Field Q t) r
     (λ a xs f. record { can = to a f.can; is = f.is ∙ spelled a (to a f.can) })
     (λ a xs f. record { can = from a f.can; is = f.is ∙ sym (spelled a f.can) })
 
 -- a value made of the value of a field
-pub made_in : {A C : Type 0} (P : A → Type 0) (s : A → List ℕ) (f : A → C) (g : C → A) (r : List ℕ → Read A) → ((a : A) → P a → g (f a) ≡ a) → Reads (Field P s) r
+pub made_in : {A C : Type 0} (P : A → Type 0) (s : A → List ℕ) (f : A → C) (g : C → A) (r : List ℕ → Read A)
+    → ((a : A) → P a → g (f a) ≡ a) → Reads (Field P s) r
     → Reads (Field (λ c. P (g c) × (f (g c) ≡ c)) (λ c. s (g c))) (λ xs. r xs >>= λ x. Ok (f x.0, x.1))
-made_in {A} {C} P s f g r back reads = same (Seq (Field P s) (λ a. Done (f a))) (Field (λ c. P (g c) × (f (g c) ≡ c)) (λ c. s (g c))) _ to from
+made_in {A} {C} P s f g r back reads = same (Seq (Field P s) (λ a. Done (f a)))
+    (Field (λ c. P (g c) × (f (g c) ≡ c)) (λ c. s (g c))) _ to from
     (then (Field P s) (λ a. Done (f a)) r (λ a ys. Ok (f a, ys)) reads (λ a front h. done (f a))) where
-      to : (c : C) (xs : List ℕ) → Seq (Field P s) (λ a. Done (f a)) c xs → Field (λ c. P (g c) × (f (g c) ≡ c)) (λ c. s (g c)) c xs
+      to : (c : C) (xs : List ℕ) → Seq (Field P s) (λ a. Done (f a)) c xs
+          → Field (λ c. P (g c) × (f (g c) ≡ c)) (λ c. s (g c)) c xs
       to c xs q =
           let same_value : g c ≡ q.first = ap g (sym q.tail.is) ∙ back q.first q.head.can in
           record {
@@ -242,7 +273,8 @@ made_in {A} {C} P s f g r back reads = same (Seq (Field P s) (λ a. Done (f a)))
             is = q.parts ∙ rw (q.tail.nothing, q.head.is, append-nil (s q.first)) (ap s (sym same_value));
           }
 
-      from : (c : C) (xs : List ℕ) → Field (λ c. P (g c) × (f (g c) ≡ c)) (λ c. s (g c)) c xs → Seq (Field P s) (λ a. Done (f a)) c xs
+      from : (c : C) (xs : List ℕ) → Field (λ c. P (g c) × (f (g c) ≡ c)) (λ c. s (g c)) c xs
+          → Seq (Field P s) (λ a. Done (f a)) c xs
       from c xs h = record {
         first = g c;
         front = s (g c);
@@ -252,17 +284,23 @@ made_in {A} {C} P s f g r back reads = same (Seq (Field P s) (λ a. Done (f a)))
         tail = record { is = h.can.1; nothing = refl };
       }
 
-pub made : {A C : Type 0} (P : A → Type 0) (s : A → List ℕ) (f : A → C) (g : C → A) (r : List ℕ → Read A) → ((a : A) → g (f a) ≡ a) → Reads (Field P s) r
+pub made : {A C : Type 0} (P : A → Type 0) (s : A → List ℕ) (f : A → C) (g : C → A) (r : List ℕ → Read A)
+    → ((a : A) → g (f a) ≡ a) → Reads (Field P s) r
     → Reads (Field (λ c. P (g c) × (f (g c) ≡ c)) (λ c. s (g c))) (λ xs. r xs >>= λ x. Ok (f x.0, x.1))
 made P s f g r back reads = made_in P s f g r (λ a _. back a) reads
 
 -- a field and then one that depends on its value, which the second value has as a part
-pub chain : {A C : Type 0} (P : A → Type 0) (s : A → List ℕ) (Q : A → C → Type 0) (t : A → C → List ℕ) (g : C → A) (r : List ℕ → Read A) (u : A → List ℕ → Read C)
-    → ((a : A) (c : C) → P a → Q a c → g c ≡ a) → Reads (Field P s) r → ((a : A) → P a → Reads (Field (Q a) (t a)) (u a))
+pub chain : {A C : Type 0} (P : A → Type 0) (s : A → List ℕ) (Q : A → C → Type 0) (t : A → C → List ℕ) (g : C → A)
+    (r : List ℕ → Read A) (u : A → List ℕ → Read C)
+    → ((a : A) (c : C) → P a → Q a c → g c ≡ a) → Reads (Field P s) r
+    → ((a : A) → P a → Reads (Field (Q a) (t a)) (u a))
     → Reads (Field (λ c. P (g c) × Q (g c) c) (λ c. s (g c) ++ t (g c) c)) (λ xs. r xs >>= λ x. u x.0 x.1)
-chain {A} {C} P s Q t g r u part one two = same (Seq (Field P s) (λ a. Field (Q a) (t a))) (Field (λ c. P (g c) × Q (g c) c) (λ c. s (g c) ++ t (g c) c)) _ to from
+chain {A} {C} P s Q t g r u part one two =
+    same (Seq (Field P s) (λ a. Field (Q a) (t a)))
+    (Field (λ c. P (g c) × Q (g c) c) (λ c. s (g c) ++ t (g c) c)) _ to from
     (then (Field P s) (λ a. Field (Q a) (t a)) r u one (λ a front h. two a h.can)) where
-      to : (c : C) (xs : List ℕ) → Seq (Field P s) (λ a. Field (Q a) (t a)) c xs → Field (λ c. P (g c) × Q (g c) c) (λ c. s (g c) ++ t (g c) c) c xs
+      to : (c : C) (xs : List ℕ) → Seq (Field P s) (λ a. Field (Q a) (t a)) c xs
+          → Field (λ c. P (g c) × Q (g c) c) (λ c. s (g c) ++ t (g c) c) c xs
       to c xs q =
           let same_value : g c ≡ q.first = part q.first c q.head.can q.tail.can in
           record {
@@ -270,7 +308,8 @@ chain {A} {C} P s Q t g r u part one two = same (Seq (Field P s) (λ a. Field (Q
             is = q.parts ∙ rw (q.head.is, q.tail.is) (ap (λ (a : A). s a ++ t a c) (sym same_value));
           }
 
-      from : (c : C) (xs : List ℕ) → Field (λ c. P (g c) × Q (g c) c) (λ c. s (g c) ++ t (g c) c) c xs → Seq (Field P s) (λ a. Field (Q a) (t a)) c xs
+      from : (c : C) (xs : List ℕ) → Field (λ c. P (g c) × Q (g c) c) (λ c. s (g c) ++ t (g c) c) c xs
+          → Seq (Field P s) (λ a. Field (Q a) (t a)) c xs
       from c xs h = record {
         first = g c;
         front = s (g c);
@@ -282,4 +321,5 @@ chain {A} {C} P s Q t g r u part one two = same (Seq (Field P s) (λ a. Field (Q
 
 -- a field of no bytes with one value
 pub nothing : {A : Type 0} (v : A) → Reads (Field (λ a. v ≡ a) (λ _. [])) (λ xs. Ok (v, xs))
-nothing v = same (Done v) (Field (λ a. v ≡ a) (λ _. [])) _ (λ a xs d. record { can = d.is; is = d.nothing }) (λ a xs f. record { is = f.can; nothing = f.is }) (done v)
+nothing v = same (Done v) (Field (λ a. v ≡ a) (λ _. [])) _ (λ a xs d. record { can = d.is; is = d.nothing })
+    (λ a xs f. record { is = f.can; nothing = f.is }) (done v)

@@ -12,18 +12,23 @@ returns-in_err-text c =
 
 pub slice_bounds-new-end : goal.slice_bounds-new-end
 slice_bounds-new-end c =
-    sym (text_taken c.args.len c.args.len c.args.self.now.rest.now c.text.new.self.rest.now c.in_ok-text.ensures).atom.len_is
+    sym (text_taken c.args.len c.args.len c.args.self.now.rest.now c.text.new.self.rest.now
+    c.in_ok-text.ensures).atom.len_is
 
 pub unwrap-requires : goal.unwrap-requires
 unwrap-requires c =
     let t = text_taken c.args.len c.args.len c.args.self.now.rest.now c.text.new.self.rest.now c.in_ok-text.ensures in
-    let atom : IsAtom (take c.args.len c.args.self.now.rest.now) = record { some = omega (arith, t.atom.len_is); short = omega (arith, t.atom.len_is); text = t.atom.text } in
+    let atom : IsAtom (take c.args.len c.args.self.now.rest.now) =
+    record { some = omega (arith, t.atom.len_is); short = omega (arith, t.atom.len_is); text = t.atom.text } in
     let made = Ok-from_Ok_iff c.new.result _ _ c.new.ensures.ok atom in
     rw (c.ok.ensures.value, made) refl
 
 pub returns : goal.returns
 returns c =
     let t = text_taken c.args.len c.args.len c.args.self.now.rest.now c.text.new.self.rest.now c.in_ok-text.ensures in
-    let atom : IsAtom (take c.args.len c.args.self.now.rest.now) = record { some = omega (arith, t.atom.len_is); short = omega (arith, t.atom.len_is); text = t.atom.text } in
+    let atom : IsAtom (take c.args.len c.args.self.now.rest.now) =
+    record { some = omega (arith, t.atom.len_is); short = omega (arith, t.atom.len_is); text = t.atom.text } in
     let made = Ok-from_Ok_iff c.new.result _ _ c.new.ensures.ok atom in
-    t.read ∙ ap (λ a. ok (a, c.text.new.self.rest.now)) (ok_value c.new.result c.ok.result c.unwrap.result (take c.args.len c.args.self.now.rest.now) c.ok.ensures.value made c.unwrap.ensures)
+    t.read ∙ ap (λ a. ok (a, c.text.new.self.rest.now))
+    (ok_value c.new.result c.ok.result c.unwrap.result
+    (take c.args.len c.args.self.now.rest.now) c.ok.ensures.value made c.unwrap.ensures)
