@@ -63,8 +63,8 @@ pub enum Command {
     Count {
         site: Site,
     },
-    /// `mark R M I K` and `unmark R M I K`: adds the name to so many atoms from the index on, or removes it. A name is 0
-    /// to 31.
+    /// `mark R M I K` and `unmark R M I K`: adds the name to so many atoms from the index on, or removes it. A name is
+    /// 0 to 31.
     Mark {
         site: Site,
         add: bool,

@@ -1,9 +1,9 @@
 //! The language in which a script of `play` is written: from the bytes of a script to its commands.
 //!
-//! `read_script` answers the commands that the bytes spell, or the first faulty line with the first thing wrong with it.
-//! Begin at `specs/Spelling.antt`, the line of each command, and `specs/Script.antt`, the grammar; `specs/Faults.antt`
-//! is the order in which a line is judged. The readers of lines, words, numbers and texts know no command: `language`
-//! alone does.
+//! `read_script` answers the commands that the bytes spell, or the first faulty line with the first thing wrong with
+//! it. Begin at `specs/Spelling.antt`, the line of each command, and `specs/Script.antt`, the grammar;
+//! `specs/Faults.antt` is the order in which a line is judged. The readers of lines, words, numbers and texts know no
+//! command: `language` alone does.
 #![tactic(auto)]
 
 mod argument;

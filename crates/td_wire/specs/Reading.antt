@@ -1,6 +1,6 @@
 -- How the private readers go through the bytes, one field after another. No clause of a public call speaks of it.
-use Rattle.std.specs.Prelude.{◌≡◌, ℕ, zero, suc, ◌+◌, ◌-◌, ◌*◌, ◌/◌, ◌%◌, Bool, ◌&&◌, nat_le, nat_lt, ◌==◌, if◌then◌else◌}
-use Rattle.std.specs.Prelude.{List, [], ◌∷◌, length, take, Result, Ok, Err}
+use Rattle.std.specs.Prelude.{◌≡◌, ℕ, zero, suc, ◌+◌, ◌-◌, ◌*◌, ◌/◌, ◌%◌, Bool, ◌&&◌, nat_le, nat_lt, ◌==◌}
+use Rattle.std.specs.Prelude.{if◌then◌else◌, List, [], ◌∷◌, length, take, Result, Ok, Err}
 use Rattle.std.specs.Int.{is_in_range}
 use Rattle.td_base.specs.Value.{DotValue, AtomIdValue}
 use Rattle.td_base.specs.declared.site.TheConstants.{MAX_SITE}
@@ -21,7 +21,8 @@ use Rattle.td_op.specs.Op.{OpValue}
 use Rattle.td_wire.specs.declared.format.Format.{Format}
 use Rattle.td_wire.specs.declared.format.Format.TheVariants.{One, Two}
 use Rattle.td_wire.specs.declared.format.TheConstants.{MAX_OLD_SITE, LETTER, DIGIT_ONE, DIGIT_TWO}
-use Rattle.td_wire.specs.declared.format.TheConstants.{INSERT, DELETE, PROPOSE, COMMIT, VOTE, ROOT, AT, LEFT, RIGHT, NO, YES}
+use Rattle.td_wire.specs.declared.format.TheConstants.{INSERT, DELETE, PROPOSE, COMMIT, VOTE}
+use Rattle.td_wire.specs.declared.format.TheConstants.{ROOT, AT, LEFT, RIGHT, NO, YES}
 use Rattle.td_wire.specs.declared.reader.Fault.{Fault}
 
 -- a value and the bytes behind it, or how many bytes stand from the fault on

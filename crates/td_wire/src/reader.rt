@@ -15,8 +15,8 @@ pub(crate) struct Reader<'a> {
     pub(crate) rest: &'a [u8],
 }
 
-/// Where bytes stop being the front of a spelling: `left` of them stand from the first one on that no spelling has there,
-/// and none where they end too early.
+/// Where bytes stop being the front of a spelling: `left` of them stand from the first one on that no spelling has
+/// there, and none where they end too early.
 #[derive(Clone, Copy, Debug, PartialEq, Eq)]
 pub(crate) struct Fault {
     pub(crate) left: usize,

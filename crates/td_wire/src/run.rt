@@ -32,7 +32,8 @@ impl<'a> Reader<'a> {
     fn lengths(&mut self, count: u8) -> Result<&'a [u8], Fault>
         requires { count ≤ MAX_RUN_LEN }
         ensures read { let read = lengths_at count MAX_RUN_LEN self.old.rest.now in
-            MatchResult result (λ lengths. read ≡ Ok (lengths.now, self.new.rest.now)) (λ fault. read ≡ Err fault.left) }
+            MatchResult result (λ lengths. read ≡ Ok (lengths.now, self.new.rest.now))
+            (λ fault. read ≡ Err fault.left) }
         ensures count { IfOk result (λ lengths. length lengths.now ≡ count) }
         ensures each { IfOk result (λ lengths. All (λ len. 1 ≤ len) lengths.now) }
         ensures together { IfOk result (λ lengths. sum lengths.now ≤ MAX_RUN_LEN) }

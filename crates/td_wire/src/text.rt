@@ -1,6 +1,7 @@
 ghost use Rattle.std.specs.Prelude.{◌≡◌, ◌<◌, ◌≤◌, length, take, IfOk};
 ghost use Rattle.td_base.specs.declared.atom.TheConstants.{MAX_ATOM_LEN};
-ghost use Rattle.td_wire.specs.Reading.{Gives, Passes, atom_at, text_at, character_at, lead_at, continuations_at, character_len, second_least, second_most};
+ghost use Rattle.td_wire.specs.Reading.{Gives, Passes, atom_at, text_at, character_at, lead_at, continuations_at};
+ghost use Rattle.td_wire.specs.Reading.{character_len, second_least, second_most};
 
 use crate::reader::{Fault, Reader};
 use td_base::Atom;

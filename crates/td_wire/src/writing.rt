@@ -7,9 +7,10 @@ ghost use Rattle.td_op.specs.declared.message.Message.{Message};
 ghost use Rattle.td_op.specs.Message.{IsBody, IsMessage};
 ghost use Rattle.td_wire.specs.declared.format.Format.TheVariants.{Two};
 ghost use Rattle.td_wire.specs.declared.length.TheConstants.{DOT_LEN, IDENTITY_LEN, MAX_SLOT_LEN, MAX_RUN_PART_LEN};
-ghost use Rattle.td_wire.specs.declared.length.TheConstants.{MAX_DEPS_LEN, MAX_BODY_LEN, MAX_OP_LEN, VOTE_LEN, MAX_PACKET_LEN};
-ghost use Rattle.td_wire.specs.Spelling.{dot_bytes, identity_bytes, slot_bytes, run_bytes, deps_bytes, kind, body_bytes};
-ghost use Rattle.td_wire.specs.Spelling.{op_bytes, vote_kind, vote_bytes, Spells};
+ghost use Rattle.td_wire.specs.declared.length.TheConstants.{MAX_DEPS_LEN, MAX_BODY_LEN, MAX_OP_LEN, VOTE_LEN};
+ghost use Rattle.td_wire.specs.declared.length.TheConstants.{MAX_PACKET_LEN};
+ghost use Rattle.td_wire.specs.Spelling.{dot_bytes, identity_bytes, slot_bytes, run_bytes, deps_bytes, kind};
+ghost use Rattle.td_wire.specs.Spelling.{body_bytes, op_bytes, vote_kind, vote_bytes, Spells};
 
 use crate::buffer::Buffer;
 use crate::format::{

@@ -31,8 +31,8 @@ const SAMPLES: [&str; 23] = [
     "\u{61}\u{200d}|\u{2701}",
 ];
 
-// Samples of GB9c, which came after 15.0.0: the virama U+094D joins a consonant behind it to what stands before it. Since
-// 18.0 that need not be a consonant, so the last sample breaks before U+0924 by an earlier version.
+// Samples of GB9c, which came after 15.0.0: the virama U+094D joins a consonant behind it to what stands before it.
+// Since 18.0 that need not be a consonant, so the last sample breaks before U+0924 by an earlier version.
 const VIRAMAS: [&str; 8] = [
     "\u{915}\u{94d}\u{937}",
     "\u{915}\u{94d}\u{94d}\u{924}",
