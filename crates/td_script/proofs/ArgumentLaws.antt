@@ -4,6 +4,7 @@ use Rattle.std.proofs.Common.{get_or, codes, Option, Some, None, Result, Ok, Err
 use Rattle.std.proofs.Common.{length-append, arith}
 use Rattle.std.specs.Fmt.{decimal}
 use Rattle.std.specs.Int.{is_in_range, IsInRange}
+use Rattle.std.proofs.lemmas.Option.{none-some, same_Some}
 use Rattle.std.proofs.lemmas.Bool.{eqb-true, leb-true, le-leb}
 use Rattle.std.proofs.lemmas.List.{get_or_default}
 use Rattle.std.proofs.lemmas.List.Elements.{All-append}
@@ -145,14 +146,8 @@ dot_at_there sites d rest few h free =
     (omega (arith, length-append (decimal d.site) (46 ∷ decimal d.seq), (form_of_decimal d.site site_small).some)) lacks
     free is
 
-none_is_no_part : (x : List ℕ × List ℕ) → ◌≡◌ {A = Option (List ℕ × List ℕ)} None (Some x) → ⊥
-none_is_no_part x e = cc
-
-part_same : (x y : List ℕ × List ℕ) → Some x ≡ Some y → x ≡ y
-part_same x y e = cc
-
 cut_dot_back : (bs front back : List ℕ) → cut_dot bs ≡ Some (front, back) → bs ≡ front ++ 46 ∷ back
-cut_dot_back [] front back e = absurd (none_is_no_part (front, back) e)
+cut_dot_back [] front back e = absurd (none-some (front, back) e)
 cut_dot_back (b ∷ bs) front back e = at_point (eqb b 46) refl (cut_dot bs)
     (λ front back h. cut_dot_back bs front back h) e
   where
@@ -160,12 +155,12 @@ cut_dot_back (b ∷ bs) front back e = at_point (eqb b 46) refl (cut_dot bs)
         → ((front back : List ℕ) → o ≡ Some (front, back) → bs ≡ front ++ 46 ∷ back)
         → cond is (Some ([], bs)) (onto_part b o) ≡ Some (front, back) → b ∷ bs ≡ front ++ 46 ∷ back
     at_point true h o ih e =
-        let same : ([], bs) ≡ (front, back) = part_same ([], bs) (front, back) e in
+        let same : ([], bs) ≡ (front, back) = same_Some ([], bs) (front, back) e in
         ap (λ (x : ℕ). x ∷ bs) (eqb-true b 46 h) ∙ ap (λ (x : List ℕ × List ℕ). x.0 ++ 46 ∷ x.1) same
     at_point false h (Some cut) ih e =
-        let same : (b ∷ cut.0, cut.1) ≡ (front, back) = part_same (b ∷ cut.0, cut.1) (front, back) e in
+        let same : (b ∷ cut.0, cut.1) ≡ (front, back) = same_Some (b ∷ cut.0, cut.1) (front, back) e in
         ap (λ (xs : List ℕ). b ∷ xs) (ih cut.0 cut.1 refl) ∙ ap (λ (x : List ℕ × List ℕ). x.0 ++ 46 ∷ x.1) same
-    at_point false h None ih e = absurd (none_is_no_part (front, back) e)
+    at_point false h None ih e = absurd (none-some (front, back) e)
 
 -- the numbers of a dot that was read
 record HasNumbers (r s : Result ℕ Kind) (d : DotValue) : Type 0 where

@@ -1,6 +1,6 @@
 -- What is judged of a line: a command where the line is the line of a command that can stand there, and only there.
-use Rattle.std.proofs.Common.{◌≡◌, ◌≢◌, ◌<◌, ◌≤◌, ◌+◌, ◌^◌, ℕ, Bool, true, false, cond, not, eqb, ltb, List, [], ◌∷◌}
-use Rattle.std.proofs.Common.{◌++◌, length, codes, find, Option, Some, None, Result, Ok, Err, Bor, MatchResult, refl}
+use Rattle.std.proofs.Common.{◌≡◌, ◌≢◌, ◌<◌, ◌≤◌, ◌+◌, ◌^◌, ℕ, Bool, true, false, cond, not, eqb, ltb, List}
+use Rattle.std.proofs.Common.{◌++◌, length, codes, Option, Some, None, Result, Ok, Err, Bor, MatchResult, refl}
 use Rattle.std.proofs.Common.{sym, ap, subst, ◌∙◌, bytes_eq, IsUtf8, arith}
 use Rattle.std.specs.List.{list_all, list_any}
 use Rattle.std.specs.Prelude.{IfSome, IfNone}
@@ -15,6 +15,7 @@ use Rattle.std.proofs.lemmas.List.Elements.{All-weaker}
 use Rattle.std.proofs.lemmas.Slice.Eq.{bytes_eq-Decides}
 use Rattle.std.proofs.lemmas.Str.{IsUtf8-from_is_utf8, is_utf8-from_IsUtf8, IsUtf8-from_ascii}
 use Rattle.std.proofs.lemmas.Str.Ascii.{IsAscii-from_all}
+use Rattle.td_base.proofs.Searches.{find_In}
 use Rattle.td_base.specs.declared.site.TheConstants.{MAX_SITE}
 use Rattle.unicode_segmentation.proofs.TextLemmas.{IsUtf8-after}
 use Rattle.td_script.specs.declared.before.Before.{Before}
@@ -135,24 +136,9 @@ named_there First.Sites = refl
 named_there First.Settle = refl
 named_there (First.AtSite word) = site_word_named word
 
-none_is_no_word : (word : Word) → ◌≡◌ {A = Option Word} None (Some word) → ⊥
-none_is_no_word word e = cc
-
-word_same : (x y : Word) → Some x ≡ Some y → x ≡ y
-word_same x y e = cc
-
-find_back : (p : Word → Bool) (xs : List Word) (word : Word) → find p xs ≡ Some word → p word ≡ true
-find_back p [] word e = absurd (none_is_no_word word e)
-find_back p (x ∷ xs) word e = at_test (p x) refl (find_back p xs word) e
-  where
-    at_test : (is : Bool) → p x ≡ is → (find p xs ≡ Some word → p word ≡ true)
-        → cond is (Some x) (find p xs) ≡ Some word → p word ≡ true
-    at_test true h ih e = subst (λ (w : Word). p w ≡ true) (word_same x word e) h
-    at_test false h ih e = ih e
-
 named_back : (name : List ℕ) (word : Word) → word_named name ≡ Some word → spelling word ≡ name
 named_back name word e = (bytes_eq-Decides (spelling word) name).0
-    (find_back (λ w. bytes_eq (spelling w) name) words word e)
+    (find_In (λ w. bytes_eq (spelling w) name) words word e).1
 
 -- what a line says behind its word
 record SaysCommand (size : ℕ) (before : Before) (word : Word) (rest : List ℕ) (c : Command) : Type 0 where
