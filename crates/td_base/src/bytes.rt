@@ -1,4 +1,4 @@
-ghost use Rattle.std.specs.Prelude.{◌≡◌, ◌++◌, [], OnOk, OnErr};
+ghost use Rattle.std.specs.Prelude.{◌≡◌, ◌++◌, [], take, OnOk, OnErr};
 
 use crate::memory::Memory;
 use std::alloc::Global;
@@ -35,6 +35,13 @@ impl Bytes {
     {
         self.items.extend_from_slice(piece)?;
         Ok(())
+    }
+
+    /// Keeps the first `len` bytes, or all where there are no more.
+    pub fn truncate(&mut self, len: usize)
+        ensures { self.new ≡ take len self.old }
+    {
+        self.items.truncate(len);
     }
 
     pub fn as_slice(&self) -> &[u8]

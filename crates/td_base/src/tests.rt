@@ -78,9 +78,13 @@ fn atoms_of_one_to_four_bytes_are_read_back(rt: HostRuntime) -> Result<(), Fail>
 }
 
 #[test]
-fn a_piece_is_pushed(rt: HostRuntime) -> Result<(), Fail> {
+fn a_piece_is_pushed_and_cut(rt: HostRuntime) -> Result<(), Fail> {
     let mut bytes = Bytes::new(rt.alloc());
     bytes.push(b"ab")?;
     assert_eq!(rt; bytes.as_slice(), b"ab".as_slice());
+    bytes.truncate(3);
+    assert_eq!(rt; bytes.as_slice(), b"ab".as_slice());
+    bytes.truncate(1);
+    assert_eq!(rt; bytes.as_slice(), b"a".as_slice());
     Ok(())
 }
