@@ -1,6 +1,6 @@
 -- The atoms that are put in a slot are rows in it.
 use Rattle.std.proofs.Common.{◌≡◌, ℕ, List, [], ◌∷◌, true, refl, sym, ap, ◌∙◌, subst, inl, inr, true≢false}
-use Rattle.std.specs.Prelude.{IsNone, IsSome, is_some, Option, Some, None}
+use Rattle.std.specs.Prelude.{IsNone, IsSome, IsTrue, is_some, Option, Some, None}
 use Rattle.std.specs.Option.{option_map}
 use Rattle.td_base.specs.declared.bit.Bit.{Bit}
 use Rattle.td_base.specs.Value.{DotValue, AtomIdValue}
@@ -15,7 +15,7 @@ use Rattle.td_doc.specs.Slots.{rows_below, is_within}
 use Rattle.td_doc.specs.Array.{named, array}
 use Rattle.td_base.specs.RunAtoms.{NamedAtom, run_atoms}
 use Rattle.td_doc.specs.Insertion.{put_rows, put_array_below, insert_atom, insert_run}
-use Rattle.td_doc.specs.Answers.{IsRooted, IsFresh}
+use Rattle.td_doc.specs.Answers.{IsFresh, is_rooted}
 use Rattle.td_doc.proofs.PutRows.{puts_in}
 use Rattle.td_doc.proofs.ArrayRows.{array_names}
 use Rattle.td_doc.proofs.Placement.{put_array, atom_is_array}
@@ -39,14 +39,14 @@ below_at x bit atoms rows a (Some r) e some d i =
     let still : find_row x new ≡ Some r = ap (λ (y : AtomIdValue). find_row y new) (sym f.1) ∙ find_in new r d.apart (puts_in (array (Below r.path bit) atoms) rows r (inr f.0)) in
     ap (λ (p : Option DocRow). is_some (find_row a.id (rows_below new (option_map (λ (q : DocRow). Below q.path bit) p)))) still ∙ there_at (Below r.path bit) atoms rows a d i
 
-array_there : (rows : List DocRow) (slot : Slot) (atoms : List NamedAtom) (a : NamedAtom) → IsRooted rows slot → IsDocument (put_array slot atoms rows) → In a atoms → is_within (put_array slot atoms rows) a.id slot ≡ true
+array_there : (rows : List DocRow) (slot : Slot) (atoms : List NamedAtom) (a : NamedAtom) → IsTrue (is_rooted rows slot) → IsDocument (put_array slot atoms rows) → In a atoms → is_within (put_array slot atoms rows) a.id slot ≡ true
 array_there rows Root atoms a rooted d i = there_at Whole atoms rows a d i
 array_there rows (At x bit) atoms a rooted d i = below_at x bit atoms rows a (find_row x rows) refl rooted d i
 
-pub run_there : (rows : List DocRow) (slot : Slot) (dot : DotValue) (run : List (List ℕ)) (a : NamedAtom) → IsDocument rows → IsFresh rows dot → IsRooted rows slot → In a (run_atoms dot run) → is_within (insert_run slot dot run rows) a.id slot ≡ true
+pub run_there : (rows : List DocRow) (slot : Slot) (dot : DotValue) (run : List (List ℕ)) (a : NamedAtom) → IsDocument rows → IsFresh rows dot → IsTrue (is_rooted rows slot) → In a (run_atoms dot run) → is_within (insert_run slot dot run rows) a.id slot ≡ true
 run_there rows slot dot run a d new rooted i = array_there rows slot (run_atoms dot run) a rooted (run_keeps rows slot dot run d new rooted) i
 
-pub insert_there : (rows : List DocRow) (slot : Slot) (id : AtomIdValue) (atom : List ℕ) → IsDocument rows → IsNone (find_row id rows) → IsRooted rows slot → is_within (insert_atom slot id atom rows) id slot ≡ true
+pub insert_there : (rows : List DocRow) (slot : Slot) (id : AtomIdValue) (atom : List ℕ) → IsDocument rows → IsNone (find_row id rows) → IsTrue (is_rooted rows slot) → is_within (insert_atom slot id atom rows) id slot ≡ true
 insert_there rows slot id atom d new rooted =
     let one : NamedAtom = record { id = id; atom = atom } in
     ap (λ (q : List DocRow). is_within q id slot) (atom_is_array slot id atom rows)

@@ -1,5 +1,5 @@
 -- An insert's run adds rows of the insert's dot alone.
-use Rattle.std.proofs.Common.{◌≢◌, ℕ, suc, List, [], ◌∷◌, Bool, true, false, cond, map, Option, Some, None, sym, subst}
+use Rattle.std.proofs.Common.{◌≡◌, ◌≢◌, ◌<◌, ℕ, suc, List, [], ◌∷◌, Bool, true, false, cond, map, Option, Some, None, sym, ap, subst, arith}
 use Rattle.std.specs.List.{AllByRecursion}
 use Rattle.std.specs.Ordering.{is_lt}
 use Rattle.td_base.specs.Value.{DotValue}
@@ -47,3 +47,8 @@ fresh_below (Some slot) d e run rows other fresh = all_put_rows (λ (r : DocRow)
 
 pub fresh_after : (slot : Slot) (d e : DotValue) (run : List (List ℕ)) (rows : List DocRow) → e ≢ d → IsFresh rows e → IsFresh (insert_run slot d run rows) e
 fresh_after slot d e run rows other fresh = fresh_below (slot_path rows slot) d e run rows other fresh
+
+-- the dots of one site's inserts differ
+pub later : (d e : DotValue) (m n : ℕ) → d ≡ record { site = 1; seq = m } → e ≡ record { site = 1; seq = n } → m < n → e ≢ d
+later d e m n is_d is_e less same =
+    omega (arith, less, ap (λ (x : DotValue). x.seq) same, ap (λ (x : DotValue). x.seq) is_d, ap (λ (x : DotValue). x.seq) is_e)

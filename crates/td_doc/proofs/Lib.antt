@@ -5,7 +5,6 @@ pub mod ArrayRows
 pub mod Placement
 pub mod Rules
 pub mod Typing
-pub mod Shown
 pub mod Deletes
 pub mod ArrayPlaces
 pub mod RunAtoms
@@ -20,3 +19,6 @@ pub mod ApartSlots
 pub mod Deleted
 pub mod ArrayBits
 pub mod AddedRows
+pub mod Texts
+pub mod Together
+pub mod LiveIndex

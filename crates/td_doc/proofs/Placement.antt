@@ -1,7 +1,7 @@
 -- What is put in the allocated slot stands right after the row that it was placed after, or first.
 use Rattle.std.proofs.Common.{◌≡◌, ◌≢◌, ◌⊎◌, ℕ, List, [], ◌∷◌, ◌++◌, Bool, true, false, cond, filter, Option, Some, None, refl, sym, ap, ◌∙◌, subst, inl, inr, ⊎_elim, true≢false, append_assoc, length}
-use Rattle.std.specs.Prelude.{IsSome, MatchOption}
-use Rattle.std.specs.Option.{option_map}
+use Rattle.std.specs.Prelude.{IsSome}
+use Rattle.std.specs.Option.{ForSome, option_map}
 use Rattle.std.specs.declared.cmp.Ordering.TheVariants.{Less}
 use Rattle.std.proofs.lemmas.Bool.{cases_Bool}
 use Rattle.td_base.specs.declared.bit.Bit.{Bit}
@@ -22,6 +22,7 @@ use Rattle.td_doc.specs.Allocation.{first_id, next_id, slot_before, alloc}
 use Rattle.td_doc.specs.Array.{row_in, array}
 use Rattle.td_base.specs.RunAtoms.{NamedAtom, run_atoms}
 use Rattle.td_doc.specs.Insertion.{put_rows, put_below, put_array_below, insert_atom, insert_run, IsNew, ComesBetween}
+use Rattle.td_doc.specs.Answers.{IsRow}
 use Rattle.td_doc.specs.Stretches.{RunBetween}
 use Rattle.td_doc.proofs.PathEnds.{last_id-append}
 use Rattle.td_doc.proofs.PutRows.{Before, Differ, not_before_itself, not_both_before, three_ways, put_between, put_before}
@@ -345,13 +346,13 @@ alloc_empty_at rows x d p =
     ap (λ (y : AtomIdValue). is_empty_slot rows (alloc rows (Some y))) (sym p.named)
     ∙ subst (λ (q : List DocRow). IsDocument q → is_empty_slot q (alloc q (Some (row_id p.row))) ≡ true) (sym p.is) (λ e. alloc_empty_after p.front p.row p.back e) d
 
-pub alloc_empty : (rows : List DocRow) (after : Option AtomIdValue) → IsDocument rows → MatchOption after (Unit {0}) (λ (x : AtomIdValue). IsSome (find_row x rows)) → is_empty_slot rows (alloc rows after) ≡ true
+pub alloc_empty : (rows : List DocRow) (after : Option AtomIdValue) → IsDocument rows → ForSome after (IsRow rows) → is_empty_slot rows (alloc rows after) ≡ true
 alloc_empty rows None d h = alloc_empty_first rows d.ascending
-alloc_empty rows (Some x) d h = alloc_empty_at rows x d (placed x rows h)
+alloc_empty rows (Some x) d h = alloc_empty_at rows x d (placed x rows (h x refl))
 
 -- of a run, and of an atom
 
-run_between : (atoms : List NamedAtom) (front back rows : List DocRow) → ArrayBetween atoms front back rows → RunBetween atoms front back rows
+pub run_between : (atoms : List NamedAtom) (front back rows : List DocRow) → ArrayBetween atoms front back rows → RunBetween atoms front back rows
 run_between atoms front back rows a = record { new = array a.slot atoms; atoms = array_names a.slot atoms; live = array_live a.slot atoms; is = a.is }
 
 pub new_in : (slot : SlotPath) (a : NamedAtom) → IsNew a.id a.atom (row_in slot a)

@@ -1,7 +1,7 @@
 -- What an insertion leaves is a document.
 use Rattle.std.proofs.Common.{◌≡◌, ◌≢◌, ◌⊎◌, ◌≤◌, ℕ, suc, List, [], ◌∷◌, ◌++◌, Bool, true, false, cond, Option, Some, None, refl, sym, ap, ◌∙◌, subst, inl, inr, ⊎_elim, true≢false, arith, length}
-use Rattle.std.specs.Prelude.{is_some, IsNone, IsSome, MatchOption}
-use Rattle.std.specs.Option.{option_map}
+use Rattle.std.specs.Prelude.{is_some, IsNone, IsSome, IsTrue}
+use Rattle.std.specs.Option.{ForSome, option_map}
 use Rattle.td_base.specs.declared.bit.Bit.{Bit}
 use Rattle.td_base.specs.declared.bit.Bit.TheVariants.{Right}
 use Rattle.std.proofs.lemmas.List.{append-nil}
@@ -21,7 +21,7 @@ use Rattle.td_doc.specs.Allocation.{first_id, next_id, slot_before, alloc}
 use Rattle.td_doc.specs.Array.{named, array}
 use Rattle.td_base.specs.RunAtoms.{NamedAtom, run_atoms_from, run_atoms}
 use Rattle.td_doc.specs.Insertion.{put_rows, put_array_below, insert_atom, insert_run}
-use Rattle.td_doc.specs.Answers.{IsRow, IsRooted, IsFresh}
+use Rattle.td_doc.specs.Answers.{IsRow, IsFresh, is_rooted}
 use Rattle.td_doc.proofs.PutRows.{Before, Differ, IsOther, in_puts, puts_in, ascending_puts, apart_puts}
 use Rattle.td_doc.proofs.ArrayRows.{IsSlotPath, IsAbove, array_ascends, array_names, array_bare, array_paths, array_fronts}
 use Rattle.td_doc.proofs.Placement.{self_id, has_id-true, has_id-false, put_array, atom_is_array}
@@ -117,7 +117,7 @@ array_document slot atoms rows d h apart new =
     atom_of : (n : DocRow) → In n (array slot atoms) → In (named n) atoms
     atom_of n i = subst (In (named n)) (array_names slot atoms) (In-map named n (array slot atoms) i)
 
-abbrev IsNewIn : List NamedAtom → List DocRow → Type 0
+abbrev pub IsNewIn : List NamedAtom → List DocRow → Type 0
 IsNewIn atoms rows = (a : NamedAtom) → In a atoms → (x : DocRow) → In x rows → a.id ≢ row_id x
 
 put_at : (rows : List DocRow) (x : AtomIdValue) (bit : Bit) (atoms : List NamedAtom) → IsDocument rows → Successive (λ (a b : NamedAtom). a.id ≢ b.id) atoms → IsNewIn atoms rows → (o : Option DocRow) → find_row x rows ≡ o → IsSome o
@@ -125,12 +125,12 @@ put_at : (rows : List DocRow) (x : AtomIdValue) (bit : Bit) (atoms : List NamedA
 put_at rows x bit atoms d apart new None e some = absurd (true≢false (sym some))
 put_at rows x bit atoms d apart new (Some r) e some = array_document (Below r.path bit) atoms rows d (hangs_below rows d r bit (found x r rows e).0) apart new
 
-put_keeps : (rows : List DocRow) (slot : Slot) (atoms : List NamedAtom) → IsDocument rows → Successive (λ (a b : NamedAtom). a.id ≢ b.id) atoms → IsNewIn atoms rows → IsRooted rows slot → IsDocument (put_array slot atoms rows)
+put_keeps : (rows : List DocRow) (slot : Slot) (atoms : List NamedAtom) → IsDocument rows → Successive (λ (a b : NamedAtom). a.id ≢ b.id) atoms → IsNewIn atoms rows → IsTrue (is_rooted rows slot) → IsDocument (put_array slot atoms rows)
 put_keeps rows Root atoms d apart new rooted = array_document Whole atoms rows d (hangs_whole rows) apart new
 put_keeps rows (At x bit) atoms d apart new rooted = put_at rows x bit atoms d apart new (find_row x rows) refl rooted
 
 -- an atom put in a slot whose atom is a row leaves a document
-pub insert_keeps : (rows : List DocRow) (slot : Slot) (id : AtomIdValue) (atom : List ℕ) → IsDocument rows → IsNone (find_row id rows) → IsRooted rows slot → IsDocument (insert_atom slot id atom rows)
+pub insert_keeps : (rows : List DocRow) (slot : Slot) (id : AtomIdValue) (atom : List ℕ) → IsDocument rows → IsNone (find_row id rows) → IsTrue (is_rooted rows slot) → IsDocument (insert_atom slot id atom rows)
 insert_keeps rows slot id atom d new rooted =
     subst IsDocument (sym (atom_is_array slot id atom rows))
     (put_keeps rows slot (record { id = id; atom = atom } ∷ []) d (tt, tt)
@@ -152,11 +152,15 @@ run_apart dot offset (atom ∷ run) = (
   run_apart dot (suc offset) run,
 )
 
+-- those of a new run are of no row
+pub run_is_new : (rows : List DocRow) (dot : DotValue) (run : List (List ℕ)) → IsFresh rows dot → IsNewIn (run_atoms dot run) rows
+run_is_new rows dot run new a i x j e =
+    all_in (λ (r : DocRow). (row_id r).dot ≢ dot) rows new x j (sym (ap (λ (y : AtomIdValue). y.dot) e) ∙ (later_offset dot 0 run a i).0)
+
 -- a run put in a slot whose atom is a row leaves a document
-pub run_keeps : (rows : List DocRow) (slot : Slot) (dot : DotValue) (run : List (List ℕ)) → IsDocument rows → IsFresh rows dot → IsRooted rows slot → IsDocument (insert_run slot dot run rows)
+pub run_keeps : (rows : List DocRow) (slot : Slot) (dot : DotValue) (run : List (List ℕ)) → IsDocument rows → IsFresh rows dot → IsTrue (is_rooted rows slot) → IsDocument (insert_run slot dot run rows)
 run_keeps rows slot dot run d new rooted =
-    put_keeps rows slot (run_atoms dot run) d (run_apart dot 0 run)
-    (λ a i x j e. all_in (λ (r : DocRow). (row_id r).dot ≢ dot) rows new x j (sym (ap (λ (y : AtomIdValue). y.dot) e) ∙ (later_offset dot 0 run a i).0)) rooted
+    put_keeps rows slot (run_atoms dot run) d (run_apart dot 0 run) (run_is_new rows dot run new) rooted
 
 -- a row is found
 
@@ -179,25 +183,25 @@ unfound x (r ∷ rows) h = unfound_at x r rows (has_id-false x r (h r (inl refl)
 
 -- the allocated slot names a row, or none
 
-first_of_rooted : (rows all : List DocRow) → ((s : DocRow) → In s rows → In s all) → IsRooted all (slot_before (first_id rows))
-first_of_rooted [] all up = tt
+first_of_rooted : (rows all : List DocRow) → ((s : DocRow) → In s rows → In s all) → IsTrue (is_rooted all (slot_before (first_id rows)))
+first_of_rooted [] all up = refl
 first_of_rooted (r ∷ rows) all up = in_found r all (up r (inl refl))
 
-next_rooted_at : (p : AtomIdValue) (r : DocRow) (rows all : List DocRow) (b : Bool) → ((s : DocRow) → In s (r ∷ rows) → In s all) → (((s : DocRow) → In s rows → In s all) → IsRooted all (slot_before (next_id p rows))) → IsRooted all (slot_before (cond b (first_id rows) (next_id p rows)))
+next_rooted_at : (p : AtomIdValue) (r : DocRow) (rows all : List DocRow) (b : Bool) → ((s : DocRow) → In s (r ∷ rows) → In s all) → (((s : DocRow) → In s rows → In s all) → IsTrue (is_rooted all (slot_before (next_id p rows)))) → IsTrue (is_rooted all (slot_before (cond b (first_id rows) (next_id p rows))))
 next_rooted_at p r rows all true up ih = first_of_rooted rows all (λ s i. up s (inr i))
 next_rooted_at p r rows all false up ih = ih (λ s i. up s (inr i))
 
-next_rooted : (p : AtomIdValue) (rows all : List DocRow) → ((s : DocRow) → In s rows → In s all) → IsRooted all (slot_before (next_id p rows))
-next_rooted p [] all up = tt
+next_rooted : (p : AtomIdValue) (rows all : List DocRow) → ((s : DocRow) → In s rows → In s all) → IsTrue (is_rooted all (slot_before (next_id p rows)))
+next_rooted p [] all up = refl
 next_rooted p (r ∷ rows) all up = next_rooted_at p r rows all (has_id p r) up (next_rooted p rows all)
 
-alloc_rooted_at : (rows : List DocRow) (p : AtomIdValue) (b : Bool) → IsRow rows p → IsRooted rows (cond b (At p Right) (slot_before (next_id p rows)))
+alloc_rooted_at : (rows : List DocRow) (p : AtomIdValue) (b : Bool) → IsRow rows p → IsTrue (is_rooted rows (cond b (At p Right) (slot_before (next_id p rows))))
 alloc_rooted_at rows p true h = h
 alloc_rooted_at rows p false h = next_rooted p rows rows (λ s i. i)
 
-pub alloc_rooted : (rows : List DocRow) (after : Option AtomIdValue) → MatchOption after (Unit {0}) (IsRow rows) → IsRooted rows (alloc rows after)
+pub alloc_rooted : (rows : List DocRow) (after : Option AtomIdValue) → ForSome after (IsRow rows) → IsTrue (is_rooted rows (alloc rows after))
 alloc_rooted rows None h = first_of_rooted rows rows (λ s i. i)
-alloc_rooted rows (Some p) h = alloc_rooted_at rows p (is_empty_slot rows (At p Right)) h
+alloc_rooted rows (Some p) h = alloc_rooted_at rows p (is_empty_slot rows (At p Right)) (h p refl)
 
 -- whose rows they are afterwards
 

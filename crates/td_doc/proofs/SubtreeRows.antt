@@ -38,7 +38,7 @@ no_path_between : (c : Pair) (p r : Pairs) → path_cmp (c ∷ p) [] ≡ Less �
 no_path_between (Left, x) p r h k = cc
 no_path_between (Right, x) p r h k = cc
 
-begins_between : (node p q r : Pairs) → begins node p ≡ true → begins node r ≡ true → path_cmp p q ≡ Less → path_cmp q r ≡ Less → begins node q ≡ true
+pub begins_between : (node p q r : Pairs) → begins node p ≡ true → begins node r ≡ true → path_cmp p q ≡ Less → path_cmp q r ≡ Less → begins node q ≡ true
 begins_between [] p q r a b h k = refl
 begins_between (c ∷ node) [] q r a b h k = absurd (true≢false (sym a))
 begins_between (c ∷ node) (x ∷ p) q [] a b h k = absurd (true≢false (sym b))
@@ -211,7 +211,7 @@ under_kept rows slot b x d h out k =
 
 -- a row whose subtree has the slot is outside the slot
 
-begins_parts : (node p : Pairs) → begins node p ≡ true → (more : Pairs) × (p ≡ node ++ more)
+pub begins_parts : (node p : Pairs) → begins node p ≡ true → (more : Pairs) × (p ≡ node ++ more)
 begins_parts [] p h = (p, refl)
 begins_parts (c ∷ node) [] h = absurd (true≢false (sym h))
 begins_parts (c ∷ node) (x ∷ p) h =

@@ -1,7 +1,7 @@
 -- What is typed at an index stands at that index.
 use Rattle.std.proofs.Common.{◌≡◌, ◌<◌, ◌≤◌, ◌-◌, ℕ, zero, suc, List, [], ◌∷◌, ◌++◌, Bool, true, false, cond, map, take, drop, length, nat_eq, Option, Some, None, refl, sym, ap, ◌∙◌, subst, inl, arith, append_assoc, length-append}
-use Rattle.std.specs.Prelude.{insert, slice_get, MatchOption}
-use Rattle.std.specs.Option.{option_map}
+use Rattle.std.specs.Prelude.{insert, slice_get}
+use Rattle.std.specs.Option.{ForSome, option_map}
 use Rattle.std.proofs.Math.Seq.{get_or-append_seam}
 use Rattle.std.proofs.lemmas.Bool.Decides.{nat_tests}
 use Rattle.std.proofs.lemmas.Option.{slice_get-get_or}
@@ -20,7 +20,7 @@ use Rattle.td_doc.specs.Answers.{IsRow}
 use Rattle.td_doc.proofs.Rules.{in_found}
 use Rattle.td_doc.proofs.Placement.{placed_after, placed_first, run_after, run_first}
 
-live_atoms-append : (xs ys : List DocRow) → live_atoms (xs ++ ys) ≡ live_atoms xs ++ live_atoms ys
+pub live_atoms-append : (xs ys : List DocRow) → live_atoms (xs ++ ys) ≡ live_atoms xs ++ live_atoms ys
 live_atoms-append xs ys = ap (map (λ (r : DocRow). r.atom)) (filter-append is_live xs ys) ∙ map-append (λ (r : DocRow). r.atom) (live_rows xs) (live_rows ys)
 
 live_atoms-live : (r : DocRow) (rows : List DocRow) → is_live r ≡ true → live_atoms (r ∷ rows) ≡ r.atom ∷ live_atoms rows
@@ -86,7 +86,7 @@ live_row rows i s =
     ap live_rows s.is ∙ filter-append is_live s.front (s.row ∷ s.back) ∙ ap (λ b. live_rows s.front ++ cond b (s.row ∷ live_rows s.back) (live_rows s.back)) s.live in
     ap (λ (q : List DocRow). slice_get q i) split ∙ get_at (live_rows s.front) s.row (live_rows s.back) i s.before
 
-live_id : (rows : List DocRow) (i : ℕ) (s : LiveAt rows i) → live_id_at rows i ≡ Some (row_id s.row)
+pub live_id : (rows : List DocRow) (i : ℕ) (s : LiveAt rows i) → live_id_at rows i ≡ Some (row_id s.row)
 live_id rows i s = ap (option_map row_id) (live_row rows i s)
 
 length-map : (rows : List DocRow) → length (map (λ (r : DocRow). r.atom) rows) ≡ length rows
@@ -126,20 +126,26 @@ typed rows (suc i) id atom d h =
     let s = live_split rows i (omega arith) in
     ap (λ (after : Option AtomIdValue). live_atoms (insert_atom (alloc rows after) id atom rows)) (anchor_further rows i ∙ live_id rows i s) ∙ typed_after rows i id atom d s
 
+none_is_some : (x : AtomIdValue) → None ≡ Some x → ⊥
+none_is_some x e = cc
+
+pub same_some : (x y : AtomIdValue) → Some x ≡ Some y → x ≡ y
+same_some x y e = cc
+
 -- what is before an index is a row, or the start
-pub anchor_row : (rows : List DocRow) (index : ℕ) → index ≤ length (live_rows rows) → MatchOption (anchor rows index) (Unit {0}) (IsRow rows)
-anchor_row rows zero h = tt
+pub anchor_row : (rows : List DocRow) (index : ℕ) → index ≤ length (live_rows rows) → ForSome (anchor rows index) (IsRow rows)
+anchor_row rows zero h = λ x e. absurd (none_is_some x e)
 anchor_row rows (suc i) h =
     let s = live_split rows i (omega arith) in
-    subst (λ (after : Option AtomIdValue). MatchOption after (Unit {0}) (IsRow rows)) (sym (anchor_further rows i ∙ live_id rows i s))
-    (in_found s.row rows (subst (In s.row) (sym s.is) (In-back s.row s.front (s.row ∷ s.back) (inl refl))))
+    let there = in_found s.row rows (subst (In s.row) (sym s.is) (In-back s.row s.front (s.row ∷ s.back) (inl refl))) in
+    λ x e. subst (IsRow rows) (same_some (row_id s.row) x (sym (anchor_further rows i ∙ live_id rows i s) ∙ e)) there
 
 pub count_of_atoms : (rows : List DocRow) → length (live_atoms rows) ≡ length (live_rows rows)
 count_of_atoms rows = length-map (live_rows rows)
 
 -- a run
 
-atoms_named : (rows : List DocRow) → map (λ (a : NamedAtom). a.atom) (map named rows) ≡ map (λ (r : DocRow). r.atom) rows
+pub atoms_named : (rows : List DocRow) → map (λ (a : NamedAtom). a.atom) (map named rows) ≡ map (λ (r : DocRow). r.atom) rows
 atoms_named [] = refl
 atoms_named (r ∷ rows) = ap (λ (q : List (List ℕ)). r.atom ∷ q) (atoms_named rows)
 
@@ -148,12 +154,12 @@ run_shown dot offset [] = refl
 run_shown dot offset (atom ∷ run) = ap (λ (q : List (List ℕ)). atom ∷ q) (run_shown dot (suc offset) run)
 
 -- the atoms of a run between those of the front and those of the back
-run_typed_between : (dot : DotValue) (run : List (List ℕ)) (front back after : List DocRow) → RunBetween (run_atoms dot run) front back after → live_atoms after ≡ live_atoms front ++ run ++ live_atoms back
+pub run_typed_between : (dot : DotValue) (run : List (List ℕ)) (front back after : List DocRow) → RunBetween (run_atoms dot run) front back after → live_atoms after ≡ live_atoms front ++ run ++ live_atoms back
 run_typed_between dot run front back after h =
     let shown : live_atoms h.new ≡ run = ap (map (λ (r : DocRow). r.atom)) h.live ∙ sym (atoms_named h.new) ∙ ap (map (λ (a : NamedAtom). a.atom)) h.atoms ∙ run_shown dot 0 run in
     ap live_atoms h.is ∙ live_atoms-append (front ++ h.new) back ∙ ap (λ (q : List (List ℕ)). q ++ live_atoms back) (live_atoms-append front h.new ∙ ap (λ (q : List (List ℕ)). live_atoms front ++ q) shown)
 
-run_at : (xs ys run : List (List ℕ)) (i : ℕ) → length xs ≡ i → xs ++ run ++ ys ≡ take i (xs ++ ys) ++ run ++ drop i (xs ++ ys)
+pub run_at : (xs ys run : List (List ℕ)) (i : ℕ) → length xs ≡ i → xs ++ run ++ ys ≡ take i (xs ++ ys) ++ run ++ drop i (xs ++ ys)
 run_at xs ys run i h = λ k. sym (take_at xs ys i h) k ++ run ++ sym (drop_at xs ys i h) k
 
 run_typed_split : (front : List DocRow) (r : DocRow) (back : List DocRow) (i : ℕ) (dot : DotValue) (run : List (List ℕ)) → IsDocument (front ++ r ∷ back) → is_live r ≡ true → length (live_rows front) ≡ i
@@ -168,7 +174,7 @@ run_typed_split front r back i dot run d live count =
     ∙ run_at (live_atoms first) (live_atoms back) run (suc i) so_many
     ∙ ap (λ (atoms : List (List ℕ)). take (suc i) atoms ++ run ++ drop (suc i) atoms) (sym (live_atoms-append first back) ∙ ap live_atoms (append_assoc front (r ∷ []) back))
 
-run_typed_after : (rows : List DocRow) (i : ℕ) (dot : DotValue) (run : List (List ℕ)) → IsDocument rows → (s : LiveAt rows i) → live_atoms (insert_run (alloc rows (Some (row_id s.row))) dot run rows) ≡ take (suc i) (live_atoms rows) ++ run ++ drop (suc i) (live_atoms rows)
+pub run_typed_after : (rows : List DocRow) (i : ℕ) (dot : DotValue) (run : List (List ℕ)) → IsDocument rows → (s : LiveAt rows i) → live_atoms (insert_run (alloc rows (Some (row_id s.row))) dot run rows) ≡ take (suc i) (live_atoms rows) ++ run ++ drop (suc i) (live_atoms rows)
 run_typed_after rows i dot run d s =
     subst (λ (q : List DocRow). IsDocument q → live_atoms (insert_run (alloc q (Some (row_id s.row))) dot run q) ≡ take (suc i) (live_atoms q) ++ run ++ drop (suc i) (live_atoms q)) (sym s.is)
     (λ e. run_typed_split s.front s.row s.back i dot run e s.live s.before) d

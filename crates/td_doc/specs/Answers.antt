@@ -1,6 +1,6 @@
 -- What the calls of a document answer.
-use Rattle.std.specs.Prelude.{◌≡◌, ◌≢◌, ℕ, List, [], ◌∷◌, ◌+◌, cond, length, Option, IsNone, IsSome}
-use Rattle.std.specs.Option.{option_map}
+use Rattle.std.specs.Prelude.{◌≡◌, ◌≢◌, ℕ, List, [], ◌∷◌, ◌+◌, Bool, true, false, if◌then◌else◌, length, Option, Some, None, IsNone, IsTrue}
+use Rattle.std.specs.Option.{option_map, is_some}
 use Rattle.std.specs.List.{AllByRecursion}
 use Rattle.td_base.specs.Value.{DotValue, AtomIdValue}
 use Rattle.td_path.specs.declared.slot.Slot.{Slot}
@@ -11,14 +11,25 @@ use Rattle.td_doc.specs.declared.doc.DocFault.TheVariants.{Gone, Memory}
 use Rattle.td_doc.specs.Document.{DocRow, row_id, has_id, is_live, find_row}
 use Rattle.td_doc.specs.Slots.{own_slot}
 
--- the atom is a row
-abbrev pub IsRow : List DocRow → AtomIdValue → Type 0
-IsRow rows x = IsSome (find_row x rows)
+-- whether the atom is a row
+abbrev pub is_row : List DocRow → AtomIdValue → Bool
+is_row rows x = is_some (find_row x rows)
 
--- the atom that the slot names, where it names one, is a row
-abbrev pub IsRooted : List DocRow → Slot → Type 0
-IsRooted rows Root = Unit {0}
-IsRooted rows (At x bit) = IsRow rows x
+abbrev pub IsRow : List DocRow → AtomIdValue → Type 0
+IsRow rows x = IsTrue (is_row rows x)
+
+abbrev pub is_live_found : Option DocRow → Bool
+is_live_found None = false
+is_live_found (Some r) = is_live r
+
+-- whether the atom is a live row
+abbrev pub is_live_id : List DocRow → AtomIdValue → Bool
+is_live_id rows x = is_live_found (find_row x rows)
+
+-- whether the slot is the root, or its atom is a row
+abbrev pub is_rooted : List DocRow → Slot → Bool
+is_rooted rows Root = true
+is_rooted rows (At x bit) = is_row rows x
 
 -- the slot names the atom
 abbrev pub Names : Slot → AtomIdValue → Type 0
@@ -42,7 +53,7 @@ IsAtomFault rows x Memory = Unit {0}
 -- how many live rows stand before the row x
 abbrev pub live_before : AtomIdValue → List DocRow → ℕ
 live_before x [] = 0
-live_before x (r ∷ rows) = cond (has_id x r) 0 (cond (is_live r) 1 0 + live_before x rows)
+live_before x (r ∷ rows) = if has_id x r then 0 else (if is_live r then 1 else 0) + live_before x rows
 
 -- what is told of the row x
 abbrev pub row_told : List DocRow → AtomIdValue → Option Row

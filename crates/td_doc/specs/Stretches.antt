@@ -29,6 +29,13 @@ pub record RunBetween (run : List NamedAtom) (front back rows : List DocRow) : T
   pub live : live_rows new ≡ new
   pub is : rows ≡ front ++ new ++ back
 
+-- afterwards live rows of these atoms stand next to each other somewhere in the rows, which are else as they were
+pub record IsPutTogether (run : List NamedAtom) (rows after : List DocRow) : Type 0 where
+  pub front : List DocRow
+  pub back : List DocRow
+  pub was : rows ≡ front ++ back
+  pub is : RunBetween run front back after
+
 -- the slot contains the row
 abbrev pub is_in : Option SlotPath → DocRow → Bool
 is_in None r = false

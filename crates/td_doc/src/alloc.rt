@@ -1,4 +1,5 @@
-ghost use Rattle.std.specs.Prelude.{◌≡◌, MatchOption};
+ghost use Rattle.std.specs.Prelude.{◌≡◌};
+ghost use Rattle.std.specs.Option.{ForSome};
 ghost use Rattle.td_base.specs.declared.bit.Bit.TheVariants.{Right};
 ghost use Rattle.td_path.specs.declared.slot.Slot.TheVariants.{At};
 ghost use Rattle.td_doc.specs.Allocation.{alloc};
@@ -11,7 +12,7 @@ use td_path::Slot;
 /// The slot for what is placed after a live row, or at the start. What is put there stands right after that row, or first.
 /// Takes no memory.
 pub fn alloc_slot<D: Doc>(doc: &D, after: Option<AtomId>) -> Slot
-    requires { MatchOption after (Unit {0}) (IsRow (D.rows doc.now)) }
+    requires { ForSome after (IsRow (D.rows doc.now)) }
     ensures { result ≡ alloc (D.rows doc.now) after }
 {
     match after {

@@ -1,14 +1,16 @@
-ghost use Rattle.std.specs.Prelude.{◌≡◌, ◌↔◌, List, [], length, IfOk, IfErr, OnOk, OnErr, IsNone, MatchOption};
-ghost use Rattle.td_doc.specs.Document.{DocRow, find_row, live_id_at, live_rows};
+ghost use Rattle.std.specs.Prelude.{◌≡◌, ◌++◌, List, [], length, IfOk, IfErr, IsTrue, OnOk, OnErr, IsNone};
+ghost use Rattle.std.specs.Option.{ForSome};
+ghost use Rattle.td_doc.specs.Document.{DocRow, find_row, live_id_at, live_rows, text_of};
 ghost use Rattle.td_doc.specs.Slots.{is_empty_slot, is_within, overlaps, is_known};
 ghost use Rattle.td_doc.specs.Allocation.{id_after};
 ghost use Rattle.td_doc.specs.Insertion.{insert_atom, insert_run};
 ghost use Rattle.td_doc.specs.Deletion.{delete, delete_at};
 ghost use Rattle.td_doc.specs.Flatten.{flatten};
-ghost use Rattle.td_doc.specs.Answers.{IsRow, IsRooted, IsFresh, IsSlotFault, IsAtomFault, row_told};
+ghost use Rattle.td_doc.specs.Answers.{IsRow, IsFresh, IsSlotFault, IsAtomFault, is_row, is_live_id, is_rooted, row_told};
 
+use crate::containment::contains_slot;
 use std::alloc::Global;
-use td_base::{Atom, AtomId, Dot, Memory, Run};
+use td_base::{Atom, AtomId, Bytes, Dot, Memory, Run};
 use td_clock::Vector;
 use td_path::Slot;
 
@@ -46,7 +48,7 @@ pub struct Row {
 }
 
 /// A Treedoc document, seen as the list of its rows (Preguiça et al. 2009).
-pub trait Doc: Sized {
+pub trait Doc: Sized + Drop {
     /// The rows in infix order.
     ghost rows: { Self → List DocRow };
 
@@ -57,7 +59,7 @@ pub trait Doc: Sized {
     /// Puts an atom in a slot.
     fn insert(&mut self, slot: Slot, id: AtomId, atom: Atom) -> Result<(), DocFault>
         requires { IsNone (find_row id (rows self.old)) }
-        ensures ok { OnOk result (IsRooted (rows self.old) slot × (rows self.new ≡ insert_atom slot id atom (rows self.old))) }
+        ensures ok { OnOk result (IsTrue (is_rooted (rows self.old) slot) × (rows self.new ≡ insert_atom slot id atom (rows self.old))) }
         ensures fault { IfErr result (IsSlotFault (rows self.old) slot) }
         ensures err { OnErr result (rows self.new ≡ rows self.old) };
 
@@ -65,7 +67,7 @@ pub trait Doc: Sized {
     /// identities.
     fn insert_run(&mut self, slot: Slot, dot: Dot, run: Run) -> Result<(), DocFault>
         requires { IsFresh (rows self.old) dot }
-        ensures ok { OnOk result (IsRooted (rows self.old) slot × (rows self.new ≡ insert_run slot dot run (rows self.old))) }
+        ensures ok { OnOk result (IsTrue (is_rooted (rows self.old) slot) × (rows self.new ≡ insert_run slot dot run (rows self.old))) }
         ensures fault { IfErr result (IsSlotFault (rows self.old) slot) }
         ensures err { OnErr result (rows self.new ≡ rows self.old) };
 
@@ -77,11 +79,11 @@ pub trait Doc: Sized {
 
     /// Makes an array of the live rows of a slot, and drops its tombstones.
     fn flatten(&mut self, slot: Slot) -> Result<(), DocFault>
-        ensures ok { OnOk result (IsRooted (rows self.old) slot × (rows self.new ≡ flatten slot (rows self.old))) }
+        ensures ok { OnOk result (IsTrue (is_rooted (rows self.old) slot) × (rows self.new ≡ flatten slot (rows self.old))) }
         ensures fault { IfErr result (IsSlotFault (rows self.old) slot) }
         ensures err { OnErr result (rows self.new ≡ rows self.old) };
 
-    /// The number of rows, tombstones included. Takes no memory, like all calls below.
+    /// The number of rows, tombstones included. Takes no memory, like all calls below but `push_text`.
     fn rows(&self) -> u32
         ensures { result ≡ length (rows self.now) };
 
@@ -99,7 +101,7 @@ pub trait Doc: Sized {
 
     /// The row that follows a row, or the first row.
     fn after(&self, id: Option<AtomId>) -> Option<AtomId>
-        requires { MatchOption id (Unit {0}) (IsRow (rows self.now)) }
+        requires { ForSome id (IsRow (rows self.now)) }
         ensures { result ≡ id_after (rows self.now) id };
 
     /// The k-th dot, from 0 and in the order of dots, of the deletes that named a row; none where the atom is no row.
@@ -115,13 +117,38 @@ pub trait Doc: Sized {
         ensures { result ≡ is_within (rows self.now) id slot };
 
     /// Whether one of the two slots contains the other.
-    fn overlaps(&self, a: Slot, b: Slot) -> bool
-        requires first { IsRooted (rows self.now) a }
-        requires second { IsRooted (rows self.now) b }
-        ensures { result ≡ overlaps (rows self.now) a b };
+    final fn overlaps(&self, a: Slot, b: Slot) -> bool
+        requires first { IsTrue (is_rooted (rows self.now) a) }
+        requires second { IsTrue (is_rooted (rows self.now) b) }
+        ensures { result ≡ overlaps (rows self.now) a b }
+    {
+        contains_slot(self, &a, &b) || contains_slot(self, &b, &a)
+    }
 
     /// Whether the vector has all that was done to the rows in the slot: the dots of their identities and of the deletes that
     /// named them.
     fn known(&self, slot: Slot, v: &Vector) -> bool
         ensures { result ≡ is_known (rows self.now) slot v.now };
+
+    /// Adds the text at the end, in one pass over the rows. Alone of the calls that change nothing it takes memory.
+    fn push_text(&self, text: &mut Bytes) -> Result<(), Memory>
+        ensures ok { OnOk result (text.new ≡ text.old ++ text_of (rows self.now)) }
+        ensures err { OnErr result (text.new ≡ text.old) };
+
+    /// Whether the atom is a row, live or a tombstone.
+    final fn is_row(&self, id: AtomId) -> bool
+        ensures { result ≡ is_row (rows self.now) id }
+    {
+        self.find(id).is_some()
+    }
+
+    /// Whether the atom is a live row.
+    final fn is_live(&self, id: AtomId) -> bool
+        ensures { result ≡ is_live_id (rows self.now) id }
+    {
+        match self.find(id) {
+            Some(row) => row.deletes == 0,
+            None => false,
+        }
+    }
 }

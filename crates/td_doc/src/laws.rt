@@ -4,6 +4,7 @@ mod array;
 mod deletion;
 mod flatten;
 mod insertion;
+mod live;
 mod slots;
 
 pub use array::an_array_has_its_atoms_in_their_order;
@@ -14,7 +15,11 @@ pub use flatten::{
 };
 pub use insertion::{
     a_run_keeps_the_rules, a_run_stands_at_its_index, a_run_stands_together,
-    insertion_keeps_the_rules, the_allocated_slot_is_empty, what_is_placed_stands_there,
-    what_is_typed_stands_at_its_index,
+    a_run_stands_together_in_any_slot, insertion_keeps_the_rules, the_allocated_slot_is_empty,
+    what_is_placed_stands_there, what_is_typed_stands_at_its_index,
+};
+pub use live::{
+    a_delete_cuts_one_atom_shown, a_flatten_changes_no_atom_shown,
+    a_live_row_is_found_at_its_index, a_run_is_put_among_the_atoms_shown,
 };
 pub use slots::{rows_of_a_slot_stand_together, slots_apart_share_no_row};

@@ -8,6 +8,7 @@
 
 mod alloc;
 mod array;
+mod containment;
 mod doc;
 mod dots;
 mod flatten;
@@ -20,17 +21,19 @@ mod slots;
 mod text;
 
 pub use alloc::alloc_slot;
+pub use containment::contains;
 pub use doc::{Doc, DocFault, Row};
 pub use laws::{
-    a_delete_keeps_the_rules, a_delete_marks_one_row, a_run_keeps_the_rules,
-    a_run_stands_at_its_index, a_run_stands_together, an_array_has_its_atoms_in_their_order,
-    flatten_keeps_order_and_subtrees, flatten_keeps_the_rules, flatten_keeps_the_text,
-    flatten_puts_an_array_in_place, insertion_keeps_the_rules, rows_of_a_slot_stand_together,
-    slots_apart_share_no_row, the_allocated_slot_is_empty, what_is_placed_stands_there,
-    what_is_typed_stands_at_its_index,
+    a_delete_cuts_one_atom_shown, a_delete_keeps_the_rules, a_delete_marks_one_row,
+    a_flatten_changes_no_atom_shown, a_live_row_is_found_at_its_index,
+    a_run_is_put_among_the_atoms_shown, a_run_keeps_the_rules, a_run_stands_at_its_index,
+    a_run_stands_together, a_run_stands_together_in_any_slot,
+    an_array_has_its_atoms_in_their_order, flatten_keeps_order_and_subtrees,
+    flatten_keeps_the_rules, flatten_keeps_the_text, flatten_puts_an_array_in_place,
+    insertion_keeps_the_rules, rows_of_a_slot_stand_together, slots_apart_share_no_row,
+    the_allocated_slot_is_empty, what_is_placed_stands_there, what_is_typed_stands_at_its_index,
 };
 pub use rows::Rows;
-pub use text::{atom_at, push_text};
 
 #[cfg(test)]
 mod tests;

@@ -1,7 +1,7 @@
-ghost use Rattle.std.specs.Prelude.{◌≡◌, IfErr, OnErr, OnOk};
+ghost use Rattle.std.specs.Prelude.{◌≡◌, IfErr, IsTrue, OnErr, OnOk};
 ghost use Rattle.td_doc.specs.Slots.{slot_path};
 ghost use Rattle.td_doc.specs.Insertion.{put_array_below};
-ghost use Rattle.td_doc.specs.Answers.{IsRooted, IsSlotFault};
+ghost use Rattle.td_doc.specs.Answers.{IsSlotFault, is_rooted};
 ghost use Rattle.td_doc.specs.RowParts.{AreNew};
 
 use crate::array::{array, run_atoms};
@@ -10,10 +10,11 @@ use crate::flatten::flatten_rows;
 use crate::insertion::{make_room, put_rows};
 use crate::path_row::PathRow;
 use crate::search::{count_live, find_row, live_at, live_before, next_id, place_of_id};
-use crate::slots::{is_known, is_within, slot_is_empty, slot_path, slots_overlap};
+use crate::slots::{is_known, is_within, slot_is_empty, slot_path};
+use crate::text::push_text;
 use std::alloc::Global;
 use std::marker::Model;
-use td_base::{Atom, AtomId, Dot, Memory, NamedAtom, Run};
+use td_base::{Atom, AtomId, Bytes, Dot, Memory, NamedAtom, Run};
 use td_clock::Vector;
 use td_path::Slot;
 
@@ -114,12 +115,12 @@ impl Doc for Rows {
         is_within(&self.rows, id, &slot)
     }
 
-    fn overlaps(&self, a: Slot, b: Slot) -> bool {
-        slots_overlap(&self.rows, a, b)
-    }
-
     fn known(&self, slot: Slot, v: &Vector) -> bool {
         is_known(&self.rows, slot, v)
+    }
+
+    fn push_text(&self, text: &mut Bytes) -> Result<(), Memory> {
+        push_text(&self.rows, text)
     }
 }
 
@@ -127,7 +128,7 @@ impl Rows {
     // Puts the array of the atoms in the slot.
     fn put_array(&mut self, slot: Slot, atoms: &[NamedAtom]) -> Result<(), DocFault>
         requires { AreNew self.old atoms.now }
-        ensures ok { OnOk result (IsRooted self.old slot × (self.new ≡ put_array_below (slot_path self.old slot) atoms.now self.old)) }
+        ensures ok { OnOk result (IsTrue (is_rooted self.old slot) × (self.new ≡ put_array_below (slot_path self.old slot) atoms.now self.old)) }
         ensures fault { IfErr result (IsSlotFault self.old slot) }
         ensures err { OnErr result (self.new ≡ self.old) }
     {

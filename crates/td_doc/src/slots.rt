@@ -1,11 +1,10 @@
 // Slots, read in the rows of a document.
-ghost use Rattle.std.specs.Prelude.{◌≡◌, ◌||◌, ◌&&◌, not, IfErr, IfOk, OnOk, Some};
+ghost use Rattle.std.specs.Prelude.{◌≡◌, ◌||◌, ◌&&◌, not, IfErr, IfOk, IsTrue, OnOk, Some};
 ghost use Rattle.std.specs.List.{list_any, list_all};
 ghost use Rattle.td_path.specs.SlotPaths.{goes_on};
 ghost use Rattle.td_doc.specs.Document.{DocRow, has_id};
-ghost use Rattle.td_doc.specs.Slots.{contains_slot, is_empty_slot, is_known, is_known_row, is_within, overlaps, slot_path};
-ghost use Rattle.td_path.specs.Slot.{same_slot};
-ghost use Rattle.td_doc.specs.Answers.{IsRooted, IsSlotFault};
+ghost use Rattle.td_doc.specs.Slots.{is_empty_slot, is_known, is_known_row, is_within, slot_path};
+ghost use Rattle.td_doc.specs.Answers.{IsSlotFault, is_rooted};
 
 use crate::doc::DocFault;
 use crate::path_row::PathRow;
@@ -18,7 +17,7 @@ use td_path::{Path, Slot, SlotPath, goes_on};
 /// The slot by the path of its atom.
 pub fn slot_path(alloc: Global, rows: &[PathRow], slot: Slot) -> Result<SlotPath, DocFault>
     ensures ok { IfOk result (λ path. slot_path rows.now slot ≡ Some path) }
-    ensures rooted { OnOk result (IsRooted rows.now slot) }
+    ensures rooted { OnOk result (IsTrue (is_rooted rows.now slot)) }
     ensures fault { IfErr result (IsSlotFault rows.now slot) }
 {
     match slot {
@@ -79,24 +78,6 @@ fn has_id_below(rows: &[PathRow], path: &Path, bit: Bit, id: AtomId) -> bool
 {
     rows.iter()
         .any(|row| goes_on(path, bit, &row.path) && row.has_id(id))
-}
-
-/// Whether one of the two slots contains the other.
-pub fn slots_overlap(rows: &[PathRow], a: Slot, b: Slot) -> bool
-    ensures { result ≡ overlaps rows.now a b }
-{
-    contains_slot(rows, &a, &b) || contains_slot(rows, &b, &a)
-}
-
-// Whether the first slot contains the second.
-fn contains_slot(rows: &[PathRow], slot: &Slot, other: &Slot) -> bool
-    ensures { result ≡ contains_slot rows.now slot.now other.now }
-{
-    match (slot, other) {
-        (Slot::Root, _) => true,
-        (Slot::At { .. }, Slot::Root) => false,
-        (Slot::At { .. }, Slot::At { atom, .. }) => slot == other || is_within(rows, *atom, slot),
-    }
 }
 
 /// Whether the vector has all that was done to the rows in the slot.

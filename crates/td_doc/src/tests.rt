@@ -132,6 +132,85 @@ fn a_deleted_atom_stays_until_a_flatten(rt: HostRuntime) -> Result<(), Fail> {
     Ok(())
 }
 
+// A b at the root, an a on its left, which is deleted, and a c on its right.
+fn abc(rt: &impl Abort, alloc: Global) -> Result<Rows, Fail> {
+    let mut doc = Rows::empty(alloc)?;
+    let middle = id(1, 1)?;
+    put(rt, &mut doc, Slot::Root, middle, "b")?;
+    put(rt, &mut doc, at(middle, Bit::Left), id(1, 2)?, "a")?;
+    put(rt, &mut doc, at(middle, Bit::Right), id(1, 3)?, "c")?;
+    assert_eq!(rt; doc.delete(id(1, 2)?, dot(2, 1)?), Ok(()));
+    Ok(doc)
+}
+
+#[test]
+fn the_text_is_added_behind_what_was_there(rt: HostRuntime) -> Result<(), Fail> {
+    let mut text = Bytes::new(rt.alloc());
+    text.push(b"<")?;
+    assert_eq!(rt; Rows::empty(rt.alloc())?.push_text(&mut text), Ok(()));
+    assert_eq!(rt; abc(&rt, rt.alloc())?.push_text(&mut text), Ok(()));
+    assert_eq!(rt; text.as_slice(), b"<bc".as_slice());
+    Ok(())
+}
+
+#[test]
+fn a_tombstone_is_a_row_that_is_not_live(rt: HostRuntime) -> Result<(), Fail> {
+    let doc = abc(&rt, rt.alloc())?;
+    for (seq, is_row, is_live) in [
+        (1, true, true),
+        (2, true, false),
+        (3, true, true),
+        (4, false, false),
+    ] {
+        let atom = id(1, seq)?;
+        assert_eq!(rt;
+            (doc.is_row(atom), doc.is_live(atom)),
+            (is_row, is_live),
+            "at {seq}"
+        );
+    }
+    Ok(())
+}
+
+#[test]
+fn a_flatten_takes_each_slot(rt: HostRuntime) -> Result<(), Fail> {
+    let mut doc = abc(&rt, rt.alloc())?;
+    let middle = id(1, 1)?;
+    for (slot, rows) in [
+        (at(middle, Bit::Right), 3),
+        (at(middle, Bit::Left), 2),
+        (at(middle, Bit::Left), 2),
+        (Slot::Root, 2),
+        (at(middle, Bit::Right), 2),
+    ] {
+        assert_eq!(rt; doc.flatten(slot), Ok(()));
+        assert_eq!(rt; doc.rows(), rows);
+    }
+    assert_eq!(rt; Rows::empty(rt.alloc())?.flatten(Slot::Root), Ok(()));
+    Ok(())
+}
+
+#[test]
+fn a_slot_contains_itself_and_what_hangs_below(rt: HostRuntime) -> Result<(), Fail> {
+    let doc = abc(&rt, rt.alloc())?;
+    let left = at(id(1, 1)?, Bit::Left);
+    let right = at(id(1, 1)?, Bit::Right);
+    let below = at(id(1, 2)?, Bit::Right);
+    for (outer, inner, expected) in [
+        (Slot::Root, Slot::Root, true),
+        (Slot::Root, below, true),
+        (below, Slot::Root, false),
+        (left, left, true),
+        (left, below, true),
+        (below, left, false),
+        (left, right, false),
+        (right, below, false),
+    ] {
+        assert_eq!(rt; contains(&doc, outer, inner), expected);
+    }
+    Ok(())
+}
+
 #[test]
 fn a_slot_is_known_with_its_deletes(rt: HostRuntime) -> Result<(), Fail> {
     let mut doc = Rows::empty(rt.alloc())?;

@@ -1,30 +1,31 @@
-ghost use Rattle.std.specs.Prelude.{◌≡◌, ◌++◌, OnOk, slice_get};
-ghost use Rattle.td_doc.specs.Document.{IsDocument, live_atoms, text_of};
+// The text that rows show.
+ghost use Rattle.std.specs.Prelude.{◌≡◌, ◌++◌, OnErr, OnOk, length, take};
+ghost use Rattle.td_doc.specs.Document.{text_of};
 
-use crate::doc::Doc;
-use td_base::{Atom, Bytes, Memory};
+use crate::path_row::PathRow;
+use td_base::{Bytes, Memory};
 
-/// The atom that stands at an index among those that the document shows, from 0. Takes no memory.
-#[tactic(auto, using(crate::proofs::Shown::shown_atom))]
-pub fn atom_at<D: Doc>(doc: &D, index: u32) -> Option<Atom>
-    requires { IsDocument (D.rows doc.now) }
-    ensures { result ≡ slice_get (live_atoms (D.rows doc.now)) index }
+/// Adds the text of the rows at the end. What was added when memory ran out is taken off again.
+pub fn push_text(rows: &[PathRow], text: &mut Bytes) -> Result<(), Memory>
+    ensures ok { OnOk result (text.new ≡ text.old ++ text_of rows.now) }
+    ensures err { OnErr result (text.new ≡ text.old) }
 {
-    let id = doc.live_at(index)?;
-    match doc.find(id) {
-        Some(row) => Some(row.atom),
-        None => None,
+    let len = text.as_slice().len();
+    let pushed = push_atoms(rows, text);
+    if pushed.is_err() {
+        text.truncate(len);
     }
+    pushed
 }
 
-/// Adds the text of the document at the end. After want of memory a part of it may stand there.
-pub fn push_text<D: Doc>(doc: &D, out: &mut Bytes) -> Result<(), Memory>
-    requires { IsDocument (D.rows doc.now) }
-    ensures { OnOk result (out.new ≡ out.old ++ text_of (D.rows doc.now)) }
+// Adds the atoms of the live rows at the end, as many as there is memory for.
+fn push_atoms(rows: &[PathRow], text: &mut Bytes) -> Result<(), Memory>
+    ensures ok { OnOk result (text.new ≡ text.old ++ text_of rows.now) }
+    ensures front { take (length text.old) text.new ≡ text.old }
 {
-    for index in 0..doc.live() {
-        if let Some(atom) = atom_at(doc, index) {
-            out.push(atom.bytes())?;
+    for row in rows {
+        if row.is_live() {
+            text.push(row.atom.bytes())?;
         }
     }
     Ok(())

@@ -1,9 +1,9 @@
 -- What a request comes down to: with how much room, and with what in the document.
 use Rattle.std.proofs.Common.{◌≡◌, ◌<◌, ℕ, zero, suc, List, [], ◌∷◌, true, false, nat_lt, length, Option, Some, None, refl, subst, inl, inr, arith}
 use Rattle.std.proofs.lemmas.Bool.{ltb-false}
-use Rattle.std.specs.Prelude.{slice_get, MatchOption}
+use Rattle.std.specs.Prelude.{slice_get}
 use Rattle.std.specs.List.{find}
-use Rattle.std.specs.Option.{is_some, option_map}
+use Rattle.std.specs.Option.{ForSome, is_some, option_map}
 use Rattle.td_base.specs.Value.{DotValue, AtomIdValue}
 use Rattle.td_base.specs.declared.bit.Bit.{Bit}
 use Rattle.td_base.specs.Lists.{In}
@@ -16,7 +16,7 @@ use Rattle.td_op.specs.declared.request.Request.TheVariants.{Insert, InsertAfter
 use Rattle.td_op.specs.declared.reply.Reply.TheVariants.{Position, Gone, NotOpen}
 use Rattle.td_doc.specs.Document.{DocRow, is_live, row_id, live_rows, live_id_at, find_row}
 use Rattle.td_doc.specs.Allocation.{alloc, anchor}
-use Rattle.td_doc.specs.Answers.{IsRow, IsRooted}
+use Rattle.td_doc.specs.Answers.{IsRow, is_rooted as is_rooted_in}
 use Rattle.td_doc.proofs.Rules.{in_found, alloc_rooted}
 use Rattle.td_doc.proofs.Typing.{anchor_row}
 use Rattle.td_op.specs.Input.{IsRequest}
@@ -36,7 +36,7 @@ pub record IsProposal (held : Option DotValue) (room : ℕ) (slot : Slot) (m : M
 pub record IsAllocated (slot : Slot) (m : Machine) : Type 0 where
   pub anchor_of : Option AtomIdValue
   pub is : slot ≡ alloc m.doc anchor_of
-  pub row : MatchOption anchor_of (Unit {0}) (IsRow m.doc)
+  pub row : ForSome anchor_of (IsRow m.doc)
 
 pub record IsPlacing (held : Option DotValue) (room : ℕ) (slot : Slot) (run : List (List ℕ)) (m : Machine) : Type 0 where
   pub one : room ≡ 1
@@ -65,12 +65,12 @@ FitsAim m (Do held room (Commit p)) = ⊥
 FitsAim m (Do held room (Abort p)) = ⊥
 FitsAim m (GiveUp p) = IsOpenAt p m
 
-rooted_row : (rows : List DocRow) (s : Slot) → IsRooted rows s → is_rooted rows s ≡ true
+rooted_row : (rows : List DocRow) (s : Slot) → is_rooted_in rows s ≡ true → is_rooted rows s ≡ true
 rooted_row rows Root h = refl
 rooted_row rows (At x bit) h = h
 
 -- a run placed after a live row or at the start goes to a slot that is there
-placing : (run : List (List ℕ)) (o : Option AtomIdValue) (m : Machine) → 0 < length run → MatchOption o (Unit {0}) (IsRow m.doc) → FitsAim m (place run o m)
+placing : (run : List (List ℕ)) (o : Option AtomIdValue) (m : Machine) → 0 < length run → ForSome o (IsRow m.doc) → FitsAim m (place run o m)
 placing run o m full row = record { one = refl; holder = refl; rooted = rooted_row m.doc (alloc m.doc o) (alloc_rooted m.doc o row); full = full; allocated = record { anchor_of = o; is = refl; row = row } }
 
 placed_at : (run : List (List ℕ)) (index : ℕ) (m : Machine) → 0 < length run → FitsAim m (place_at run index m)
@@ -83,9 +83,15 @@ live_row None h = h
 live_row (Some r) h = refl
 
 placed_after : (run : List (List ℕ)) (o : Option AtomIdValue) (m : Machine) → 0 < length run → FitsAim m (place_after run o m)
-placed_after run None m full = placing run None m full tt
+placed_after run None m full = placing run None m full (λ x e. absurd (nothing x e))
+  where
+    nothing : (x : AtomIdValue) → None ≡ Some x → ⊥
+    nothing x e = cc
 placed_after run (Some x) m full =
-    either (FitsAim m) (is_live_id m.doc x) (place run (Some x) m) (Refuse (Gone x)) (λ (e : is_live_id m.doc x ≡ true). placing run (Some x) m full (live_row (find_row x m.doc) e)) (λ e. tt)
+    either (FitsAim m) (is_live_id m.doc x) (place run (Some x) m) (Refuse (Gone x)) (λ (e : is_live_id m.doc x ≡ true). placing run (Some x) m full (λ y k. subst (IsRow m.doc) (same y k) (live_row (find_row x m.doc) e))) (λ e. tt)
+  where
+    same : (y : AtomIdValue) → Some x ≡ Some y → x ≡ y
+    same y k = cc
 
 removed_at : (o : Option AtomIdValue) (m : Machine) → ((x : AtomIdValue) → o ≡ Some x → is_some (find_row x m.doc) ≡ true) → FitsAim m (at_live remove o m)
 removed_at None m h = tt

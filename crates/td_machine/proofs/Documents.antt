@@ -50,7 +50,7 @@ fresh_of [] dot h = tt
 fresh_of (r ∷ rows) dot h = (h r (inl refl), fresh_of rows dot (λ s i. h s (inr i)))
 
 insert_document : (slot : Slot) (dot : DotValue) (run : List (List ℕ)) (rows : List DocRow) → IsDocument rows → IsFresh rows dot → IsDocument (insert_run slot dot run rows)
-insert_document Root dot run rows d fresh = run_keeps rows Root dot run d fresh tt
+insert_document Root dot run rows d fresh = run_keeps rows Root dot run d fresh refl
 insert_document (AtSlot x bit) dot run rows d fresh = at (find_row x rows) refl
   where
     at : (o : Option DocRow) → find_row x rows ≡ o → IsDocument (insert_run (AtSlot x bit) dot run rows)

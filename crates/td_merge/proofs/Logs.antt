@@ -16,7 +16,7 @@ use Rattle.td_doc.specs.Document.{DocRow, row_id, find_row, IsDocument}
 use Rattle.td_doc.specs.Array.{array_upto}
 use Rattle.td_base.specs.RunAtoms.{NamedAtom, run_atoms}
 use Rattle.td_doc.specs.Insertion.{put_rows, put_array_below, insert_run}
-use Rattle.td_doc.specs.Answers.{IsRooted as IsRootedIn}
+use Rattle.td_doc.specs.Answers.{is_rooted}
 use Rattle.td_doc.proofs.Rules.{found, in_found, run_keeps}
 use Rattle.td_op.specs.declared.insertion.Insertion.{Insertion}
 use Rattle.td_base.specs.Equality.{same_dot}
@@ -143,8 +143,8 @@ module _ (all : List Insertion) (F : AllFollow all) where
       }
 
   -- the atom of a slot is a row
-  pub slot_row : (os : List Insertion) → HasRows os (rows_left os) → (s : Slot) → IsRooted os s → IsRootedIn (rows_left os) s
-  slot_row os b Root h = tt
+  pub slot_row : (os : List Insertion) → HasRows os (rows_left os) → (s : Slot) → IsRooted os s → is_rooted (rows_left os) s ≡ true
+  slot_row os b Root h = refl
   slot_row os b (At x s) h = let q = b.row x h in subst (λ z. IsSome (find_row z (rows_left os))) (sym q.2) (in_found q.0 (rows_left os) q.1)
 
   pub anchor : (a : Insertion) (os : List Insertion) → Comes a os → HasRows os (rows_left os) → Anchor a os

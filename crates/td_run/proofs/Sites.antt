@@ -1,5 +1,5 @@
 -- What the calls of the one site owe.
-use Rattle.std.proofs.Common.{◌≡◌, ◌<◌, ◌+◌, ℕ, zero, suc, List, [], ◌∷◌, if◌then◌else◌, length, drop, get_or, Some, sym, ap, ◌∙◌, arith, lt-ltb, drop-cons, true≢false}
+use Rattle.std.proofs.Common.{true, ◌≡◌, ◌<◌, ◌+◌, ℕ, zero, suc, List, [], ◌∷◌, if◌then◌else◌, length, drop, get_or, Some, sym, ap, ◌∙◌, arith, lt-ltb, drop-cons, true≢false}
 use Rattle.std.specs.Prelude.{is_some}
 use Rattle.std.proofs.lemmas.Str.{IsUtf8-from_ascii}
 use Rattle.td_base.specs.Value.{AtomIdValue}
@@ -8,7 +8,7 @@ use Rattle.td_path.specs.declared.slot.Slot.{Slot}
 use Rattle.td_path.specs.declared.slot.Slot.TheVariants.{Root, At}
 use Rattle.td_doc.specs.Document.{DocRow, find_row, live_atoms}
 use Rattle.td_doc.specs.declared.doc.DocFault.TheVariants.{Gone}
-use Rattle.td_doc.specs.Answers.{IsRooted, IsSlotFault}
+use Rattle.td_doc.specs.Answers.{IsSlotFault, is_rooted}
 use Rattle.td_run.specs.Editor.{Outcome, after_one, insert_text}
 use Rattle.td_run.specs.Site.{SiteState, treedoc}
 use Rattle.td_run.proofs.Typing.{after_many}
@@ -46,6 +46,6 @@ stops_here s index made k text whole h past rest =
     record { so_many = sym none ∙ ap (λ (o : Outcome SiteState). o.made) all; refused = ap (λ (o : Outcome SiteState). o.refused) all; state = ap (λ (o : Outcome SiteState). o.state) all }
 
 -- a slot that names a row is not refused as gone
-pub not_gone : (rows : List DocRow) (slot : Slot) (x : AtomIdValue) → IsRooted rows slot → IsSlotFault rows slot (Gone x) → ⊥
+pub not_gone : (rows : List DocRow) (slot : Slot) (x : AtomIdValue) → is_rooted rows slot ≡ true → IsSlotFault rows slot (Gone x) → ⊥
 not_gone rows Root x rooted fault = fault.0
 not_gone rows (At y bit) x rooted fault = true≢false (sym rooted ∙ ap (λ z. is_some (find_row z rows)) (sym fault.0) ∙ fault.1)

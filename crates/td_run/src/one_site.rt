@@ -8,7 +8,7 @@ ghost use Rattle.td_run.specs.Site.{new_site, next_atom, treedoc, typed_at};
 use std::alloc::Global;
 use std::marker::Model;
 use td_base::{Atom, AtomId, Bytes, Dot, Memory, Site};
-use td_doc::{Doc, DocFault, Rows, alloc_slot, push_text};
+use td_doc::{Doc, DocFault, Rows, alloc_slot};
 
 /// The one site of a script: its document, and how many operations it made. Contracts see the rows and the number.
 #[derive(Debug, Drop)]
@@ -109,7 +109,7 @@ impl OneSite {
     pub fn push_text(&self, out: &mut Bytes) -> Result<(), Memory>
         ensures { OnOk result (out.new ≡ out.old ++ text_of self.now.rows) }
     {
-        push_text(&self.doc, out)
+        self.doc.push_text(out)
     }
 }
 

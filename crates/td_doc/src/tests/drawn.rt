@@ -40,7 +40,7 @@ fn drawn(rt: &impl Abort, alloc: Global, seed: u32) -> Result<Rows, Fail> {
     Ok(doc)
 }
 
-// The bytes that the document shows.
+// The bytes of the atoms at the indexes, one after another.
 fn shown(alloc: Global, doc: &Rows) -> Result<Bytes, Fail> {
     let mut bytes = Bytes::new(alloc);
     for index in 0..doc.live() {
@@ -49,6 +49,14 @@ fn shown(alloc: Global, doc: &Rows) -> Result<Bytes, Fail> {
         }
     }
     Ok(bytes)
+}
+
+// What a flatten at the slot is to answer.
+fn answer(doc: &Rows, slot: Slot) -> Result<(), DocFault> {
+    match slot {
+        Slot::At { atom, .. } if !doc.is_row(atom) => Err(DocFault::Gone { id: atom }),
+        _ => Ok(()),
+    }
 }
 
 fn flatten_keeps_the_text(
@@ -60,12 +68,13 @@ fn flatten_keeps_the_text(
     let mut doc = drawn(rt, alloc, seed)?;
     let before = shown(alloc, &doc)?;
     let live = doc.live();
-    if let Ok(()) = doc.flatten(slot) {
-        let after = shown(alloc, &doc)?;
-        assert_eq!(rt; after.as_slice(), before.as_slice());
-        assert_eq!(rt; doc.live(), live);
-        assert!(rt; slot != Slot::Root || doc.rows() == live);
-    }
+    let expected = answer(&doc, slot);
+    assert_eq!(rt; doc.flatten(slot), expected);
+    let mut after = Bytes::new(alloc);
+    doc.push_text(&mut after)?;
+    assert_eq!(rt; after.as_slice(), before.as_slice());
+    assert_eq!(rt; doc.live(), live);
+    assert!(rt; slot != Slot::Root || doc.rows() == live);
     Ok(())
 }
 

@@ -20,6 +20,33 @@ fn run_of(atoms: &[Atom; 4], count: usize) -> Result<Run, Fail>
     Ok(Run::new(&atoms[..count]).ok().ok_or("a run")?)
 }
 
+// Puts "ab" in a slot of "abcd".
+fn ab_goes_in(rt: &impl Abort, alloc: Global, slot: Slot) -> Result<(), Fail> {
+    let mut doc = Rows::empty(alloc)?;
+    let first = dot(1, 1)?;
+    let second = dot(1, 2)?;
+    let letters = [letter("a")?, letter("b")?, letter("c")?, letter("d")?];
+    assert_eq!(rt;
+        put_run(&mut doc, Slot::Root, first, run_of(&letters, 4)?),
+        Ok(())
+    );
+    assert_eq!(rt;
+        put_run(&mut doc, slot, second, run_of(&letters, 2)?),
+        Ok(())
+    );
+    assert_eq!(rt; (doc.rows(), doc.live()), (6, 6));
+    Ok(())
+}
+
+#[test]
+fn a_run_goes_in_each_slot(rt: HostRuntime) -> Result<(), Fail> {
+    let a = AtomId::of(dot(1, 1)?);
+    for slot in [Slot::Root, at(a, Bit::Left), at(a, Bit::Right)] {
+        ab_goes_in(&rt, rt.alloc(), slot)?;
+    }
+    Ok(())
+}
+
 #[test]
 fn the_atoms_of_runs_stand_in_the_slots_of_their_arrays(rt: HostRuntime) -> Result<(), Fail> {
     let mut doc = Rows::empty(rt.alloc())?;

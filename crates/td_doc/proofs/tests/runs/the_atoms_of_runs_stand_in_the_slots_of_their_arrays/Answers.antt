@@ -1,11 +1,8 @@
-use Rattle.std.proofs.Common.{◌≡◌, ◌≢◌, ◌<◌, ℕ, List, sym, ap, subst, arith}
-use Rattle.td_base.specs.Value.{DotValue}
+use Rattle.std.proofs.Common.{List, sym, subst, arith}
 use Rattle.td_doc.specs.Document.{DocRow}
 use Rattle.td_doc.specs.Answers.{IsFresh}
+use Rattle.td_doc.proofs.FreshDots.{later}
 use Rattle.td_doc.proofs.tests.runs.the_atoms_of_runs_stand_in_the_slots_of_their_arrays.Goals as goal
-
-later : (d e : DotValue) (m n : ℕ) → d ≡ record { site = 1; seq = m } → e ≡ record { site = 1; seq = n } → m < n → e ≢ d
-later d e m n is_d is_e less same = omega (arith, less, ap (λ (x : DotValue). x.seq) same, ap (λ (x : DotValue). x.seq) is_d, ap (λ (x : DotValue). x.seq) is_e)
 
 pub put_run-requires-2 : goal.put_run-requires-2
 put_run-requires-2 g c =

@@ -1,9 +1,9 @@
-use Rattle.std.proofs.Common.{◌≡◌, ◌≤◌, length, subst, sym, ap, ◌∙◌}
-use Rattle.std.specs.Prelude.{IfSome}
+use Rattle.std.proofs.Common.{◌≡◌, ◌≤◌, true, length, subst, sym, ap, ◌∙◌}
+use Rattle.std.specs.Option.{ForSome}
 use Rattle.td_doc.specs.Document.{live_rows}
 use Rattle.td_doc.specs.Allocation.{alloc, anchor}
 use Rattle.td_doc.specs.Insertion.{insert_atom}
-use Rattle.td_doc.specs.Answers.{IsRow, IsRooted, IsSlotFault}
+use Rattle.td_doc.specs.Answers.{IsRow, IsSlotFault, is_rooted}
 use Rattle.td_doc.specs.declared.doc.DocFault.{DocFault}
 use Rattle.td_doc.proofs.Typing.{anchor_row}
 use Rattle.td_doc.proofs.Rules.{alloc_rooted}
@@ -34,7 +34,7 @@ pub unreachable-requires : goal.unreachable-requires
 unreachable-requires c =
     let rows = c.self.inside.doc in
     let within : c.args.index ≤ length (live_rows rows) = subst (λ (s : SiteState). c.args.index ≤ length (live_rows s.rows)) (sym c.self.view_is) c.requires.within in
-    let after : IfSome c.anchor-after.result (IsRow rows) = rw c.anchor-after.ensures (anchor_row rows c.args.index within) in
-    let rooted : IsRooted rows c.alloc_slot-slot.result = rw c.alloc_slot-slot.ensures (alloc_rooted rows c.anchor-after.result after) in
+    let after : ForSome c.anchor-after.result (IsRow rows) = rw c.anchor-after.ensures (anchor_row rows c.args.index within) in
+    let rooted : is_rooted rows c.alloc_slot-slot.result ≡ true = rw c.alloc_slot-slot.ensures (alloc_rooted rows c.anchor-after.result after) in
     not_gone rows c.alloc_slot-slot.result c.in-Err-Gone.field-0-0 rooted
     (subst (λ (f : DocFault). IsSlotFault rows c.alloc_slot-slot.result f) c.in-Err-Gone.field-0-is c.in-Err-Gone.ensures.fault)
