@@ -1,5 +1,5 @@
 -- Deletes: a row that a delete names keeps its place as a tombstone, with the dots of all deletes that named it.
-use Rattle.std.specs.Prelude.{ℕ, List, [], ◌∷◌, cond, map, slice_get, Option}
+use Rattle.std.specs.Prelude.{ℕ, List, [], ◌∷◌, if◌then◌else◌, map, slice_get, Option}
 use Rattle.std.specs.Option.{option_and_then}
 use Rattle.std.specs.Ordering.{is_lt, is_eq}
 use Rattle.td_base.specs.Value.{DotValue, AtomIdValue}
@@ -9,10 +9,12 @@ use Rattle.td_doc.specs.Document.{DocRow, has_id, find_row}
 -- a dot added to dots in their order, unless it is there
 abbrev pub add_dot : DotValue → List DotValue → List DotValue
 add_dot d [] = d ∷ []
-add_dot d (e ∷ dots) = cond (is_lt (dot_cmp d e)) (d ∷ e ∷ dots) (cond (is_eq (dot_cmp d e)) (e ∷ dots) (e ∷ add_dot d dots))
+add_dot d (e ∷ dots) =
+    if is_lt (dot_cmp d e) then d ∷ e ∷ dots else if is_eq (dot_cmp d e) then e ∷ dots else e ∷ add_dot d dots
 
 abbrev pub mark_deleted : AtomIdValue → DotValue → DocRow → DocRow
-mark_deleted x by r = cond (has_id x r) (record { path = r.path; atom = r.atom; deletes = add_dot by r.deletes }) r
+mark_deleted x by r =
+    if has_id x r then record { path = r.path; atom = r.atom; deletes = add_dot by r.deletes } else r
 
 -- the document after a delete of the row x
 abbrev pub delete : AtomIdValue → DotValue → List DocRow → List DocRow

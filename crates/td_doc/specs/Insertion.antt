@@ -1,5 +1,5 @@
 -- An atom, or a run of atoms, put in a slot.
-use Rattle.std.specs.Prelude.{◌≡◌, ◌++◌, ℕ, List, [], ◌∷◌, cond, Option, Some, None}
+use Rattle.std.specs.Prelude.{◌≡◌, ◌++◌, ℕ, List, [], ◌∷◌, if◌then◌else◌, Option, Some, None}
 use Rattle.std.specs.Ordering.{is_lt}
 use Rattle.td_base.specs.Value.{DotValue, AtomIdValue}
 use Rattle.td_path.specs.Infix.{path_cmp}
@@ -13,7 +13,7 @@ use Rattle.td_base.specs.RunAtoms.{NamedAtom, run_atoms}
 -- the row put where the infix order has it
 abbrev pub put_row : DocRow → List DocRow → List DocRow
 put_row n [] = n ∷ []
-put_row n (r ∷ rows) = cond (is_lt (path_cmp n.path r.path)) (n ∷ r ∷ rows) (r ∷ put_row n rows)
+put_row n (r ∷ rows) = if is_lt (path_cmp n.path r.path) then n ∷ r ∷ rows else r ∷ put_row n rows
 
 -- each of the new rows put where the infix order has it
 abbrev pub put_rows : List DocRow → List DocRow → List DocRow

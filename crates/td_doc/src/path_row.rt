@@ -43,6 +43,7 @@ impl PathRow {
         }
     }
 
+    /// The identity of its last pair.
     pub fn id(&self) -> AtomId
         ensures { result ≡ row_id self.now }
     {
@@ -50,12 +51,14 @@ impl PathRow {
         pairs[pairs.len() - 1].1
     }
 
+    /// Whether that is this one.
     pub fn has_id(&self, id: AtomId) -> bool
         ensures { result ≡ has_id id self.now }
     {
         self.id() == id
     }
 
+    /// Whether no delete named it.
     pub fn is_live(&self) -> bool
         ensures { result ≡ is_live self.now }
     {

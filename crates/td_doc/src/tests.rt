@@ -132,7 +132,7 @@ fn a_deleted_atom_stays_until_a_flatten(rt: HostRuntime) -> Result<(), Fail> {
     Ok(())
 }
 
-// A b at the root, an a on its left, which is deleted, and a c on its right.
+// A "b" at the root, an "a" on its left, which is deleted, and a "c" on its right.
 fn abc(rt: &impl Abort, alloc: Global) -> Result<Rows, Fail> {
     let mut doc = Rows::empty(alloc)?;
     let middle = id(1, 1)?;

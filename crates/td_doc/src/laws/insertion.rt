@@ -39,8 +39,8 @@ pub fn a_run_stands_together()
 /// Also in any other slot whose atom is a row a new run stands together, live and in order, and all else is as before.
 #[tactic(auto, using(crate::proofs::Together::run_together))]
 pub fn a_run_stands_together_in_any_slot()
-    ensures { (rows : List DocRow) (slot : Slot) (dot : DotValue) (run : List (List ℕ)) → IsDocument rows → IsFresh rows dot
-        → IsTrue (is_rooted rows slot) → IsPutTogether (run_atoms dot run) rows (insert_run slot dot run rows) }
+    ensures { (rows : List DocRow) (slot : Slot) (dot : DotValue) (run : List (List ℕ)) → IsDocument rows
+        → IsFresh rows dot → IsTrue (is_rooted rows slot) → IsPutTogether (run_atoms dot run) rows (insert_run slot dot run rows) }
 {}
 
 /// Typing is typing: an atom placed at an index stands at that index among the atoms shown, and no other atom moves.

@@ -14,12 +14,12 @@ ghost use Rattle.td_doc.specs.Answers.{IsFresh, is_live_id, is_rooted, live_befo
 pub fn a_live_row_is_found_at_its_index()
     ensures found { (rows : List DocRow) (id : AtomIdValue) → IsDocument rows → IsTrue (is_live_id rows id)
         → live_id_at rows (live_before id rows) ≡ Some id }
-    ensures told { (rows : List DocRow) (index : ℕ) (id : AtomIdValue) → IsDocument rows → live_id_at rows index ≡ Some id
-        → live_before id rows ≡ index }
+    ensures told { (rows : List DocRow) (index : ℕ) (id : AtomIdValue) → IsDocument rows
+        → live_id_at rows index ≡ Some id → live_before id rows ≡ index }
 {}
 
-/// What a run does to the atoms shown, in any slot whose atom is a row: they stand where the first of them stands, and no other
-/// moves. After a live row that is right behind it, and at the start before all.
+/// What a run does to the atoms shown, in any slot whose atom is a row: its atoms stand where the first of them stands, and
+/// no other moves. After a live row that is right behind it, and at the start before all.
 #[tactic(auto, using(crate::proofs::LiveIndex::run_put, crate::proofs::LiveIndex::run_put_after, crate::proofs::LiveIndex::run_put_first))]
 pub fn a_run_is_put_among_the_atoms_shown()
     ensures slot { (rows : List DocRow) (slot : Slot) (dot : DotValue) (run : List (List ℕ)) → IsDocument rows
@@ -33,8 +33,8 @@ pub fn a_run_is_put_among_the_atoms_shown()
         → live_atoms (insert_run (alloc rows None) dot run rows) ≡ insert_slice (live_atoms rows) 0 run }
 {}
 
-/// What a delete does to them: the atom at an index goes, and no other moves. A tombstone is not shown, so its delete changes
-/// nothing, and nor does one of no row.
+/// What a delete does to them: the atom at an index goes, and no other moves. A tombstone is not shown, so its delete
+/// changes nothing, and nor does one of no row.
 #[tactic(auto, using(crate::proofs::LiveIndex::deleted_at, crate::proofs::LiveIndex::delete_cuts, crate::proofs::LiveIndex::delete_again))]
 pub fn a_delete_cuts_one_atom_shown()
     ensures index { (rows : List DocRow) (index : ℕ) (id : AtomIdValue) (by : DotValue) → IsDocument rows
