@@ -1,18 +1,15 @@
 -- The atoms of a run, put one after another.
-use Rattle.std.proofs.Common.{◌≡◌, ◌≤◌, ◌<◌, ◌+◌, ◌++◌, ℕ, List, [], ◌∷◌, Some, None, length, take, drop, arith}
-use Rattle.std.specs.List.{insert, insert_slice, slice_get}
-use Rattle.std.proofs.lemmas.List.{append_assoc, length-append, length-take-le, take_at, drop_at, take_more}
+use Rattle.std.proofs.Common.{◌≡◌, ◌<◌, ◌+◌, ◌++◌, ℕ, List, [], ◌∷◌, Some, None, length, take, arith, sym, ap, ◌∙◌}
+use Rattle.std.specs.List.{slice_get}
+use Rattle.std.proofs.lemmas.List.{append_assoc, take_more}
 use Rattle.std.proofs.lemmas.Option.{slice_get_within, slice_get-get_or, get_or_from_slice_get}
 
 -- one more behind those that are put already
-pub insert_slice_more : {X : Type 0} (xs run now : List X) (at i : ℕ) (x : X) → at ≤ length xs → slice_get run i ≡ Some x → now ≡ insert_slice xs at (take i run)
-    → insert now (at + i) x ≡ insert_slice xs at (take (i + 1) run)
-insert_slice_more xs run now at i x within is so_far =
-    let inside : i < length run = slice_get_within run i x is in
-    let front : length (take at xs ++ take i run) ≡ at + i =
-    omega (arith, length-append (take at xs) (take i run), length-take-le at xs within, length-take-le i run (omega arith)) in
-    rw (so_far, take_at (take at xs ++ take i run) (drop at xs) (at + i) front, drop_at (take at xs ++ take i run) (drop at xs) (at + i) front, take_more run i x inside, get_or_from_slice_get run i x x is)
-    (simp append_assoc)
+pub append_more : {X : Type 0} (xs run now : List X) (i : ℕ) (x : X) → slice_get run i ≡ Some x → now ≡ xs ++ take i run
+    → now ++ x ∷ [] ≡ xs ++ take (i + 1) run
+append_more {X = X} xs run now i x is so_far =
+    ap (λ (q : List X). q ++ x ∷ []) so_far ∙ append_assoc xs (take i run) (x ∷ [])
+    ∙ ap (λ (q : List X). xs ++ q) (ap (λ (y : X). take i run ++ y ∷ []) (sym (get_or_from_slice_get run i x x is)) ∙ sym (take_more run i x (slice_get_within run i x is)))
 
 -- a place in the list has an element
 pub slice_get_none : {X : Type 0} (xs : List X) (i : ℕ) → i < length xs → slice_get xs i ≡ None → ⊥

@@ -1,4 +1,4 @@
-ghost use Rattle.std.specs.Prelude.{◌≡◌, ◌≤◌, ◌+◌, length, vec_len, vec_capacity};
+ghost use Rattle.std.specs.Prelude.{◌≡◌, ◌≤◌, ◌+◌, ◌++◌, length, vec_len, vec_capacity};
 ghost use Rattle.std.specs.List.{insert_slice};
 ghost use Rattle.td_op.specs.Change.{changed, put_count, CanChange};
 
@@ -33,15 +33,27 @@ impl Change {
     }
 }
 
+// Puts the atoms of the run at the end, and turns them in front of what stood from the index on: one shift for the whole run.
 fn put_run(atoms: &mut Vec<Atom>, index: usize, run: &Run)
     requires range { index ≤ length atoms.old.items }
     requires room { vec_len atoms.old + length run.now ≤ vec_capacity atoms.old }
     ensures atoms { atoms.new.items ≡ insert_slice atoms.old.items index run.now }
     ensures capacity { vec_capacity atoms.old ≤ vec_capacity atoms.new }
 {
+    push_run(atoms, run);
+    atoms[index..].rotate_right(run.len() as usize);
+}
+
+// Adds the atoms of the run at the end.
+fn push_run(atoms: &mut Vec<Atom>, run: &Run)
+    requires { vec_len atoms.old + length run.now ≤ vec_capacity atoms.old }
+    ensures atoms { atoms.new.items ≡ atoms.old.items ++ run.now }
+    ensures len { vec_len atoms.new ≡ vec_len atoms.old + length run.now }
+    ensures capacity { vec_capacity atoms.old ≤ vec_capacity atoms.new }
+{
     for i in 0..run.len() {
         if let Some(atom) = run.atom(i) {
-            atoms.insert(index + i as usize, atom).unwrap();
+            atoms.push(atom).unwrap();
         }
     }
 }
