@@ -1,5 +1,5 @@
 -- The decision rule: how a proposer counts votes (two-phase commitment, Gray 1978).
-use Rattle.std.specs.Prelude.{ℕ, List, [], ◌∷◌, Bool, true, false, ◌||◌, cond, nat_eq, length, map, filter, Option, Some, None}
+use Rattle.std.specs.Prelude.{ℕ, List, [], ◌∷◌, Bool, true, false, ◌||◌, length, map, filter, Option, Some, None, if◌then◌else◌, ◌==◌}
 use Rattle.std.specs.List.{list_any}
 use Rattle.std.specs.Option.{is_some, is_none}
 use Rattle.td_base.specs.Value.{DotValue}
@@ -23,7 +23,7 @@ is_open b = is_none b.decision
 
 -- the proposal is decided, or the voter's vote is counted
 abbrev pub is_counted : ℕ → Ballot → Bool
-is_counted voter b = is_some b.decision || list_any (nat_eq voter) b.yes
+is_counted voter b = is_some b.decision || list_any (λ (site : ℕ). voter == site) b.yes
 
 -- the ballot with one more vote counted
 abbrev pub counted : ℕ → Bool → Ballot → Ballot
@@ -33,7 +33,7 @@ counted voter true b = record { proposal = b.proposal; yes = voter ∷ b.yes; de
 -- the decision that a ballot of n sites brings once a vote is counted: the n-th Yes a commit, a No an abort
 abbrev pub outcome : ℕ → Bool → Ballot → Option Bool
 outcome n false b = Some false
-outcome n true b = cond (nat_eq (length b.yes) n) (Some true) None
+outcome n true b = if length b.yes == n then Some true else None
 
 -- how many proposals are undecided
 abbrev pub count_open : List Ballot → ℕ
@@ -41,7 +41,7 @@ count_open ballots = length (filter is_open ballots)
 
 -- the ballot on p changed
 abbrev pub revise : DotValue → (Ballot → Ballot) → List Ballot → List Ballot
-revise p change ballots = map (λ (b : Ballot). cond (is_on p b) (change b) b) ballots
+revise p change ballots = map (λ (b : Ballot). if is_on p b then change b else b) ballots
 
 abbrev pub close : Bool → Ballot → Ballot
 close commit b = record { proposal = b.proposal; yes = b.yes; decision = Some commit }

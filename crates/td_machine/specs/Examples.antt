@@ -1,19 +1,19 @@
 -- Worked examples as moves. A message has the number of its sending.
-use Rattle.std.specs.Prelude.{List, [], ◌∷◌}
+use Rattle.std.specs.Prelude.{List, [], ◌∷◌, codes}
 use Rattle.td_base.specs.declared.bit.Bit.TheVariants.{Left, Right}
 use Rattle.td_path.specs.declared.slot.Slot.TheVariants.{Root}
 use Rattle.td_op.specs.declared.request.Request.TheVariants.{Insert, Paste, Delete, Propose, ProposeAt, Cancel}
-use Rattle.td_machine.specs.Stage.{Move, Ask, Give, GoOn, dot, letter}
+use Rattle.td_machine.specs.Stage.{Move, Ask, Give, GoOn, dot, letters}
 
 -- two sites put an atom each into one gap
 abbrev pub one_gap : List Move
 one_gap =
-    Ask 1 (Insert 0 (letter 97))
-    ∷ Ask 1 (Insert 1 (letter 99))
+    Ask 1 (Insert 0 (codes "a"))
+    ∷ Ask 1 (Insert 1 (codes "c"))
     ∷ Give 2 1
     ∷ Give 2 2
-    ∷ Ask 1 (Insert 1 (letter 88))
-    ∷ Ask 2 (Insert 1 (letter 89))
+    ∷ Ask 1 (Insert 1 (codes "X"))
+    ∷ Ask 2 (Insert 1 (codes "Y"))
     ∷ Give 1 4
     ∷ Give 2 3
     ∷ []
@@ -21,8 +21,8 @@ one_gap =
 -- the second operation comes before the first, and comes again while it waits
 abbrev pub reordered : List Move
 reordered =
-    Ask 1 (Insert 0 (letter 97))
-    ∷ Ask 1 (Insert 1 (letter 98))
+    Ask 1 (Insert 0 (codes "a"))
+    ∷ Ask 1 (Insert 1 (codes "b"))
     ∷ Give 2 2
     ∷ Give 2 2
     ∷ Give 2 1
@@ -33,12 +33,12 @@ reordered =
 -- three sites type two atoms each at once
 abbrev pub three_typists : List Move
 three_typists =
-    Ask 1 (Insert 0 (letter 97))
-    ∷ Ask 1 (Insert 1 (letter 98))
-    ∷ Ask 2 (Insert 0 (letter 99))
-    ∷ Ask 2 (Insert 1 (letter 100))
-    ∷ Ask 3 (Insert 0 (letter 101))
-    ∷ Ask 3 (Insert 1 (letter 102))
+    Ask 1 (Insert 0 (codes "a"))
+    ∷ Ask 1 (Insert 1 (codes "b"))
+    ∷ Ask 2 (Insert 0 (codes "c"))
+    ∷ Ask 2 (Insert 1 (codes "d"))
+    ∷ Ask 3 (Insert 0 (codes "e"))
+    ∷ Ask 3 (Insert 1 (codes "f"))
     ∷ Give 1 3
     ∷ Give 1 4
     ∷ Give 1 5
@@ -56,8 +56,8 @@ three_typists =
 -- two sites delete one atom
 abbrev pub both_delete : List Move
 both_delete =
-    Ask 1 (Insert 0 (letter 97))
-    ∷ Ask 1 (Insert 1 (letter 98))
+    Ask 1 (Insert 0 (codes "a"))
+    ∷ Ask 1 (Insert 1 (codes "b"))
     ∷ Give 2 1
     ∷ Give 2 2
     ∷ Ask 1 (Delete 0)
@@ -69,37 +69,37 @@ both_delete =
 -- an atom goes beside a tombstone
 abbrev pub beside_a_tombstone : List Move
 beside_a_tombstone =
-    Ask 1 (Insert 0 (letter 97))
-    ∷ Ask 1 (Insert 1 (letter 98))
-    ∷ Ask 1 (Insert 2 (letter 99))
+    Ask 1 (Insert 0 (codes "a"))
+    ∷ Ask 1 (Insert 1 (codes "b"))
+    ∷ Ask 1 (Insert 2 (codes "c"))
     ∷ Ask 1 (Delete 1)
-    ∷ Ask 1 (Insert 1 (letter 120))
+    ∷ Ask 1 (Insert 1 (codes "x"))
     ∷ []
 
 -- one site flattens its buffer
 abbrev pub flatten_alone : List Move
 flatten_alone =
-    Ask 1 (Insert 0 (letter 97))
-    ∷ Ask 1 (Insert 1 (letter 98))
-    ∷ Ask 1 (Insert 2 (letter 99))
-    ∷ Ask 1 (Insert 3 (letter 100))
+    Ask 1 (Insert 0 (codes "a"))
+    ∷ Ask 1 (Insert 1 (codes "b"))
+    ∷ Ask 1 (Insert 2 (codes "c"))
+    ∷ Ask 1 (Insert 3 (codes "d"))
     ∷ Ask 1 (Propose Root)
     ∷ []
 
 -- nobody may edit under a hold until the decision comes there
 abbrev pub held : List Move
 held =
-    Ask 1 (Insert 0 (letter 97))
-    ∷ Ask 1 (Insert 1 (letter 98))
+    Ask 1 (Insert 0 (codes "a"))
+    ∷ Ask 1 (Insert 1 (codes "b"))
     ∷ Ask 1 (Propose Root)
-    ∷ Ask 1 (Insert 0 (letter 120))
+    ∷ Ask 1 (Insert 0 (codes "x"))
     ∷ Give 2 1
     ∷ Give 2 2
     ∷ Give 2 3
-    ∷ Ask 2 (Insert 0 (letter 121))
+    ∷ Ask 2 (Insert 0 (codes "y"))
     ∷ Give 1 4
-    ∷ Ask 1 (Insert 0 (letter 120))
-    ∷ Ask 2 (Insert 0 (letter 121))
+    ∷ Ask 1 (Insert 0 (codes "x"))
+    ∷ Ask 2 (Insert 0 (codes "y"))
     ∷ Give 2 5
     ∷ Give 2 6
     ∷ []
@@ -107,12 +107,12 @@ held =
 -- an edit that the proposer does not know makes the vote No
 abbrev pub edit_first : List Move
 edit_first =
-    Ask 1 (Insert 0 (letter 97))
-    ∷ Ask 1 (Insert 1 (letter 98))
+    Ask 1 (Insert 0 (codes "a"))
+    ∷ Ask 1 (Insert 1 (codes "b"))
     ∷ Give 2 1
     ∷ Give 2 2
     ∷ Ask 1 (Propose Root)
-    ∷ Ask 2 (Insert 2 (letter 99))
+    ∷ Ask 2 (Insert 2 (codes "c"))
     ∷ Give 2 3
     ∷ Give 1 5
     ∷ Give 1 4
@@ -122,9 +122,9 @@ edit_first =
 -- two sites propose overlapping slots at once
 abbrev pub overlapping : List Move
 overlapping =
-    Ask 1 (Insert 0 (letter 97))
-    ∷ Ask 1 (Insert 1 (letter 98))
-    ∷ Ask 1 (Insert 2 (letter 99))
+    Ask 1 (Insert 0 (codes "a"))
+    ∷ Ask 1 (Insert 1 (codes "b"))
+    ∷ Ask 1 (Insert 2 (codes "c"))
     ∷ Give 2 1
     ∷ Give 2 2
     ∷ Give 2 3
@@ -141,9 +141,9 @@ overlapping =
 -- two sites propose slots at once that do not overlap
 abbrev pub disjoint : List Move
 disjoint =
-    Ask 1 (Insert 0 (letter 97))
-    ∷ Ask 1 (Insert 1 (letter 98))
-    ∷ Ask 1 (Insert 2 (letter 99))
+    Ask 1 (Insert 0 (codes "a"))
+    ∷ Ask 1 (Insert 1 (codes "b"))
+    ∷ Ask 1 (Insert 2 (codes "c"))
     ∷ Give 2 1
     ∷ Give 2 2
     ∷ Give 2 3
@@ -160,8 +160,8 @@ disjoint =
 -- a slot whose tombstone was flattened away is used by two sites at once
 abbrev pub used_again : List Move
 used_again =
-    Ask 1 (Insert 0 (letter 120))
-    ∷ Ask 1 (Insert 1 (letter 121))
+    Ask 1 (Insert 0 (codes "x"))
+    ∷ Ask 1 (Insert 1 (codes "y"))
     ∷ Give 2 1
     ∷ Give 2 2
     ∷ Ask 1 (Delete 1)
@@ -170,8 +170,8 @@ used_again =
     ∷ Give 2 4
     ∷ Give 1 5
     ∷ Give 2 6
-    ∷ Ask 1 (Insert 1 (letter 112))
-    ∷ Ask 2 (Insert 1 (letter 113))
+    ∷ Ask 1 (Insert 1 (codes "p"))
+    ∷ Ask 2 (Insert 1 (codes "q"))
     ∷ Give 1 8
     ∷ Give 2 7
     ∷ []
@@ -179,25 +179,25 @@ used_again =
 -- a proposal is given up before the last Yes comes
 abbrev pub late_yes : List Move
 late_yes =
-    Ask 1 (Insert 0 (letter 97))
+    Ask 1 (Insert 0 (codes "a"))
     ∷ Give 2 1
     ∷ Ask 1 (Propose Root)
     ∷ Give 2 2
     ∷ Ask 1 (Cancel (dot 1 2))
     ∷ Give 1 3
-    ∷ Ask 2 (Insert 0 (letter 122))
+    ∷ Ask 2 (Insert 0 (codes "z"))
     ∷ Give 2 4
-    ∷ Ask 2 (Insert 0 (letter 122))
+    ∷ Ask 2 (Insert 0 (codes "z"))
     ∷ Ask 1 (Cancel (dot 1 2))
     ∷ []
 
 -- a proposal that does not know a commit which overlaps it
 abbrev pub unseen_commit : List Move
 unseen_commit =
-    Ask 1 (Insert 0 (letter 97))
-    ∷ Ask 1 (Insert 1 (letter 98))
-    ∷ Ask 1 (Insert 2 (letter 99))
-    ∷ Ask 1 (Insert 3 (letter 100))
+    Ask 1 (Insert 0 (codes "a"))
+    ∷ Ask 1 (Insert 1 (codes "b"))
+    ∷ Ask 1 (Insert 2 (codes "c"))
+    ∷ Ask 1 (Insert 3 (codes "d"))
     ∷ Give 2 1
     ∷ Give 2 2
     ∷ Give 2 3
@@ -220,10 +220,32 @@ unseen_commit =
 -- a pasted run is split by two sites at once
 abbrev pub split_paste : List Move
 split_paste =
-    Ask 1 (Paste 0 (letter 97 ∷ letter 98 ∷ letter 99 ∷ letter 100 ∷ []))
+    Ask 1 (Paste 0 (letters (codes "abcd")))
     ∷ Give 2 1
-    ∷ Ask 2 (Paste 1 (letter 120 ∷ letter 121 ∷ []))
-    ∷ Ask 1 (Paste 1 (letter 122 ∷ []))
+    ∷ Ask 2 (Paste 1 (letters (codes "xy")))
+    ∷ Ask 1 (Paste 1 (letters (codes "z")))
     ∷ Give 1 2
     ∷ Give 2 3
+    ∷ []
+
+-- messages come in another order, twice, or never; the buffer is flattened while a site that has not taken the commit
+-- may not type, and each types again
+abbrev pub with_a_flatten : List Move
+with_a_flatten =
+    Ask 1 (Insert 0 (codes "a"))
+    ∷ Ask 1 (Insert 1 (codes "b"))
+    ∷ Give 2 2
+    ∷ Give 2 1
+    ∷ GoOn 2
+    ∷ Give 2 1
+    ∷ Ask 1 (Delete 0)
+    ∷ Give 2 3
+    ∷ Ask 1 (Propose Root)
+    ∷ Give 2 4
+    ∷ Give 1 5
+    ∷ Ask 2 (Insert 1 (codes "c"))
+    ∷ Give 2 6
+    ∷ Ask 2 (Insert 1 (codes "c"))
+    ∷ Ask 1 (Insert 1 (codes "d"))
+    ∷ Give 2 8
     ∷ []

@@ -21,10 +21,11 @@ abbrev pub after : Machine → History → Machine
 after m [] = m
 after m (e ∷ entries) = after (step m e.input).machine entries
 
--- the inputs are values of their types, and the replies are those of the machine
+-- the inputs are values of their types (so no message has a dot of site 0), and the replies are those of the machine
 abbrev pub IsLegalFrom : Machine → History → Type 0
 IsLegalFrom m [] = Unit {0}
-IsLegalFrom m (e ∷ entries) = IsInput e.input × ((step m e.input).reply ≡ e.reply) × IsLegalFrom (step m e.input).machine entries
+IsLegalFrom m (e ∷ entries) =
+    IsInput e.input × ((step m e.input).reply ≡ e.reply) × IsLegalFrom (step m e.input).machine entries
 
 abbrev pub IsLegal : ℕ → ℕ → History → Type 0
 IsLegal site size entries = IsLegalFrom (start site size) entries
@@ -40,7 +41,8 @@ pub record IsReached (m : Machine) : Type 0 where
   pub legal : IsLegal site size entries
   pub is : m ≡ after (start site size) entries
 
--- a history for each site, that of site s at place s - 1
+-- a history for each site, that of site s at place s - 1. Sites are numbered from 1, and 0 names none: as 0 - 1 is 0 it
+-- would have the history of site 1, so what is said of each site of a family is asked of those from 1 on
 abbrev pub Family : Type 0
 Family = List History
 
@@ -63,11 +65,25 @@ machine family site = machine_after family site (history family site)
 abbrev pub log_of : Family → ℕ → List OpValue
 log_of family site = (machine family site).log
 
+-- a moment of the family: one of its sites, after a front of its history
+pub record Moment (family : Family) : Type 0 where
+  pub site : ℕ
+  pub some : 0 < site
+  pub within : site ≤ length family
+  pub front : History
+  pub back : History
+  pub splits : history family site ≡ front ++ back
+
+-- the machine of its site then
+abbrev pub machine_at : (family : Family) → Moment family → Machine
+machine_at family t = machine_after family t.site t.front
+
 -- one legal history for each of 1 to 64 sites
 pub record IsFamily (family : Family) : Type 0 where
   pub some : 0 < length family
   pub few : length family ≤ MAX_SITE
-  pub legal : (site : ℕ) → 0 < site → site ≤ length family → IsLegal site (length family) (history family site)
+  pub legal : (site : ℕ) → 0 < site → site ≤ length family
+      → IsLegal site (length family) (history family site)
 
 abbrev pub sender : Message → ℕ
 sender (Op x) = x.dot.site
@@ -78,10 +94,10 @@ abbrev pub IsAddressed : ℕ → Message → Type 0
 IsAddressed site (Op x) = Unit {0}
 IsAddressed site (Vote v) = v.proposal.site ≡ site
 
--- how many operations of the site the message names
-abbrev pub named_of : ℕ → Message → ℕ
-named_of site (Op x) = vector_get x.deps site
-named_of site (Vote v) = v.proposal.seq
+-- how many operations of the site the message names: those that its sender knew, or those up to the proposal
+abbrev pub known_of : ℕ → Message → ℕ
+known_of site (Op x) = vector_get x.deps site
+known_of site (Vote v) = v.proposal.seq
 
 -- the message may come to this site when its machine is as given
 pub record MayCome (family : Family) (site : ℕ) (m : Machine) (message : Message) : Type 0 where
@@ -90,13 +106,23 @@ pub record MayCome (family : Family) (site : ℕ) (m : Machine) (message : Messa
   pub sent : In message (machine family (sender message)).sent
   pub addressed : IsAddressed site message
   -- the site has made each own operation that it names
-  pub named : named_of site message ≤ made m
+  pub own_made : known_of site message ≤ made m
 
 -- a family in which each message that a site takes may come to it. Nothing is said of the order in time between sites
 pub record IsConsistent (family : Family) : Type 0 where
   pub legal : IsFamily family
-  pub takes : (site : ℕ) (front : History) (e : Entry) (back : History) (message : Message) → 0 < site → site ≤ length family
-      → history family site ≡ front ++ e ∷ back → e.input ≡ Take message → MayCome family site (machine_after family site front) message
+  pub takes : (site : ℕ) (front : History) (e : Entry) (back : History) (message : Message)
+      → 0 < site → site ≤ length family → history family site ≡ front ++ e ∷ back → e.input ≡ Take message
+      → MayCome family site (machine_after family site front) message
+
+-- the family after one more entry at a site
+abbrev pub with_entry_at : ℕ → Entry → Family → Family
+with_entry_at k e [] = []
+with_entry_at zero e (h ∷ family) = (h ++ e ∷ []) ∷ family
+with_entry_at (suc k) e (h ∷ family) = h ∷ with_entry_at k e family
+
+abbrev pub with_entry : Family → ℕ → Entry → Family
+with_entry family site e = with_entry_at (site - 1) e family
 
 -- an operation of the family: a site made or took it
 pub record IsOpOf (family : Family) (x : OpValue) : Type 0 where

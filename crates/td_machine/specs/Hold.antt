@@ -1,5 +1,5 @@
 -- Holds: the proposals to which a replica said Yes, with their slots, until it takes the decisions.
-use Rattle.std.specs.Prelude.{List, [], ◌∷◌, Bool, not, cond, filter, map, Option, Some, None}
+use Rattle.std.specs.Prelude.{List, [], ◌∷◌, Bool, not, filter, map, Option, Some, None, if◌then◌else◌}
 use Rattle.std.specs.List.{list_any}
 use Rattle.td_base.specs.Value.{DotValue, AtomIdValue}
 use Rattle.td_base.specs.Order.{dot_lt}
@@ -12,13 +12,13 @@ pub record Hold : Type 0 where
   pub proposal : DotValue
   pub slot : Slot
 
-abbrev pub smaller : DotValue → Option DotValue → DotValue
-smaller d None = d
-smaller d (Some e) = cond (dot_lt e d) e d
+abbrev pub smaller_dot : DotValue → Option DotValue → DotValue
+smaller_dot d None = d
+smaller_dot d (Some e) = if dot_lt e d then e else d
 
 abbrev pub least_dot : List DotValue → Option DotValue
 least_dot [] = None
-least_dot (d ∷ dots) = Some (smaller d (least_dot dots))
+least_dot (d ∷ dots) = Some (smaller_dot d (least_dot dots))
 
 -- the least proposal of those whose held slot passes the test
 abbrev pub held_by : (Slot → Bool) → List Hold → Option DotValue

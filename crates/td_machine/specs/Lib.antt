@@ -6,6 +6,7 @@ pub mod Vote
 pub mod Decision
 pub mod Machine
 pub mod Making
+pub mod Replay
 pub mod Taking
 pub mod Request
 pub mod Step

@@ -29,7 +29,17 @@ pub record Machine : Type 0 where
 -- the machine of a site at the beginning
 abbrev pub start : ℕ → ℕ → Machine
 start site size =
-    record { site = site; size = size; doc = []; have = replicate size 0; log = []; waiting = []; holds = []; ballots = []; sent = [] }
+    record {
+      site = site;
+      size = size;
+      doc = [];
+      have = replicate size 0;
+      log = [];
+      waiting = [];
+      holds = [];
+      ballots = [];
+      sent = [];
+    }
 
 -- the number of operations made at this site
 abbrev pub made : Machine → ℕ

@@ -21,7 +21,8 @@ abbrev pub flatten_found : Option Slot → List DocRow → List DocRow
 flatten_found None rows = rows
 flatten_found (Some slot) rows = flatten slot rows
 
--- the document after the operation with this dot and body. A commit flattens the slot of its proposal, which the log tells
+-- the document after the operation with this dot and body. A commit flattens the slot of its proposal, which the log
+-- tells
 abbrev pub effect : List OpValue → DotValue → Body → List DocRow → List DocRow
 effect log dot (Insert slot run) rows = insert_run slot dot run rows
 effect log dot (Delete target) rows = delete target dot rows
@@ -78,4 +79,5 @@ open_ballot p m = record m { ballots = new_ballot p ∷ m.ballots }
 -- a proposal made here is held, and its own Yes counted, which decides it where there is one site
 abbrev pub propose : Slot → Machine → Machine
 propose slot m =
-    decide (next_dot m) (outcome m.size true (new_ballot (next_dot m))) (open_ballot (next_dot m) (hold (next_dot m) slot (make (Propose slot) m)))
+    decide (next_dot m) (outcome m.size true (new_ballot (next_dot m)))
+    (open_ballot (next_dot m) (hold (next_dot m) slot (make (Propose slot) m)))

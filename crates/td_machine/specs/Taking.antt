@@ -1,5 +1,5 @@
 -- What a machine answers to a message, and what it does with it.
-use Rattle.std.specs.Prelude.{ℕ, ◌∷◌, Bool, ◌||◌, not, cond, nat_eq, nat_lt, length, Option, Some, None}
+use Rattle.std.specs.Prelude.{ℕ, ◌∷◌, Bool, ◌||◌, not, nat_lt, length, Option, Some, None, if◌then◌else◌, ◌==◌}
 use Rattle.std.specs.List.{find}
 use Rattle.std.specs.Option.{is_some}
 use Rattle.td_base.specs.Value.{DotValue}
@@ -33,11 +33,12 @@ abbrev pub stepped : Reply → Machine → Stepped
 stepped reply m = record { reply = reply; machine = m }
 
 abbrev pub body_misfit : ℕ → Body → Machine → Option Why
-body_misfit site (Insert slot run) m = cond (is_rooted m.doc slot) None (Some Atom)
-body_misfit site (Delete target) m = cond (is_some (find_row target m.doc)) None (Some Atom)
+body_misfit site (Insert slot run) m = if is_rooted m.doc slot then None else Some Atom
+body_misfit site (Delete target) m = if is_some (find_row target m.doc) then None else Some Atom
 body_misfit site (Propose slot) m = None
-body_misfit site (Commit p) m = cond (is_undecided_of site p m.log) (cond (is_held p m.holds) None (Some NoHold)) (Some Proposal)
-body_misfit site (Abort p) m = cond (is_undecided_of site p m.log) None (Some Proposal)
+body_misfit site (Commit p) m =
+    if is_undecided_of site p m.log then (if is_held p m.holds then None else Some NoHold) else Some Proposal
+body_misfit site (Abort p) m = if is_undecided_of site p m.log then None else Some Proposal
 
 -- why a ready operation can't be taken: the atom or the proposal that it names is not here
 abbrev pub misfit : OpValue → Machine → Option Why
@@ -45,18 +46,19 @@ misfit x m = body_misfit x.dot.site x.body m
 
 -- the vote on a proposal is sent, and a Yes holds the slot
 abbrev pub answer : DotValue → Slot → Bool → Machine → Machine
-answer p slot says m = send (AVote (record { proposal = p; voter = m.site; yes = says })) (cond says (hold p slot m) m)
+answer p slot says m =
+    send (AVote (record { proposal = p; voter = m.site; yes = says })) (if says then hold p slot m else m)
 
 abbrev pub vote_on : OpValue → Slot → Machine → Bool
 vote_on x slot m = votes_yes m.doc m.holds (commits m.log) slot x.deps
 
-abbrev pub taken : Option Slot → OpValue → Machine → Machine
-taken None x m = done x m
-taken (Some slot) x m = answer x.dot slot (vote_on x slot m) (done x m)
+abbrev pub take_as : Option Slot → OpValue → Machine → Machine
+take_as None x m = done x m
+take_as (Some slot) x m = answer x.dot slot (vote_on x slot m) (done x m)
 
 -- an operation of another site is done; a proposal is voted on, by what was known before it
 abbrev pub take : OpValue → Machine → Machine
-take x m = taken (proposed x.body) x m
+take x m = take_as (proposed x.body) x m
 
 abbrev pub keep_waiting : OpValue → Machine → Machine
 keep_waiting x m = record m { waiting = x ∷ m.waiting }
@@ -68,27 +70,28 @@ fit_step None x m = stepped New (take x m)
 -- an operation that is offered, judged in this order
 abbrev pub op_step : OpValue → Machine → Stepped
 op_step x m =
-    cond (not (nat_eq (length x.deps) m.size)) (stepped (Unfit Size) m)
-    (cond (is_had m.have x || waits x.dot m.waiting) (stepped Repeat m)
-    (cond (nat_eq x.dot.site m.site || nat_lt (made m) (vector_get x.deps m.site)) (stepped (Unfit Own) m)
-    (cond (not (is_ready m.have x)) (stepped Later (keep_waiting x m))
-    (fit_step (misfit x m) x m))))
+    if not (length x.deps == m.size) then stepped (Unfit Size) m
+    else (if is_had m.have x || waits x.dot m.waiting then stepped Repeat m
+    else (if x.dot.site == m.site || nat_lt (made m) (vector_get x.deps m.site) then stepped (Unfit Own) m
+    else (if not (is_ready m.have x) then stepped Later (keep_waiting x m)
+    else fit_step (misfit x m) x m)))
 
 -- a vote is counted, and the decision that it brings is made
 abbrev pub count : Vote → Ballot → Machine → Machine
 count v b m =
-    decide v.proposal (outcome m.size v.yes (counted v.voter v.yes b)) (record m { ballots = revise v.proposal (counted v.voter v.yes) m.ballots })
+    decide v.proposal (outcome m.size v.yes (counted v.voter v.yes b))
+    (record m { ballots = revise v.proposal (counted v.voter v.yes) m.ballots })
 
 abbrev pub ballot_step : Option Ballot → Vote → Machine → Stepped
 ballot_step None v m = stepped (Unfit Proposal) m
-ballot_step (Some b) v m = cond (is_counted v.voter b) (stepped Repeat m) (stepped New (count v b m))
+ballot_step (Some b) v m = if is_counted v.voter b then stepped Repeat m else stepped New (count v b m)
 
 -- a vote that is offered, judged in this order
 abbrev pub vote_step : Vote → Machine → Stepped
 vote_step v m =
-    cond (nat_lt m.size v.voter || nat_lt m.size v.proposal.site) (stepped (Unfit Size) m)
-    (cond (not (nat_eq v.proposal.site m.site)) (stepped (Unfit Address) m)
-    (ballot_step (find (is_on v.proposal) m.ballots) v m))
+    if nat_lt m.size v.voter || nat_lt m.size v.proposal.site then stepped (Unfit Size) m
+    else (if not (v.proposal.site == m.site) then stepped (Unfit Address) m
+    else ballot_step (find (is_on v.proposal) m.ballots) v m)
 
 abbrev pub message_step : Message → Machine → Stepped
 message_step (AnOp x) m = op_step x m

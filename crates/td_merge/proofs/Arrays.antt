@@ -1,17 +1,16 @@
 -- Arrays: wherever the slot is, the rows stand below it in one way, and hang at its atoms alone.
-use Rattle.std.proofs.Common.{◌≡◌, ◌⊎◌, ◌≤◌, ◌/◌, ℕ, zero, suc, List, [], ◌∷◌, ◌++◌, map, length, take, drop, refl, sym, ap, ◌∙◌, subst, inl, inr, ⊎_elim, append_assoc, take-append-drop}
+use Rattle.std.proofs.Common.{◌≡◌, ◌⊎◌, ◌≤◌, ◌/◌, ℕ, zero, suc, List, [], ◌∷◌, ◌++◌, map, length, take, drop, refl, sym, ap, ◌∙◌, subst, inl, inr, ⊎_elim, append_assoc}
 use Rattle.std.proofs.lemmas.List.{map-append}
 use Rattle.td_base.specs.declared.bit.Bit.{Bit}
 use Rattle.td_base.specs.declared.bit.Bit.TheVariants.{Left, Right}
-use Rattle.td_base.specs.Value.{DotValue}
 use Rattle.td_base.specs.Lists.{In}
-use Rattle.td_base.proofs.Lists.{In-append, In-front, In-back, map_In, In-map}
+use Rattle.td_base.proofs.Lists.{In-append, map_In, In-map}
 use Rattle.td_path.specs.Infix.{Pair, Pairs}
 use Rattle.td_path.specs.declared.slot_path.SlotPath.{SlotPath}
 use Rattle.td_path.specs.declared.slot_path.SlotPath.TheVariants.{Whole, Below}
 use Rattle.td_doc.specs.Document.{DocRow, row_id}
 use Rattle.td_doc.specs.Array.{named, around, array_upto}
-use Rattle.td_base.specs.RunAtoms.{NamedAtom, run_atoms_from, run_ids_from}
+use Rattle.td_base.specs.RunAtoms.{NamedAtom}
 use Rattle.td_doc.proofs.ArrayRows.{array_named}
 use Rattle.td_base.proofs.Searches.{In-take, In-drop}
 

@@ -24,7 +24,8 @@ use Rattle.td_doc.specs.Deletion.{add_dot, delete}
 use Rattle.td_doc.proofs.ArrayRows.{array_bare}
 use Rattle.td_machine.specs.Making.{effect}
 use Rattle.td_op.specs.Insertion.{insertion_by, insertions}
-use Rattle.td_merge.specs.Log.{doc_of, NoCommit}
+use Rattle.td_machine.specs.Replay.{doc_of}
+use Rattle.td_merge.specs.Log.{NoCommit}
 use Rattle.td_merge.proofs.Logs.{rows_left}
 
 -- the row as it was put

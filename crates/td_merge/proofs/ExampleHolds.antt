@@ -22,7 +22,8 @@ use Rattle.td_order.proofs.InsertionLemmas.{of_insertion}
 use Rattle.td_order.proofs.SetOfOps.{one_op}
 use Rattle.td_order.proofs.Conditions.{implies, differ_from, well_rooted_from}
 use Rattle.td_base.proofs.Searches.{each_passes}
-use Rattle.td_merge.specs.Log.{doc_of, IsCausalLog, NoCommit, DeletesAtoms, WasFree}
+use Rattle.td_machine.specs.Replay.{doc_of}
+use Rattle.td_merge.specs.Log.{IsCausalLog, NoCommit, DeletesAtoms, WasFree}
 use Rattle.td_merge.specs.Example.{b, abc_pasted, p_put, q_put, b_deleted, operations, first_log, second_log, used_twice, used_twice_log}
 use Rattle.td_order.specs.Example.{a_put, c_put}
 

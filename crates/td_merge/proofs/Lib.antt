@@ -12,6 +12,5 @@ pub mod BareRows
 pub mod RowsInOrder
 pub mod TextInOrder
 pub mod ExampleHolds
-pub mod MachineLog
 pub mod WellRooted
 pub mod Unflattened

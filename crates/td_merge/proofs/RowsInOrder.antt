@@ -20,7 +20,8 @@ use Rattle.td_op.proofs.InsertionLemmas.{from_op, In-insertions, insertions-In}
 use Rattle.td_order.proofs.LineUpLemmas.{In-line_up, line_up-In}
 use Rattle.td_order.proofs.OrderOfPart.{line_up_causal, whole_is_closed}
 use Rattle.td_order.proofs.SetOfOps.{one_op}
-use Rattle.td_merge.specs.Log.{doc_of, ComesNext, IsCausalLog, NoCommit, WasFree}
+use Rattle.td_machine.specs.Replay.{doc_of}
+use Rattle.td_merge.specs.Log.{ComesNext, IsCausalLog, NoCommit, WasFree}
 use Rattle.td_merge.proofs.DocumentFacts.{nothing_below, nothing_at_all}
 use Rattle.td_merge.proofs.Logs.{rows_left, Comes, IsTaken}
 use Rattle.td_merge.proofs.NextRows.{log_rows}

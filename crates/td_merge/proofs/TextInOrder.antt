@@ -7,7 +7,6 @@ use Rattle.td_base.specs.Lists.{In}
 use Rattle.td_base.proofs.Lists.{map_In, In-map, any_found, any_from}
 use Rattle.td_path.specs.declared.slot.Slot.{Slot}
 use Rattle.td_path.specs.declared.slot_path.SlotPath.{SlotPath}
-use Rattle.td_base.proofs.Orders.{equal_ids, is_eq_true}
 use Rattle.td_op.specs.declared.body.Body.{Body}
 use Rattle.td_op.specs.declared.body.Body.TheVariants.{Insert, Delete, Propose, Commit, Abort}
 use Rattle.td_op.specs.Op.{OpValue}
@@ -34,7 +33,8 @@ use Rattle.td_base.proofs.Equals.{same_dot_true, same_dot_refl, same_id_true, sa
 use Rattle.td_op.proofs.InsertionLemmas.{from_op, In-insertions, insertions-In}
 use Rattle.td_order.proofs.LineUpLemmas.{both_tests}
 use Rattle.td_order.proofs.SetOfOps.{one_op}
-use Rattle.td_merge.specs.Log.{doc_of, IsCausalLog, NoCommit, DeletesAtoms, WasFree}
+use Rattle.td_machine.specs.Replay.{doc_of}
+use Rattle.td_merge.specs.Log.{IsCausalLog, NoCommit, DeletesAtoms, WasFree}
 use Rattle.td_base.proofs.Searches.{filter_mapped, same_kept, find_one}
 use Rattle.std.proofs.lemmas.Simd.{map-map}
 use Rattle.td_base.proofs.RunIds.{run_atom_dot}

@@ -1,5 +1,5 @@
--- The log of a site of a consistent family is well rooted.
-use Rattle.std.proofs.Common.{◌≡◌, ◌≢◌, ◌<◌, ◌≤◌, ℕ, suc, List, [], ◌∷◌, length, Some, refl, sym, ap, ◌∙◌, subst, inl, inr, arith}
+-- The log of a site of a consistent family is well rooted, at every moment.
+use Rattle.std.proofs.Common.{◌≡◌, ◌≢◌, ◌<◌, ℕ, List, [], ◌∷◌, length, Some, refl, sym, ap, ◌∙◌, subst, arith}
 use Rattle.std.specs.Prelude.{IsTrue}
 use Rattle.td_base.specs.Value.{DotValue, AtomIdValue}
 use Rattle.td_base.specs.Lists.{In, Successive}
@@ -10,11 +10,10 @@ use Rattle.td_path.specs.declared.slot.Slot.TheVariants.{Root, At}
 use Rattle.td_op.specs.declared.body.Body.{Body}
 use Rattle.td_op.specs.declared.body.Body.TheVariants.{Insert, Delete, Propose, Commit, Abort}
 use Rattle.td_op.specs.Op.{OpValue, named_atom}
-use Rattle.td_base.specs.RunAtoms.{NamedAtom, run_atoms_from, run_ids_from}
-use Rattle.td_machine.specs.Counts.{IsCausal as IsCausalLog}
+use Rattle.td_machine.specs.Counts.{IsInTurn}
 use Rattle.td_op.specs.Insertion.{Inserts, insertion_by, insertion_of}
-use Rattle.td_machine.specs.History.{Family, IsConsistent, IsOpOf, log_of}
-use Rattle.td_machine.proofs.Family.{not_older, valid_of, full_of, named_of_past, size_of, log_causal, past_covered, past_in_log}
+use Rattle.td_machine.specs.History.{Family, Moment, IsConsistent, IsOpOf, machine_at}
+use Rattle.td_machine.proofs.Family.{not_older, valid_of, full_of, inserted_in_past, size_of, log_in_turn, past_covered, past_in_log, op_at}
 use Rattle.td_op.specs.declared.insertion.Insertion.{Insertion}
 use Rattle.td_order.specs.Insertions.{IsInsertionOf, IsAtomOf}
 use Rattle.td_order.specs.LineUp.{DotsDiffer, line_up}
@@ -24,7 +23,7 @@ use Rattle.td_order.specs.Causal.{IsCausal, IsRootedIn, IsWellRooted}
 use Rattle.td_merge.specs.Log.{DeletesAtoms}
 use Rattle.td_op.proofs.InsertionLemmas.{from_op}
 
-dots_differ : (n : ℕ) (log : List OpValue) → IsCausalLog n log → DotsDiffer log
+dots_differ : (n : ℕ) (log : List OpValue) → IsInTurn n log → DotsDiffer log
 dots_differ n [] c = tt
 dots_differ n (x ∷ log) c = (all_of (λ (y : OpValue). x.dot ≢ y.dot) log (λ y i e. not_older n x y log c.0 c.1 i e), dots_differ n log c.1)
 
@@ -53,12 +52,12 @@ insertion_parts x a e = at x.body refl e
     at (Commit p) f k = absurd cc
     at (Abort p) f k = absurd cc
 
-module _ (family : Family) (c : IsConsistent family) (site : ℕ) (some : 0 < site) (within : site ≤ length family) where
+module _ (family : Family) (c : IsConsistent family) (t : Moment family) where
   abbrev log : List OpValue
-  log = log_of family site
+  log = (machine_at family t).log
 
   op_of : (x : OpValue) → In x log → IsOpOf family x
-  op_of x i = record { site = site; some = some; within = within; inside = i }
+  op_of x i = op_at family c t x i
 
   causal : IsCausal log
   causal =
@@ -92,8 +91,8 @@ module _ (family : Family) (c : IsConsistent family) (site : ℕ) (some : 0 < si
       at Root e = tt
       at (At z bit) e =
           let p = insertion_parts i.op a i.is in
-          let h = named_of_past family c i.op (op_of i.op i.inside) z (ap named_atom e) in
-          let inside = past_in_log family c site some within i.op h.0 i.inside h.1 h.2 in
+          let h = inserted_in_past family c i.op (op_of i.op i.inside) z (ap named_atom e) in
+          let inside = past_in_log family c t i.op h.0 i.inside h.1 h.2 in
           let before : IsTrue (vector_has a.deps h.0.dot) = subst (λ (v : List ℕ). IsTrue (vector_has v h.0.dot)) (sym p.deps) h.2 in
           let dot : h.3.insertion.dot ≡ h.0.dot = (from_op h.0 h.3.insertion h.3.is).dot in
           (put_by h.0 z inside h.3, subst (λ (d : DotValue). IsTrue (vector_has a.deps d)) (sym dot) before)
@@ -102,11 +101,11 @@ module _ (family : Family) (c : IsConsistent family) (site : ℕ) (some : 0 < si
   pub deletes_atoms : DeletesAtoms log
   unfolding put_by
   deletes_atoms x target i e =
-      let h = named_of_past family c x (op_of x i) target (ap named_atom e) in
-      (put_by h.0 target (past_in_log family c site some within x h.0 i h.1 h.2) h.3, h.2)
+      let h = inserted_in_past family c x (op_of x i) target (ap named_atom e) in
+      (put_by h.0 target (past_in_log family c t x h.0 i h.1 h.2) h.3, h.2)
 
   pub well_rooted : IsWellRooted log
-  well_rooted = record { apart = dots_differ (length family) log (log_causal family c site some within); causal = causal; full = full; rooted = rooted }
+  well_rooted = record { apart = dots_differ (length family) log (log_in_turn family c t); causal = causal; full = full; rooted = rooted }
 
   pub lined_up_past : Successive (λ (x y : OpValue). ¬ IsTrue (in_past x y)) (line_up log)
   lined_up_past = past_before log causal

@@ -1,4 +1,4 @@
--- Logs: the operations that a replica made or took, the newest first, and the document that they leave.
+-- Logs: the operations that a replica made or took, the newest first.
 use Rattle.std.specs.Prelude.{◌≡◌, ◌≢◌, ◌↔◌, List, [], ◌∷◌, IsTrue}
 use Rattle.td_base.specs.Value.{DotValue, AtomIdValue}
 use Rattle.td_base.specs.Lists.{In}
@@ -6,16 +6,10 @@ use Rattle.td_clock.specs.Vector.{vector_has}
 use Rattle.td_op.specs.declared.body.Body.TheVariants.{Delete, Commit}
 use Rattle.td_op.specs.Op.{OpValue}
 use Rattle.td_op.specs.Past.{in_past}
-use Rattle.td_doc.specs.Document.{DocRow}
 use Rattle.td_doc.specs.Slots.{is_empty_slot}
-use Rattle.td_machine.specs.Making.{effect}
+use Rattle.td_machine.specs.Replay.{doc_of}
 use Rattle.td_op.specs.declared.insertion.Insertion.{Insertion}
 use Rattle.td_order.specs.Insertions.{IsAtomOf}
-
--- the document after these operations
-abbrev pub doc_of : List OpValue → List DocRow
-doc_of [] = []
-doc_of (x ∷ log) = effect log x.dot x.body (doc_of log)
 
 -- the operation can come next after the log
 pub record ComesNext (ops : List OpValue) (x : OpValue) (log : List OpValue) : Type 0 where

@@ -3,22 +3,15 @@ ghost use Rattle.std.specs.Prelude.{◌≡◌, List, [], ◌∷◌, map};
 ghost use Rattle.td_base.specs.Lists.{In};
 ghost use Rattle.td_op.specs.Op.{OpValue};
 ghost use Rattle.td_doc.specs.Document.{row_id, text_of};
-ghost use Rattle.td_machine.specs.Machine.{Machine};
-ghost use Rattle.td_machine.specs.History.{IsReached};
 ghost use Rattle.td_op.specs.declared.insertion.Insertion.{Insertion};
 ghost use Rattle.td_order.specs.Insertions.{IsInsertionOf};
 ghost use Rattle.td_order.specs.Order.{order};
 ghost use Rattle.td_order.specs.Show.{show};
 ghost use Rattle.td_order.specs.Causal.{IsWellRooted};
 ghost use Rattle.td_order.specs.Example.{atom};
-ghost use Rattle.td_merge.specs.Log.{doc_of, DeletesAtoms, IsCausalLog, NoCommit, WasFree};
+ghost use Rattle.td_machine.specs.Replay.{doc_of};
+ghost use Rattle.td_merge.specs.Log.{DeletesAtoms, IsCausalLog, NoCommit, WasFree};
 ghost use Rattle.td_merge.specs.Example.{b, c, operations, first_log, second_log, used_twice, used_twice_log};
-
-/// After every legal history a replica's document is the one that the operations of its log leave.
-#[tactic(auto, using(crate::proofs::MachineLog::doc_logged))]
-pub fn a_document_is_that_of_its_log()
-    ensures { (m : Machine) → IsReached m → m.doc ≡ doc_of m.log }
-{}
 
 /// Where each insertion was made in an empty slot and no slot is flattened: in whatever causal order a replica took the
 /// operations, the rows of its document are the atoms of the one order, in this order. Deletes move no row.

@@ -1,0 +1,64 @@
+-- Lemmas on choices, options and lists that know nothing of machines.
+use Rattle.std.proofs.Common.{◌≡◌, ℕ, zero, suc, List, [], ◌∷◌, ◌++◌, Bool, true, false, Option, Some, None, refl, sym, subst, inl, inr, true≢false, if◌then◌else◌}
+use Rattle.std.specs.Prelude.{slice_get}
+use Rattle.std.specs.Option.{is_some}
+use Rattle.td_base.specs.Lists.{In, Successive}
+use Rattle.td_base.proofs.Lists.{all_in, all_of}
+
+-- a choice has what both sides have under their tests
+pub either : {X : Type 0} (P : X → Type 0) (b : Bool) (x y : X) → (b ≡ true → P x) → (b ≡ false → P y)
+    → P (if b then x else y)
+either P true x y f g = f refl
+either P false x y f g = g refl
+
+pub some_same : {X : Type 0} (x y : X) → Some x ≡ Some y → x ≡ y
+some_same x y e = cc
+
+-- what an option has that has something
+pub some_of : {X : Type 0} (o : Option X) → is_some o ≡ true → (x : X) × (o ≡ Some x)
+some_of None h = absurd (true≢false (sym h))
+some_of (Some x) h = (x, refl)
+
+-- what stands at an index is in the list
+pub get_in : {X : Type 0} (xs : List X) (i : ℕ) (x : X) → slice_get xs i ≡ Some x → In x xs
+get_in [] i x e = absurd cc
+get_in (y ∷ xs) zero x e = inl (some_same x y (sym e))
+get_in (y ∷ xs) (suc i) x e = inr (get_in xs i x e)
+
+pub in_behind : {X : Type 0} (x : X) (front : List X) (y : X) (back : List X) → In x back → In x (front ++ y ∷ back)
+in_behind x [] y back i = inr i
+in_behind x (z ∷ front) y back i = inr (in_behind x front y back i)
+
+-- where an element stands
+pub record Split {X : Type 0} (x : X) (xs : List X) : Type 0 where
+  pub front : List X
+  pub back : List X
+  pub is : xs ≡ front ++ x ∷ back
+
+pub split_of : {X : Type 0} (x : X) (xs : List X) → In x xs → Split x xs
+split_of x [] i = absurd i
+split_of x (y ∷ xs) (inl e) = record { front = []; back = xs; is = λ k. sym e k ∷ xs }
+split_of x (y ∷ xs) (inr i) =
+    let s : Split x xs = split_of x xs i in record { front = y ∷ s.front; back = s.back; is = λ k. y ∷ s.is k }
+
+-- the parts of equal lists
+pub same_head : {X : Type 0} (x : X) (xs : List X) (y : X) (ys : List X) → x ∷ xs ≡ y ∷ ys → x ≡ y
+same_head x xs y ys e = cc
+
+pub same_tail : {X : Type 0} (x : X) (xs : List X) (y : X) (ys : List X) → x ∷ xs ≡ y ∷ ys → xs ≡ ys
+same_tail x xs y ys e = cc
+
+-- what follows among the elements of a list from what holds of its pairs
+pub successive_among : {X : Type 0} (R S : X → X → Type 0) (xs : List X)
+    → ((x y : X) → In x xs → In y xs → R x y → S x y) → Successive R xs → Successive S xs
+successive_among R S [] f s = tt
+successive_among R S (x ∷ xs) f s = (
+  all_of (S x) xs (λ y i. f x y (inl refl) (inr i) (all_in (R x) xs s.0 y i)),
+  successive_among R S xs (λ y z i j. f y z (inr i) (inr j)) s.1,
+)
+
+-- what holds of one and of each of the others holds of each of all
+pub one_more : {X : Type 0} (P : X → Type 0) (x : X) (xs : List X) → P x → ((y : X) → In y xs → P y)
+    → (y : X) → In y (x ∷ xs) → P y
+one_more P x xs h f y (inl e) = subst P (sym e) h
+one_more P x xs h f y (inr i) = f y i
