@@ -1,4 +1,5 @@
 pub mod Lists
+pub mod Elements
 pub mod Rising
 pub mod Searches
 pub mod AtomLemmas

@@ -3,7 +3,7 @@ use Rattle.std.proofs.Common.{◌≡◌, ◌<◌, ℕ, List, [], ◌∷◌, true
 use Rattle.std.proofs.lemmas.Bool.{ltb-false}
 use Rattle.std.specs.Prelude.{slice_get}
 use Rattle.std.specs.List.{find}
-use Rattle.std.specs.Option.{is_some, option_map, IfSome}
+use Rattle.std.specs.Option.{is_some, option_map, ForSome}
 use Rattle.td_base.specs.Value.{DotValue, AtomIdValue}
 use Rattle.td_base.proofs.Lists.{In-filter}
 use Rattle.td_path.specs.declared.slot.Slot.{Slot}
@@ -14,34 +14,30 @@ use Rattle.td_op.specs.declared.reply.Reply.TheVariants.{Position, Gone, NotOpen
 use Rattle.td_op.specs.Input.{IsRequest}
 use Rattle.td_doc.specs.Document.{DocRow, is_live, row_id, live_rows, live_id_at, find_row}
 use Rattle.td_doc.specs.Allocation.{alloc, anchor}
-use Rattle.td_doc.specs.Answers.{IsRow, IsRooted}
+use Rattle.td_doc.specs.Answers.{IsRow, is_rooted, is_live_found, is_live_id}
 use Rattle.td_doc.proofs.Rules.{in_found, alloc_rooted}
 use Rattle.td_doc.proofs.Typing.{anchor_row}
-use Rattle.td_machine.specs.Vote.{is_rooted}
 use Rattle.td_machine.specs.Decision.{Ballot, is_on, is_open}
 use Rattle.td_machine.specs.Machine.{Machine}
-use Rattle.td_machine.specs.Request.{Aim, Refuse, Do, GiveUp, aim, insert_aim, insert_aim_at, insert_aim_after, delete_aim, propose_aim, propose_aim_of, live_aim, cancel_aim, is_live_found, is_live_id, len}
-use Rattle.td_machine.proofs.Generic.{either, some_same, get_in}
+use Rattle.td_machine.specs.Request.{Aim, Refuse, Do, GiveUp, aim, insert_aim, insert_aim_at, insert_aim_after, delete_aim, propose_aim, propose_aim_of, live_aim, cancel_aim, len}
+use Rattle.td_base.proofs.Elements.{either, In-slice_get}
 use Rattle.td_machine.proofs.Parts.{RoomFor, IsOpenAt, MayMake}
+use Rattle.std.proofs.lemmas.Option.{same_Some}
 
 abbrev pub FitsAim : Machine → Aim → Type 0
 FitsAim m (Refuse reply) = Unit {0}
 FitsAim m (Do a) = a.held ≡ None → RoomFor a.room m → MayMake a.body m
 FitsAim m (GiveUp p) = IsOpenAt p m
 
-rooted_row : (rows : List DocRow) (s : Slot) → IsRooted rows s → is_rooted rows s ≡ true
-rooted_row rows Root h = refl
-rooted_row rows (At x bit) h = h
-
 -- a run placed after a row or at the start goes to a slot that is there
 placing : (run : List (List ℕ)) (o : Option AtomIdValue) (m : Machine) → 0 < length run
-    → IfSome o (IsRow m.doc) → FitsAim m (insert_aim run o m)
+    → ForSome o (IsRow m.doc) → FitsAim m (insert_aim run o m)
 placing run o m full row free room =
     record {
       after = o;
       allocated = refl;
       row = row;
-      rooted = rooted_row m.doc (alloc m.doc o) (alloc_rooted m.doc o row);
+      rooted = alloc_rooted m.doc o row;
       full = full;
       free = free;
       room = room;
@@ -60,10 +56,15 @@ live_row (Some r) h = refl
 
 placed_after : (run : List (List ℕ)) (o : Option AtomIdValue) (m : Machine) → 0 < length run
     → FitsAim m (insert_aim_after run o m)
-placed_after run None m full = placing run None m full tt
+placed_after run None m full = placing run None m full (λ x e. absurd (nothing x e))
+  where
+    nothing : (x : AtomIdValue) → None ≡ Some x → ⊥
+    nothing x e = cc
 placed_after run (Some x) m full =
     either (FitsAim m) (is_live_id m.doc x) (insert_aim run (Some x) m) (Refuse (Gone x))
-    (λ (e : is_live_id m.doc x ≡ true). placing run (Some x) m full (live_row (find_row x m.doc) e)) (λ e. tt)
+    (λ (e : is_live_id m.doc x ≡ true).
+    placing run (Some x) m full (λ y k. subst (IsRow m.doc) (same_Some x y k) (live_row (find_row x m.doc) e)))
+    (λ e. tt)
 
 removing : (x : AtomIdValue) (m : Machine) → is_some (find_row x m.doc) ≡ true → FitsAim m (delete_aim x m)
 removing x m row free room = record { row = row; free = free; room = room }
@@ -80,8 +81,8 @@ live_found rows index x e = at (slice_get (live_rows rows) index) refl e
         → is_some (find_row x rows) ≡ true
     at None k f = absurd cc
     at (Some r) k f =
-        subst (λ (y : AtomIdValue). is_some (find_row y rows) ≡ true) (some_same (row_id r) x f)
-        (in_found r rows (In-filter is_live r rows (get_in (live_rows rows) index r k)).0)
+        subst (λ (y : AtomIdValue). is_some (find_row y rows) ≡ true) (same_Some (row_id r) x f)
+        (in_found r rows (In-filter is_live r rows (In-slice_get (live_rows rows) index r k)).0)
 
 aimed_at : (aim : AtomIdValue → Machine → Aim) (index : ℕ) (m : Machine)
     → ((x : AtomIdValue) → is_some (find_row x m.doc) ≡ true → FitsAim m (aim x m))

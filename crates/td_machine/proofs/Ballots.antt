@@ -8,7 +8,7 @@ use Rattle.td_base.proofs.Searches.{find_In}
 use Rattle.td_base.proofs.Equals.{same_dot_true}
 use Rattle.td_base.specs.Equality.{same_dot}
 use Rattle.td_machine.specs.Decision.{Ballot, is_on, is_open, counted, count_open, revise, close}
-use Rattle.td_machine.proofs.Generic.{some_same}
+use Rattle.std.proofs.lemmas.Option.{same_Some}
 
 -- ---- how many are open
 
@@ -69,7 +69,7 @@ closes p commit b (x ∷ xs) f o = at (is_on p x) f (λ k. closes p commit b xs 
         → (find (is_on p) xs ≡ Some b → Closes p commit xs)
         → count_open ((if on then close commit x else x) ∷ revise p (close commit) xs) < count_open (x ∷ xs)
     at true e ih =
-        let here : is_open x ≡ true = ap is_open (some_same x b e) ∙ o in
+        let here : is_open x ≡ true = ap is_open (same_Some x b e) ∙ o in
         let less : count_open (revise p (close commit) xs) ≤ count_open xs = close_fewer p commit xs in
         let now : count_open (x ∷ xs) ≡ suc (count_open xs) =
         count_cons x xs ∙ ap (λ (z : Bool). one_if z (count_open xs)) here in
@@ -119,7 +119,7 @@ found_counted p voter says b (x ∷ xs) f = at (is_on p x) refl f (λ k. found_c
         ap
         (λ (t : Bool). if t then Some (counted voter says x) else find (is_on p) (revise p (counted voter says) xs))
         here
-        ∙ ap (λ (c : Ballot). Some (counted voter says c)) (some_same x b k)
+        ∙ ap (λ (c : Ballot). Some (counted voter says c)) (same_Some x b k)
     at false e k ih =
         ap (λ (t : Bool). if t then Some x else find (is_on p) (revise p (counted voter says) xs)) e ∙ ih k
 

@@ -36,7 +36,6 @@ use Rattle.td_machine.specs.Replay.{doc_of}
 use Rattle.td_machine.proofs.Parts.{IsBuilt, by_operations}
 use Rattle.td_machine.proofs.Turns.{comes_next}
 use Rattle.td_machine.proofs.Vectors.{bump_same, bump_covers}
-use Rattle.td_base.proofs.RunIds.{run_atom_dot}
 
 -- ---- the identities of rows after an operation
 
@@ -83,7 +82,7 @@ module _ (P : AtomIdValue → Type 0) where
 insert_document : (slot : Slot) (dot : DotValue) (run : List (List ℕ)) (rows : List DocRow) → IsDocument rows
     → IsFresh rows dot
     → IsDocument (insert_run slot dot run rows)
-insert_document Root dot run rows d fresh = run_keeps rows Root dot run d fresh tt
+insert_document Root dot run rows d fresh = run_keeps rows Root dot run d fresh refl
 insert_document (At x bit) dot run rows d fresh = at (find_row x rows) refl
   where
     at : (o : Option DocRow) → find_row x rows ≡ o → IsDocument (insert_run (At x bit) dot run rows)

@@ -20,7 +20,7 @@ use Rattle.td_op.specs.Insertion.{Inserts}
 use Rattle.td_machine.specs.Counts.{counts, ops_of, IsNext, IsInTurn}
 use Rattle.td_machine.specs.Machine.{Machine, next_op}
 use Rattle.td_machine.specs.History.{Family, Moment, IsConsistent, IsOpOf, machine_at, log_of}
-use Rattle.td_machine.proofs.Generic.{in_behind, split_of, Split}
+use Rattle.td_base.proofs.Elements.{In-behind, cut_at, CutAt}
 use Rattle.td_machine.proofs.Vectors.{bump_covers}
 use Rattle.td_machine.proofs.Parts.{Part, Makes, Proposes, Takes, Agrees, Declines, IsBuilt, IsDone, Own, Other, by_parts}
 use Rattle.td_machine.proofs.Turns.{length_counts, placed, counted, by_each}
@@ -69,7 +69,7 @@ unique n x y (z ∷ log) c (inr i) (inr j) e = unique n x y log c.1 i j e
 pub counted_had : (n : ℕ) (y : OpValue) (log : List OpValue) → IsInTurn n log → In y log
     → IsTrue (vector_has (counts n log) y.dot)
 counted_had n y log c i =
-    let s : Split y log = split_of y log i in
+    let s : CutAt y log = cut_at y log i in
     let next = (older_in_turn n s.front y s.back (subst (λ (l : List OpValue). IsInTurn n l) s.is c)).0 in
     let within : y.dot.site ≤ length (counts n s.back) = next.within in
     let size : length (counts n s.back) ≡ n = length_counts n s.back in
@@ -189,7 +189,7 @@ module _ (family : Family) (c : IsConsistent family) where
   made_then t x i =
       let m : Machine = machine_at family t in
       let b = built_at family c t in
-      let s : Split x m.log = split_of x m.log i in
+      let s : CutAt x m.log = cut_at x m.log i in
       ⊎_elim (λ (k : Made x). k)
       (λ (e : x.dot.site ≡ m.site).
       let own : t.site ≡ x.dot.site = sym (e ∙ (placed m b).2) in (
@@ -221,7 +221,7 @@ module _ (family : Family) (c : IsConsistent family) where
   place : (x : OpValue) → IsOpOf family x → Place x
   place x o =
       let m : Made x = made_there x o in
-      let s : Split x (log_of family x.dot.site) = split_of x (log_of family x.dot.site) m.1 in
+      let s : CutAt x (log_of family x.dot.site) = cut_at x (log_of family x.dot.site) m.1 in
       let k =
       older_in_turn n s.front x s.back
       (subst (λ (log : List OpValue). IsInTurn n log) s.is (log_in_turn (end x.dot.site m.0))) in
@@ -249,7 +249,7 @@ module _ (family : Family) (c : IsConsistent family) where
       let my : Made y = made_there y o in
       let f : Found y.dot older = past_found n x older p.0 p.1 y.dot my.0.0 (positive y o) past in
       let inside : In f.op (machine_at family t).log =
-      subst (λ (log : List OpValue). In f.op log) (sym is) (in_behind f.op newer x older f.inside) in
+      subst (λ (log : List OpValue). In f.op log) (sym is) (In-behind f.op newer x older f.inside) in
       let there : In f.op (log_of family y.dot.site) =
       subst (λ (d : DotValue). In f.op (log_of family d.site)) f.is (made_then t f.op inside).1 in
       subst (λ (z : OpValue). In z older)
@@ -260,9 +260,9 @@ module _ (family : Family) (c : IsConsistent family) where
       → IsTrue (in_past y x)
       → In y (machine_at family t).log
   past_in_log t x y i o past =
-      let s : Split x (machine_at family t).log = split_of x (machine_at family t).log i in
+      let s : CutAt x (machine_at family t).log = cut_at x (machine_at family t).log i in
       subst (λ (log : List OpValue). In y log) (sym s.is)
-      (in_behind y s.front x s.back (past_in_older t s.front x s.back s.is y o past))
+      (In-behind y s.front x s.back (past_in_older t s.front x s.back s.is y o past))
 
   -- where it was made an operation knew all that was older there
   pub older_in_past : (newer : List OpValue) (x : OpValue) (older : List OpValue)
@@ -280,8 +280,8 @@ module _ (family : Family) (c : IsConsistent family) where
       → IsTrue (vector_covers y.deps x.deps)
   past_covered x y o q past =
       let p : Place y = place y q in
-      let s : Split x p.older =
-      split_of x p.older (past_in_older (end y.dot.site (made_there y q).0) p.newer y p.older p.is x o past) in
+      let s : CutAt x p.older =
+      cut_at x p.older (past_in_older (end y.dot.site (made_there y q).0) p.newer y p.older p.is x o past) in
       let split : p.older ≡ (s.front ++ x ∷ []) ++ s.back = s.is ∙ sym (append_assoc s.front (x ∷ []) s.back) in
       let next : IsNext (counts n s.back) x =
       (older_in_turn n s.front x s.back (subst (λ (log : List OpValue). IsInTurn n log) s.is p.turn)).0 in
@@ -316,7 +316,7 @@ module _ (family : Family) (c : IsConsistent family) where
   sound_of : (x : OpValue) → IsOpOf family x → IsSound x
   sound_of x o =
       let t : Moment family = end o.site (o.some, o.within) in
-      let s : Split x (log_of family o.site) = split_of x (log_of family o.site) o.inside in
+      let s : CutAt x (log_of family o.site) = cut_at x (log_of family o.site) o.inside in
       sound (machine_at family t) (built_at family c t) s.front x s.back s.is
 
   pub valid_of : (x : OpValue) → IsOpOf family x → IsOp x
@@ -336,7 +336,7 @@ module _ (family : Family) (c : IsConsistent family) where
       let p : Place x = place x o in
       let y = names m b p.newer x p.older p.is (sym (placed m b).2) z e in
       let inside : In y.0 (log_of family x.dot.site) =
-      subst (λ (log : List OpValue). In y.0 log) (sym p.is) (in_behind y.0 p.newer x p.older y.1) in
+      subst (λ (log : List OpValue). In y.0 log) (sym p.is) (In-behind y.0 p.newer x p.older y.1) in
       (y.0, op_at t y.0 inside, older_in_past p.newer x p.older p.is o y.0 y.1, y.2)
 
   -- and it was made there

@@ -25,7 +25,8 @@ use Rattle.td_doc.proofs.ApartSlots.{overlaps_mutual}
 use Rattle.td_base.specs.Equality.{same_dot}
 use Rattle.td_machine.specs.Log.{Committed, proposed, proposed_slot, commits, is_undecided_of}
 use Rattle.td_machine.specs.Hold.{Hold, least_dot, held_by, is_of, is_held, release}
-use Rattle.td_machine.specs.Vote.{is_rooted, is_apart}
+use Rattle.td_machine.specs.Vote.{is_apart}
+use Rattle.td_doc.specs.Answers.{is_rooted}
 use Rattle.td_machine.specs.Decision.{Ballot, is_open, counted, revise, close, new_ballot}
 use Rattle.td_machine.specs.Counts.{IsNext}
 use Rattle.td_machine.specs.Machine.{Machine, next_dot, next_op}
@@ -36,7 +37,8 @@ use Rattle.td_base.proofs.Equals.{same_dot_refl, same_dot_true, same_dot_other}
 use Rattle.td_machine.proofs.Ballots.{find_ballot, closed_in, counted_in}
 use Rattle.td_machine.proofs.Parts.{MayMake, IsProposing, IsOpenAt, IsBuilt, Goes, Part, Makes, Proposes, Counts, Takes, Agrees, Declines, Own, Other, proposed_here, by_parts}
 use Rattle.td_machine.proofs.Turns.{comes_next}
-use Rattle.td_machine.proofs.Generic.{some_same, one_more, successive_among}
+use Rattle.std.proofs.lemmas.Option.{same_Some}
+use Rattle.td_base.proofs.Elements.{one_more, successive_among}
 use Rattle.td_machine.proofs.Documents.{documents}
 use Rattle.td_machine.proofs.Stays.{SlotStays, insert_stays, delete_stays, rooted_stays, overlap_same, apart_stays}
 
@@ -265,7 +267,7 @@ fit_may site (Commit p) m e = at (is_undecided_of site p m.log) (is_held p m.hol
 
 -- the body of a proposal
 proposal_is : (slot : Slot) (body : Body) → proposed body ≡ Some slot → body ≡ Propose slot
-proposal_is slot (Propose s) e = ap (λ (t : Slot). Propose t) (some_same s slot e)
+proposal_is slot (Propose s) e = ap (λ (t : Slot). Propose t) (same_Some s slot e)
 proposal_is slot (Insert s run) e = absurd cc
 proposal_is slot (Delete target) e = absurd cc
 proposal_is slot (Abort p) e = absurd cc

@@ -1,4 +1,3 @@
-pub mod Generic
 pub mod Vectors
 pub mod Ballots
 pub mod Parts

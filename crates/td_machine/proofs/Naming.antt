@@ -18,12 +18,13 @@ use Rattle.td_op.proofs.InsertionLemmas.{inserted_dot}
 use Rattle.td_base.specs.RunAtoms.{NamedAtom, run_atoms}
 use Rattle.td_base.proofs.Lists.{In-map}
 use Rattle.td_path.specs.Slot.{slot_atom}
-use Rattle.td_machine.specs.Vote.{is_rooted}
+use Rattle.td_doc.specs.Answers.{is_rooted}
 use Rattle.td_machine.specs.Decision.{Ballot, revise, close, new_ballot}
 use Rattle.td_machine.specs.Counts.{counts, IsInTurn}
 use Rattle.td_machine.specs.Machine.{Machine, next_dot, next_op}
 use Rattle.td_machine.specs.Making.{ballots_after}
-use Rattle.td_machine.proofs.Generic.{one_more, some_same, some_of, split_of, Split}
+use Rattle.td_base.proofs.Elements.{one_more, some_of, cut_at, CutAt}
+use Rattle.std.proofs.lemmas.Option.{same_Some}
 use Rattle.td_machine.proofs.Ballots.{find_ballot, revised_in, counted_in}
 use Rattle.td_machine.proofs.Parts.{IsOpenAt, MayMake, Part, Makes, Proposes, Counts, Takes, Agrees, Declines, IsBuilt, IsDone, Own, Other, by_parts, by_operations}
 use Rattle.td_machine.proofs.Turns.{length_counts, placed, counted, length_have, comes_next, by_each}
@@ -73,7 +74,7 @@ row_inserted m atoms z h =
 slot_inserted : (m : Machine) → ((r : DocRow) → In r m.doc → IsInserted m.log (row_id r)) → (slot : Slot)
     → is_rooted m.doc slot ≡ true → (z : AtomIdValue) → slot_atom slot ≡ Some z → IsInserted m.log z
 slot_inserted m atoms Root h z e = absurd cc
-slot_inserted m atoms (At x bit) h z e = subst (IsInserted m.log) (some_same x z e) (row_inserted m atoms x h)
+slot_inserted m atoms (At x bit) h z e = subst (IsInserted m.log) (same_Some x z e) (row_inserted m atoms x h)
 
 own_full : (body : Body) (m : Machine) → MayMake body m → (slot : Slot) (run : List (List ℕ)) → body ≡ Insert slot run
     → 0 < length run
@@ -123,7 +124,7 @@ module _ {Came : Message → Type 0} {site size : ℕ} where
 
   own_names : (body : Body) (m : Machine) → IsBuilt Came site size m → MayMake body m → NamesIn m.log (next_op m body)
   own_names (Insert slot run) m b may z e = slot_inserted m (atoms m b) slot may.rooted z e
-  own_names (Delete x) m b may z e = subst (IsInserted m.log) (some_same x z e) (row_inserted m (atoms m b) x may.row)
+  own_names (Delete x) m b may z e = subst (IsInserted m.log) (same_Some x z e) (row_inserted m (atoms m b) x may.row)
   own_names (Propose slot) m b may z e = slot_inserted m (atoms m b) slot may.rooted z e
   own_names (Commit p) m b may z e = absurd cc
   own_names (Abort p) m b may z e = absurd cc
@@ -132,7 +133,7 @@ module _ {Came : Message → Type 0} {site size : ℕ} where
   inserted_site : (m : Machine) → IsBuilt Came site size m → (z : AtomIdValue) → IsInserted m.log z
       → z.dot.site ≤ length m.have
   inserted_site m b z h =
-      let split : Split h.0 m.log = split_of h.0 m.log h.1 in
+      let split : CutAt h.0 m.log = cut_at h.0 m.log h.1 in
       let next =
       older_in_turn m.size split.front h.0 split.back
       (subst (λ (log : List OpValue). IsInTurn m.size log) split.is (counted m b).1) in

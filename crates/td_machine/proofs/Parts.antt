@@ -2,7 +2,7 @@
 -- part keeps, holds of each machine that is built of them; and so for what an operation alone changes.
 use Rattle.std.proofs.Common.{◌≡◌, ◌≢◌, ◌<◌, ◌≤◌, ◌+◌, ◌||◌, ℕ, List, [], ◌∷◌, Bool, true, false, length, replicate, Option, Some, None}
 use Rattle.std.specs.List.{find}
-use Rattle.std.specs.Option.{is_some, IfSome}
+use Rattle.std.specs.Option.{is_some, ForSome}
 use Rattle.td_base.specs.Value.{DotValue, AtomIdValue}
 use Rattle.td_base.specs.declared.dot.TheConstants.{MAX_SEQ}
 use Rattle.td_base.specs.Lists.{In}
@@ -17,11 +17,10 @@ use Rattle.td_op.specs.Op.{OpValue}
 use Rattle.td_op.specs.Message.{IsOpValue, IsVote}
 use Rattle.td_doc.specs.Document.{DocRow, find_row}
 use Rattle.td_doc.specs.Allocation.{alloc}
-use Rattle.td_doc.specs.Answers.{IsRow}
+use Rattle.td_doc.specs.Answers.{IsRow, is_rooted}
 use Rattle.td_machine.specs.Ready.{is_had, is_ready, waits}
 use Rattle.td_machine.specs.Log.{proposed}
 use Rattle.td_machine.specs.Hold.{held_slot, held_row, held_over}
-use Rattle.td_machine.specs.Vote.{is_rooted}
 use Rattle.td_machine.specs.Decision.{Ballot, is_on, is_open, is_counted, counted, revise}
 use Rattle.td_machine.specs.Machine.{Machine, start, made, undecided, next_dot, next_op}
 use Rattle.td_machine.specs.Making.{effect, done, make, send, hold, open_ballot}
@@ -37,7 +36,7 @@ RoomFor k m = made m + undecided m + k ≤ MAX_SEQ
 pub record IsPlacing (slot : Slot) (run : List (List ℕ)) (m : Machine) : Type 0 where
   pub after : Option AtomIdValue
   pub allocated : slot ≡ alloc m.doc after
-  pub row : IfSome after (IsRow m.doc)
+  pub row : ForSome after (IsRow m.doc)
   pub rooted : is_rooted m.doc slot ≡ true
   pub full : 0 < length run
   pub free : held_slot m.doc slot m.holds ≡ None

@@ -9,12 +9,12 @@ use Rattle.td_op.specs.Op.{OpValue}
 use Rattle.td_doc.specs.Document.{IsDocument}
 use Rattle.td_doc.specs.Slots.{overlaps}
 use Rattle.td_machine.specs.Hold.{Hold}
-use Rattle.td_machine.specs.Vote.{is_rooted}
+use Rattle.td_doc.specs.Answers.{is_rooted}
 use Rattle.td_machine.specs.Counts.{counts, ops_of, IsNext, IsInTurn}
 use Rattle.td_machine.specs.Machine.{Machine, made, undecided}
 use Rattle.td_machine.specs.Replay.{doc_of}
 use Rattle.td_machine.specs.History.{IsReached}
-use Rattle.td_machine.proofs.Generic.{split_of, Split}
+use Rattle.td_base.proofs.Elements.{cut_at, CutAt}
 use Rattle.td_machine.proofs.Parts.{RoomFor, IsOffered, IsBuilt}
 use Rattle.td_machine.proofs.Walk.{offered}
 use Rattle.td_machine.proofs.Turns.{length_counts, counted}
@@ -56,7 +56,7 @@ module _ (m : Machine) (r : IsReached m) where
   -- what is made or taken has a dot of one of the sites
   pub of_sites : (x : OpValue) → In x m.log → (0 < x.dot.site) × (x.dot.site ≤ m.size) × (0 < x.dot.seq)
   of_sites x i =
-      let s : Split x m.log = split_of x m.log i in
+      let s : CutAt x m.log = cut_at x m.log i in
       let o = older s.front x s.back s.is in
       let next : IsNext (counts m.size s.back) x = o.0 in
       let within : x.dot.site ≤ length (counts m.size s.back) = next.within in

@@ -23,8 +23,8 @@ use Rattle.td_doc.proofs.PutRows.{puts_in}
 use Rattle.td_doc.proofs.Rules.{found}
 use Rattle.td_doc.proofs.Flattened.{stays_beside, flatten_document}
 use Rattle.td_doc.proofs.SubtreeRows.{find_in, within_is}
-use Rattle.td_machine.specs.Vote.{is_rooted}
-use Rattle.td_machine.proofs.Generic.{some_of}
+use Rattle.td_doc.specs.Answers.{is_rooted}
+use Rattle.td_base.proofs.Elements.{some_of}
 
 -- the row x is there afterwards, with its path
 abbrev pub Stays : List DocRow → List DocRow → AtomIdValue → Type 0

@@ -24,7 +24,8 @@ use Rattle.td_machine.specs.Making.{decide}
 use Rattle.td_machine.specs.Taking.{Stepped, stepped, misfit, take, keep_waiting, fit_step, op_step, count, ballot_step, vote_step, forget, waited, next_of}
 use Rattle.td_machine.specs.Request.{Aim, Attempt, Refuse, Do, GiveUp, aim, is_past_limit, attempt_step, aim_step, perform}
 use Rattle.td_machine.specs.Step.{step}
-use Rattle.td_machine.proofs.Generic.{either, some_same}
+use Rattle.td_base.proofs.Elements.{either}
+use Rattle.std.proofs.lemmas.Option.{same_Some}
 
 -- an operation is of another site, for so many sites, and new
 pub record IsForeign (m : Machine) (x : OpValue) : Type 0 where
@@ -69,7 +70,7 @@ least_in : (ops : List OpValue) (y : OpValue) → least_op ops ≡ Some y → In
 least_in [] y e = absurd cc
 least_in (x ∷ ops) y e =
     ⊎_elim (λ (k : y ≡ x). inl k) (λ (k : least_op ops ≡ Some y). inr (least_in ops y k))
-    (smaller_in x (least_op ops) y (some_same (smaller_op x (least_op ops)) y e))
+    (smaller_in x (least_op ops) y (same_Some (smaller_op x (least_op ops)) y e))
 
 module _ (m : Machine) (P : Stepped → Type 0) where
   of_request : (request : Request) (a : Aim) → aim request m ≡ a → Kinds m (Local request) P → P (aim_step a m)

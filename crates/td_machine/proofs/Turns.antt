@@ -10,7 +10,7 @@ use Rattle.td_op.specs.Op.{OpValue}
 use Rattle.td_machine.specs.Ready.{is_had}
 use Rattle.td_machine.specs.Counts.{counts, IsNext, IsInTurn}
 use Rattle.td_machine.specs.Machine.{Machine}
-use Rattle.td_machine.proofs.Generic.{same_head, same_tail}
+use Rattle.td_base.proofs.Elements.{same_head, same_tail}
 use Rattle.td_machine.proofs.Parts.{IsFit, IsBuilt, IsDone, Own, Other, by_operations}
 
 pub length_counts : (n : ℕ) (log : List OpValue) → length (counts n log) ≡ n

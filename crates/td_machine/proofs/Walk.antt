@@ -26,7 +26,7 @@ use Rattle.td_machine.specs.Making.{done, decide}
 use Rattle.td_machine.specs.Taking.{Stepped, answer, body_misfit, misfit, vote_on, take_as, count, forget}
 use Rattle.td_machine.specs.Request.{Aim, Do, GiveUp, aim, perform}
 use Rattle.td_machine.specs.Step.{step}
-use Rattle.td_machine.proofs.Generic.{one_more}
+use Rattle.td_base.proofs.Elements.{one_more}
 use Rattle.td_machine.proofs.Parts.{MayMake, IsOpenAt, IsOffered, IsFit, IsCounting, Part, Makes, Proposes, Counts, Takes, Agrees, Declines, Delays, Forgets, IsBuilt, Goes, proposed_here, by_parts}
 use Rattle.td_machine.proofs.Aims.{FitsAim, aimed}
 use Rattle.td_machine.proofs.StepKinds.{IsForeign, by_kinds}

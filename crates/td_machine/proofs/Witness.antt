@@ -15,7 +15,7 @@ use Rattle.td_machine.specs.Machine.{Machine, start, made}
 use Rattle.td_machine.specs.Step.{step}
 use Rattle.td_machine.specs.Stage.{at_place}
 use Rattle.td_machine.specs.History.{History, Family, after, history, machine, sender, known_of, IsAddressed, IsLegalFrom, IsConsistent, MayCome}
-use Rattle.td_machine.proofs.Generic.{some_same}
+use Rattle.std.proofs.lemmas.Option.{same_Some}
 use Rattle.td_machine.proofs.Ranges.{message_fits, message_from}
 
 -- an entry that a site of the family can have at its machine m
@@ -82,7 +82,7 @@ may_come site m message =
 
 in_place : {X : Type 0} (k : ℕ) (xs : List X) (x : X) → at_place k xs ≡ Some x → In x xs
 in_place k [] x h = absurd cc
-in_place zero (y ∷ xs) x h = inl (some_same x y (sym h))
+in_place zero (y ∷ xs) x h = inl (same_Some x y (sym h))
 in_place (suc k) (y ∷ xs) x h = inr (in_place k xs x h)
 
 -- the message is the k-th, from 0, that its sender sent

@@ -11,10 +11,10 @@ use Rattle.td_op.specs.declared.request.Request.{Request}
 use Rattle.td_op.specs.declared.request.Request.TheVariants.{Insert, InsertAfter, Paste, PasteAfter, Delete, DeleteAtom, Propose, ProposeAt, Cancel}
 use Rattle.td_op.specs.declared.reply.Reply.{Reply}
 use Rattle.td_op.specs.declared.reply.Reply.TheVariants.{Made, Cancelled, Held, Position, Gone, Limit, NotOpen}
-use Rattle.td_doc.specs.Document.{DocRow, is_live, live_rows, live_id_at, find_row}
+use Rattle.td_doc.specs.Document.{live_rows, live_id_at}
 use Rattle.td_doc.specs.Allocation.{alloc, anchor}
 use Rattle.td_machine.specs.Hold.{held_slot, held_row, held_over}
-use Rattle.td_machine.specs.Vote.{is_rooted}
+use Rattle.td_doc.specs.Answers.{is_rooted, is_live_id}
 use Rattle.td_machine.specs.Decision.{Ballot, is_on, is_open}
 use Rattle.td_machine.specs.Machine.{Machine, made, undecided, next_dot}
 use Rattle.td_machine.specs.Making.{make, propose, decide}
@@ -58,14 +58,6 @@ len m = length (live_rows m.doc)
 abbrev pub insert_aim_at : List (List ℕ) → ℕ → Machine → Aim
 insert_aim_at run index m =
     if nat_lt (len m) index then Refuse (Position (len m)) else insert_aim run (anchor m.doc index) m
-
-abbrev pub is_live_found : Option DocRow → Bool
-is_live_found None = false
-is_live_found (Some r) = is_live r
-
--- x is a live row
-abbrev pub is_live_id : List DocRow → AtomIdValue → Bool
-is_live_id rows x = is_live_found (find_row x rows)
 
 abbrev pub insert_aim_after : List (List ℕ) → Option AtomIdValue → Machine → Aim
 insert_aim_after run None m = insert_aim run None m

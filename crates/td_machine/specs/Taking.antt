@@ -19,7 +19,8 @@ use Rattle.td_doc.specs.Document.{find_row}
 use Rattle.td_machine.specs.Ready.{is_had, is_ready, next_ready, waits, without}
 use Rattle.td_machine.specs.Log.{proposed, commits, is_undecided_of}
 use Rattle.td_machine.specs.Hold.{is_held}
-use Rattle.td_machine.specs.Vote.{is_rooted, votes_yes}
+use Rattle.td_machine.specs.Vote.{votes_yes}
+use Rattle.td_doc.specs.Answers.{is_rooted}
 use Rattle.td_machine.specs.Decision.{Ballot, is_on, is_counted, counted, outcome, revise}
 use Rattle.td_machine.specs.Machine.{Machine, made}
 use Rattle.td_machine.specs.Making.{done, send, decide, hold}

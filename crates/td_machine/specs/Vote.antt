@@ -1,19 +1,13 @@
 -- The vote rule: a site says Yes to a proposal of a slot only where nothing that it knows is concurrent with it there.
-use Rattle.std.specs.Prelude.{ℕ, List, Bool, true, ◌&&◌, ◌||◌, not}
+use Rattle.std.specs.Prelude.{ℕ, List, Bool, ◌&&◌, ◌||◌, not}
 use Rattle.std.specs.List.{list_any, list_all}
-use Rattle.std.specs.Option.{is_some}
 use Rattle.td_clock.specs.Vector.{vector_has}
 use Rattle.td_path.specs.declared.slot.Slot.{Slot}
-use Rattle.td_path.specs.declared.slot.Slot.TheVariants.{Root, At}
-use Rattle.td_doc.specs.Document.{DocRow, find_row}
+use Rattle.td_doc.specs.Document.{DocRow}
 use Rattle.td_doc.specs.Slots.{overlaps, is_known}
+use Rattle.td_doc.specs.Answers.{is_rooted}
 use Rattle.td_machine.specs.Log.{Committed}
 use Rattle.td_machine.specs.Hold.{Hold}
-
--- the slot is the root, or its atom is a row
-abbrev pub is_rooted : List DocRow → Slot → Bool
-is_rooted rows Root = true
-is_rooted rows (At x bit) = is_some (find_row x rows)
 
 -- the commit has a slot that can still be told, and that lies apart from the one proposed
 abbrev pub is_apart : List DocRow → Slot → Committed → Bool

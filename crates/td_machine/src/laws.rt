@@ -18,7 +18,7 @@ ghost use Rattle.td_doc.specs.Slots.{overlaps};
 ghost use Rattle.td_machine.specs.Counts.{ops_of};
 ghost use Rattle.td_op.specs.Insertion.{Inserts};
 ghost use Rattle.td_machine.specs.Hold.{Hold};
-ghost use Rattle.td_machine.specs.Vote.{is_rooted};
+ghost use Rattle.td_doc.specs.Answers.{is_rooted};
 ghost use Rattle.td_machine.specs.Machine.{Machine, start, made, undecided};
 ghost use Rattle.td_machine.specs.Step.{step, IsRefusal};
 ghost use Rattle.td_machine.specs.Replay.{doc_of};

@@ -15,7 +15,7 @@ use Rattle.td_machine.specs.Counts.{IsInTurn}
 use Rattle.td_machine.specs.Machine.{Machine}
 use Rattle.td_machine.specs.Replay.{doc_of}
 use Rattle.td_machine.specs.History.{Family, Moment, IsConsistent, IsOpOf, machine_at}
-use Rattle.td_machine.proofs.Generic.{in_behind, split_of, Split}
+use Rattle.td_base.proofs.Elements.{In-behind, cut_at, CutAt}
 use Rattle.td_machine.proofs.Parts.{MayMake, IsBuilt, IsDone, Own, Other}
 use Rattle.td_machine.proofs.Turns.{placed, by_each}
 use Rattle.td_machine.proofs.Counting.{older_in_turn}
@@ -88,10 +88,10 @@ module _ (family : Family) (c : IsConsistent family) (t : Moment family) where
       let home : Moment family = the_end family x.dot.site made.0 made.1 in
       let m : Machine = machine_at family home in
       let b = built_at family c home in
-      let s : Split x m.log = split_of x m.log made.2 in
+      let s : CutAt x m.log = cut_at x m.log made.2 in
       let p = insertion_parts x a i.is in
       let known : (y : OpValue) → In y s.back → IsOpOf family y =
-      λ y j. op_at family c home y (subst (λ (l : List OpValue). In y l) (sym s.is) (in_behind y s.front x s.back j)) in
+      λ y j. op_at family c home y (subst (λ (l : List OpValue). In y l) (sym s.is) (In-behind y s.front x s.back j)) in
       record {
         log = s.back;
         causal = part_causal home (s.front ++ x ∷ []) s.back (s.is ∙ sym (append_assoc s.front (x ∷ []) s.back))

@@ -1,7 +1,8 @@
--- Lemmas on choices, options and lists that know nothing of machines.
+-- Choices, options, and the elements of a list.
 use Rattle.std.proofs.Common.{◌≡◌, ℕ, zero, suc, List, [], ◌∷◌, ◌++◌, Bool, true, false, Option, Some, None, refl, sym, subst, inl, inr, true≢false, if◌then◌else◌}
 use Rattle.std.specs.Prelude.{slice_get}
 use Rattle.std.specs.Option.{is_some}
+use Rattle.std.proofs.lemmas.Option.{same_Some}
 use Rattle.td_base.specs.Lists.{In, Successive}
 use Rattle.td_base.proofs.Lists.{all_in, all_of}
 
@@ -11,35 +12,32 @@ pub either : {X : Type 0} (P : X → Type 0) (b : Bool) (x y : X) → (b ≡ tru
 either P true x y f g = f refl
 either P false x y f g = g refl
 
-pub some_same : {X : Type 0} (x y : X) → Some x ≡ Some y → x ≡ y
-some_same x y e = cc
-
 -- what an option has that has something
 pub some_of : {X : Type 0} (o : Option X) → is_some o ≡ true → (x : X) × (o ≡ Some x)
 some_of None h = absurd (true≢false (sym h))
 some_of (Some x) h = (x, refl)
 
 -- what stands at an index is in the list
-pub get_in : {X : Type 0} (xs : List X) (i : ℕ) (x : X) → slice_get xs i ≡ Some x → In x xs
-get_in [] i x e = absurd cc
-get_in (y ∷ xs) zero x e = inl (some_same x y (sym e))
-get_in (y ∷ xs) (suc i) x e = inr (get_in xs i x e)
+pub In-slice_get : {X : Type 0} (xs : List X) (i : ℕ) (x : X) → slice_get xs i ≡ Some x → In x xs
+In-slice_get [] i x e = absurd cc
+In-slice_get (y ∷ xs) zero x e = inl (same_Some x y (sym e))
+In-slice_get (y ∷ xs) (suc i) x e = inr (In-slice_get xs i x e)
 
-pub in_behind : {X : Type 0} (x : X) (front : List X) (y : X) (back : List X) → In x back → In x (front ++ y ∷ back)
-in_behind x [] y back i = inr i
-in_behind x (z ∷ front) y back i = inr (in_behind x front y back i)
+pub In-behind : {X : Type 0} (x : X) (front : List X) (y : X) (back : List X) → In x back → In x (front ++ y ∷ back)
+In-behind x [] y back i = inr i
+In-behind x (z ∷ front) y back i = inr (In-behind x front y back i)
 
 -- where an element stands
-pub record Split {X : Type 0} (x : X) (xs : List X) : Type 0 where
+pub record CutAt {X : Type 0} (x : X) (xs : List X) : Type 0 where
   pub front : List X
   pub back : List X
   pub is : xs ≡ front ++ x ∷ back
 
-pub split_of : {X : Type 0} (x : X) (xs : List X) → In x xs → Split x xs
-split_of x [] i = absurd i
-split_of x (y ∷ xs) (inl e) = record { front = []; back = xs; is = λ k. sym e k ∷ xs }
-split_of x (y ∷ xs) (inr i) =
-    let s : Split x xs = split_of x xs i in record { front = y ∷ s.front; back = s.back; is = λ k. y ∷ s.is k }
+pub cut_at : {X : Type 0} (x : X) (xs : List X) → In x xs → CutAt x xs
+cut_at x [] i = absurd i
+cut_at x (y ∷ xs) (inl e) = record { front = []; back = xs; is = λ k. sym e k ∷ xs }
+cut_at x (y ∷ xs) (inr i) =
+    let s : CutAt x xs = cut_at x xs i in record { front = y ∷ s.front; back = s.back; is = λ k. y ∷ s.is k }
 
 -- the parts of equal lists
 pub same_head : {X : Type 0} (x : X) (xs : List X) (y : X) (ys : List X) → x ∷ xs ≡ y ∷ ys → x ≡ y
