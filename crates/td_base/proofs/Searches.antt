@@ -1,10 +1,11 @@
 -- What is found in a list, what passes a test, and what a filter keeps.
-use Rattle.std.proofs.Common.{◌≡◌, ◌≤◌, ℕ, List, [], ◌∷◌, Bool, true, false, cond, not, map, filter, length, take, drop, nat_lt, Some, None, refl, sym, ap, ◌∙◌, subst, inl, inr, ⊎_elim, true≢false, arith, take-append-drop}
+use Rattle.std.proofs.Common.{◌≡◌, ◌≤◌, ℕ, List, [], ◌∷◌, ◌++◌, Bool, true, false, ◌&&◌, ◌||◌, ◌+◌, suc, cond, not, map, filter, length, take, drop, nat_lt, Option, Some, None, append-nil, refl, sym, ap, ◌∙◌, subst, inl, inr, ⊎_elim, true≢false, arith, take-append-drop}
 use Rattle.std.proofs.lemmas.Bool.{and_parts}
 use Rattle.std.proofs.lemmas.Bool.Decides.{nat_tests}
+use Rattle.std.proofs.lemmas.List.Elements.{filter-append}
 use Rattle.std.proofs.lemmas.List.Sums.{prefix_len-le-length}
-use Rattle.std.specs.Prelude.{find, unwrap_or}
-use Rattle.std.specs.List.{list_all, position, position_or_len}
+use Rattle.std.specs.Prelude.{find, is_some, unwrap_or}
+use Rattle.std.specs.List.{list_any, list_all, position, position_or_len}
 use Rattle.td_base.specs.Lists.{In}
 use Rattle.td_base.proofs.Lists.{In-front, In-back}
 
@@ -40,6 +41,22 @@ place_of_position k n h = grind (arith, nat_tests)
 
 pub first_or_length : {X : Type 0} (test : X → Bool) (xs : List X) → unwrap_or (position test xs) (length xs) ≡ position_or_len test xs
 first_or_length {X = X} test xs = place_of_position (position_or_len test xs) (length xs) (prefix_len-le-length (λ (x : X). not (test x)) xs)
+
+some_if : {X : Type 0} (b : Bool) (x : X) → is_some (cond b (Some x) None) ≡ b
+some_if true x = refl
+some_if false x = refl
+
+position_of_find_at : {X : Type 0} (x : X) (k n : ℕ) (b : Bool) (o : Option X) → nat_lt k n ≡ is_some o → nat_lt (cond (not b) (1 + k) 0) (suc n) ≡ is_some (cond b (Some x) o)
+position_of_find_at x k n true o h = grind (arith, nat_tests)
+position_of_find_at x k n false o h = grind (arith, nat_tests)
+
+find_below : {X : Type 0} (test : X → Bool) (xs : List X) → nat_lt (position_or_len test xs) (length xs) ≡ is_some (find test xs)
+find_below test [] = refl
+find_below test (x ∷ xs) = position_of_find_at x (position_or_len test xs) (length xs) (test x) (find test xs) (find_below test xs)
+
+-- there is a place exactly where something is found
+pub position_of_find : {X : Type 0} (test : X → Bool) (xs : List X) → is_some (position test xs) ≡ is_some (find test xs)
+position_of_find test xs = some_if (nat_lt (position_or_len test xs) (length xs)) (position_or_len test xs) ∙ find_below test xs
 
 -- what passes a test
 
@@ -77,3 +94,45 @@ In-take x k xs i = subst (λ z. In x z) (take-append-drop k xs) (In-front x (tak
 
 pub In-drop : {X : Type 0} (x : X) (k : ℕ) (xs : List X) → In x (drop k xs) → In x xs
 In-drop x k xs i = subst (λ z. In x z) (take-append-drop k xs) (In-back x (take k xs) (drop k xs) i)
+
+-- what a filter keeps of all, of none, and of parts
+
+filter_all_at : {X : Type 0} (test : X → Bool) (x : X) (xs : List X) → test x ≡ true → filter test xs ≡ xs → filter test (x ∷ xs) ≡ x ∷ xs
+filter_all_at test x xs e ih = ap (λ b. cond b (x ∷ filter test xs) (filter test xs)) e ∙ ap (λ q. x ∷ q) ih
+
+pub filter_all : {X : Type 0} (test : X → Bool) (xs : List X) → ((x : X) → In x xs → test x ≡ true) → filter test xs ≡ xs
+filter_all test [] h = refl
+filter_all test (x ∷ xs) h = filter_all_at test x xs (h x (inl refl)) (filter_all test xs (λ y i. h y (inr i)))
+
+filter_none_at : {X : Type 0} (test : X → Bool) (x : X) (xs : List X) → test x ≡ false → filter test xs ≡ [] → filter test (x ∷ xs) ≡ []
+filter_none_at test x xs e ih = ap (λ b. cond b (x ∷ filter test xs) (filter test xs)) e ∙ ih
+
+pub filter_none : {X : Type 0} (test : X → Bool) (xs : List X) → ((x : X) → In x xs → test x ≡ false) → filter test xs ≡ []
+filter_none test [] h = refl
+filter_none test (x ∷ xs) h = filter_none_at test x xs (h x (inl refl)) (filter_none test xs (λ y i. h y (inr i)))
+
+pub filter_parts : {X : Type 0} (test : X → Bool) (xs ys zs : List X) → filter test (xs ++ ys ++ zs) ≡ filter test xs ++ filter test ys ++ filter test zs
+filter_parts test xs ys zs = filter-append test (xs ++ ys) zs ∙ ap (λ q. q ++ filter test zs) (filter-append test xs ys)
+
+-- what passes a test among what a filter keeps
+
+find_among_at : {X : Type 0} (kept test : X → Bool) (x : X) (xs : List X) (a b : Bool) → list_any (λ (y : X). kept y && test y) xs ≡ is_some (find test (filter kept xs)) → test x ≡ b
+    → ((a && b) || list_any (λ (y : X). kept y && test y) xs) ≡ is_some (find test (cond a (x ∷ filter kept xs) (filter kept xs)))
+find_among_at kept test x xs true true h is = ap (λ (b : Bool). is_some (cond b (Some x) (find test (filter kept xs)))) (sym is)
+find_among_at kept test x xs true false h is = h ∙ ap (λ (b : Bool). is_some (cond b (Some x) (find test (filter kept xs)))) (sym is)
+find_among_at kept test x xs false b h is = h
+
+-- whether one of those kept passes the test
+pub find_among : {X : Type 0} (kept test : X → Bool) (xs : List X) → list_any (λ (x : X). kept x && test x) xs ≡ is_some (find test (filter kept xs))
+find_among kept test [] = refl
+find_among kept test (x ∷ xs) = find_among_at kept test x xs (kept x) (test x) (find_among kept test xs) refl
+
+all_at : {X : Type 0} (kept test : X → Bool) (x : X) (xs : List X) (a : Bool) → list_all (λ (y : X). not (kept y) || test y) xs ≡ list_all test (filter kept xs)
+    → ((not a || test x) && list_all (λ (y : X). not (kept y) || test y) xs) ≡ list_all test (cond a (x ∷ filter kept xs) (filter kept xs))
+all_at kept test x xs true h = ap (λ (b : Bool). test x && b) h
+all_at kept test x xs false h = h
+
+-- whether all of those kept pass it
+pub all_among : {X : Type 0} (kept test : X → Bool) (xs : List X) → list_all (λ (x : X). not (kept x) || test x) xs ≡ list_all test (filter kept xs)
+all_among kept test [] = refl
+all_among kept test (x ∷ xs) = all_at kept test x xs (kept x) (all_among kept test xs)

@@ -1,4 +1,5 @@
--- What contracts see of a site, of a dot and of an identity: numbers and records of numbers, and which of them are in range.
+-- What contracts see of a site, of a dot and of an identity: numbers and records of numbers, and which of them are in
+-- range.
 use Rattle.std.specs.Prelude.{◌≤◌, ℕ}
 use Rattle.td_base.specs.declared.site.TheConstants.{MAX_SITE}
 use Rattle.td_base.specs.declared.dot.TheConstants.{MAX_SEQ}

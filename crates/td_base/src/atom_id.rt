@@ -7,9 +7,9 @@ use std::marker::Model;
 /// The greatest place of an atom in the run of its insert.
 pub const MAX_OFFSET: u8 = 63;
 
-/// The identity of an atom: the dot of its insert, and its place in the insert's run from 0 to `MAX_OFFSET`. An atom keeps
-/// it through every flatten. It is the disambiguator of Treedoc (Preguiça et al. 2009). Identities compare by dot, then by
-/// offset.
+/// The identity of an atom: the dot of its insert, and its place in the insert's run from 0 to `MAX_OFFSET`. An atom
+/// keeps it through every flatten. It is the disambiguator of Treedoc (Preguiça et al. 2009). Identities compare by
+/// dot, then by offset.
 #[derive(Clone, Copy, Debug, PartialEq, Eq, PartialOrd, Ord, Hash)]
 pub struct AtomId {
     pub dot: Dot,

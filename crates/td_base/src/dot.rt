@@ -7,8 +7,8 @@ use std::marker::Model;
 /// The greatest number of an operation of one site.
 pub const MAX_SEQ: u32 = 65_535;
 
-/// The name of an operation: its site, and its number among that site's operations, from 1 to `MAX_SEQ`. Dots compare by
-/// site, then by seq. (A dot of a version vector; the order is the one by which Lamport, 1978, breaks ties.)
+/// The name of an operation: its site, and its number among that site's operations, from 1 to `MAX_SEQ`. Dots compare
+/// by site, then by seq. (A dot of a version vector; the order is the one by which Lamport, 1978, breaks ties.)
 #[derive(Clone, Copy, Debug, PartialEq, Eq, PartialOrd, Ord, Hash)]
 pub struct Dot {
     pub site: Site,

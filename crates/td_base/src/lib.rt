@@ -1,9 +1,9 @@
 //! The values that every crate of treedoc speaks of: sites, dots, identities of atoms, atoms, runs of atoms, lists of
 //! bytes.
 //!
-//! Each is in its range by construction, is compared as its contract says, and is seen by contracts as a number, a record
-//! of numbers or a list. Begin at `dot`, and at `specs/Value.antt` for what contracts see. How values
-//! compare is in `specs/Order.antt` and `specs/Equality.antt`, the atoms of an insert and their identities in
+//! Each is in its range by construction, is compared as its contract says, and is seen by contracts as a number, a
+//! record of numbers or a list. Begin at `dot`, and at `specs/Value.antt` for what contracts see. How values compare
+//! is in `specs/Order.antt` and `specs/Equality.antt`, the atoms of an insert and their identities in
 //! `specs/RunAtoms.antt`, and what the definitions of all crates say of lists in `specs/Lists.antt`.
 #![tactic(auto)]
 

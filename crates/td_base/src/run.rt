@@ -20,8 +20,8 @@ pub enum RunFault {
     Long { len: u64 },
 }
 
-/// What one insert puts into the text: 1 to 64 atoms with at most `MAX_RUN_LEN` bytes together. Contracts see the list of
-/// the atoms.
+/// What one insert puts into the text: 1 to 64 atoms with at most `MAX_RUN_LEN` bytes together. Contracts see the list
+/// of the atoms.
 #[derive(Clone, Copy, Debug, PartialEq, Eq)]
 pub struct Run {
     // the atoms one after another, and zeros behind them

@@ -1,4 +1,5 @@
-//! The program `td_breaks`, a test: Unicode's samples of extended grapheme clusters (UAX #29) through `td_script::cut`.
+//! The program `td_breaks`, a test: Unicode's samples of extended grapheme clusters (UAX #29) through
+//! `td_script::cut`.
 //!
 //! Its standard input is `GraphemeBreakTest.txt` of Unicode 15.0.0, and `cut` goes by Unicode 18.0. For each sample
 //! that is cut otherwise it prints the number of the line and the sample as it is cut, and at the end how many samples

@@ -1,7 +1,7 @@
 //! Version vectors: for each site of the shared buffer, how many of its operations are known.
 //!
-//! A vector of n sites is seen by contracts as the list of its n numbers. Begin at `vector`, at `specs/Vector.antt` for what
-//! each call computes, and at `laws` for why that is the order in which operations happened.
+//! A vector of n sites is seen by contracts as the list of its n numbers. Begin at `vector`, at `specs/Vector.antt`
+//! for what each call computes, and at `laws` for why that is the order in which operations happened.
 #![tactic(auto)]
 
 mod laws;

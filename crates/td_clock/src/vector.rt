@@ -7,9 +7,9 @@ use td_base::{Dot, MAX_SEQ, MAX_SITE, Site};
 
 const PLACES: usize = MAX_SITE as usize;
 
-/// A version vector: for each of 1 to `MAX_SITE` sites, how many of its operations are known, up to `MAX_SEQ`. Contracts
-/// see the list of these numbers. Sites are within the size (of `has` they need not be), and two vectors have one size. No
-/// call takes memory.
+/// A version vector: for each of 1 to `MAX_SITE` sites, how many of its operations are known, up to `MAX_SEQ`.
+/// Contracts see the list of these numbers. Sites are within the size (of `has` they need not be), and two vectors
+/// have one size. No call takes memory.
 #[derive(Clone, Copy, Debug, PartialEq, Eq)]
 pub struct Vector {
     size: u8,

@@ -3,7 +3,7 @@ use Rattle.std.proofs.Common.{◌≡◌, List, [], ◌++◌, Bool, true, false, 
 use Rattle.std.specs.Prelude.{is_some, Option, Some, None}
 use Rattle.std.specs.Option.{option_map}
 use Rattle.std.specs.Ordering.{is_eq}
-use Rattle.std.proofs.lemmas.Bool.{or_left, or_right, or_cases, or_parts, and_parts}
+use Rattle.std.proofs.lemmas.Bool.{or_left, or_right, or_cases, or_parts, and_parts, false_from_ne_true}
 use Rattle.td_base.specs.declared.bit.Bit.{Bit}
 use Rattle.td_base.specs.Value.{AtomIdValue}
 use Rattle.td_base.specs.Lists.{In}
@@ -26,7 +26,8 @@ use Rattle.td_doc.specs.Flatten.{rows_beside, flatten_below, flatten}
 use Rattle.td_doc.proofs.PutRows.{puts_in}
 use Rattle.td_doc.proofs.ArrayRows.{nobody}
 use Rattle.td_doc.proofs.Rules.{found, in_found, unfound}
-use Rattle.td_doc.proofs.SlotRows.{split, split_flatten, contained_in, filter_none, filter_parts, false_of}
+use Rattle.td_doc.proofs.SlotRows.{split, split_flatten, contained_in}
+use Rattle.td_base.proofs.Searches.{filter_none, filter_parts}
 use Rattle.td_doc.proofs.Flattened.{stays_beside, flatten_document}
 use Rattle.td_doc.proofs.SubtreeRows.{was, find_in, within_is, row_of}
 use Rattle.td_base.proofs.Equals.{same_id_refl}
@@ -80,7 +81,7 @@ module _ (rows : List DocRow) (d : IsDocument rows) where
       (λ (k : slot_contains_slot b a ≡ true). or_right (contains_slot rows s t) _ (contains_path t s b a f e k)) (or_cases _ _ h)
 
   pub apart_paths : (s t : Slot) (a b : SlotPath) → slot_path rows s ≡ Some a → slot_path rows t ≡ Some b → overlaps rows s t ≡ false → (p : Pairs) → slot_contains a p ≡ true → slot_contains b p ≡ false
-  apart_paths s t a b e f out p h = apart_where_no_overlap a b p (false_of (slots_overlap a b) (λ k. true≢false (sym (overlap_path s t a b e f k) ∙ out))) h
+  apart_paths s t a b e f out p h = apart_where_no_overlap a b p (false_from_ne_true (slots_overlap a b) (λ k. true≢false (sym (overlap_path s t a b e f k) ∙ out))) h
 
   -- no row in common
 

@@ -15,7 +15,7 @@ use Rattle.td_base.proofs.Orders.{dot_total, equal_dots}
 use Rattle.td_doc.specs.Document.{DocRow, last_id, has_id, find_row}
 use Rattle.td_doc.specs.Deletion.{add_dot, delete}
 use Rattle.td_doc.specs.RowParts.{rows_with, IsRowParts}
-use Rattle.td_doc.proofs.RowLists.{found_place}
+use Rattle.td_base.proofs.Searches.{position_of_find}
 use Rattle.td_doc.proofs.Identities.{one, one_more}
 use Rattle.td_base.specs.Equality.{same_id}
 
@@ -94,10 +94,10 @@ pub marked_here : (x : AtomIdValue) (by : DotValue) (rows : List DocRow) (k : �
 marked_here x by rows k old new found is marks one =
     let at = cond_some (nat_lt (place x rows) (length rows)) (place x rows) k (sym found) in
     let row = marks ∙ ap (with_dot by) is in
-    (sym (found_place (has_id x) rows) ∙ ap is_some (sym found), (λ i. set rows (sym at.1 i) (row i)) ∙ (λ i. set rows (place x rows) (with_dot by (get_or rows (sym at.1 i) old))) ∙ marked x by old rows one)
+    (sym (position_of_find (has_id x) rows) ∙ ap is_some (sym found), (λ i. set rows (sym at.1 i) (row i)) ∙ (λ i. set rows (place x rows) (with_dot by (get_or rows (sym at.1 i) old))) ∙ marked x by old rows one)
 
 pub not_found : (x : AtomIdValue) (rows : List DocRow) → None ≡ position (has_id x) rows → IsNone (find_row x rows)
-not_found x rows none = sym (found_place (has_id x) rows) ∙ ap is_some (sym none)
+not_found x rows none = sym (position_of_find (has_id x) rows) ∙ ap is_some (sym none)
 
 -- a row with the path of another in its place
 

@@ -3,7 +3,7 @@ use Rattle.std.proofs.Common.{◌≡◌, ◌≢◌, ℕ, List, [], ◌∷◌, �
 use Rattle.std.specs.List.{concat}
 use Rattle.std.specs.Option.{option_map}
 use Rattle.std.proofs.lemmas.List.{append-nil, map-append}
-use Rattle.std.proofs.lemmas.Bool.{not-true}
+use Rattle.std.proofs.lemmas.Bool.{not-true, false_from_ne_true}
 use Rattle.td_base.specs.declared.bit.Bit.{Bit}
 use Rattle.td_base.specs.Value.{DotValue, AtomIdValue}
 use Rattle.td_base.specs.Lists.{In, Successive}
@@ -24,7 +24,8 @@ use Rattle.td_doc.specs.Stretches.{IsReplaced, is_in, kept_rows}
 use Rattle.td_doc.proofs.PutRows.{Before, Differ}
 use Rattle.td_doc.proofs.ArrayRows.{array_names, array_bare, array_live}
 use Rattle.td_doc.proofs.Rules.{HangsIn, hangs_whole, found, array_document}
-use Rattle.td_doc.proofs.SlotRows.{Split, split, split_flatten, front_outside, back_outside, filter_all, filter_parts, false_of, flatten_replaces}
+use Rattle.td_doc.proofs.SlotRows.{Split, split, split_flatten, front_outside, back_outside, flatten_replaces}
+use Rattle.td_base.proofs.Searches.{filter_all, filter_parts}
 
 -- what goes on in a slot
 
@@ -57,7 +58,7 @@ beside_document slot rows d = record {
       let b = beside slot rows r i in
       let at = d.rooted r front next rest b.0 e some in (
         at.0,
-        stays_beside slot rows at.0 at.1 (false_of (slot_contains slot at.0.path) (λ h. true≢false (sym (contains_more slot front (next ∷ rest) (subst (λ (p : Pairs). slot_contains slot p ≡ true) at.2 h)) ∙ ap (slot_contains slot) (sym e) ∙ b.1))),
+        stays_beside slot rows at.0 at.1 (false_from_ne_true (slot_contains slot at.0.path) (λ h. true≢false (sym (contains_more slot front (next ∷ rest) (subst (λ (p : Pairs). slot_contains slot p ≡ true) at.2 h)) ∙ ap (slot_contains slot) (sym e) ∙ b.1))),
         at.2,
       );
   deletes = λ r i. d.deletes r (beside slot rows r i).0;
@@ -68,7 +69,7 @@ hangs_beside : (rows : List DocRow) → IsDocument rows → (r : DocRow) (bit : 
 hangs_beside rows d r bit i = record { is_path = d.paths r i; above = λ front a some. at front a.0 a.1 some }
   where
     out : (p more : Pairs) → r.path ≡ p ++ more → goes_on r.path bit p ≡ false
-    out p more e = false_of (goes_on r.path bit p) (λ h. not_in_own_slots r.path bit (ap (goes_on r.path bit) e ∙ contains_more (Below r.path bit) p more h))
+    out p more e = false_from_ne_true (goes_on r.path bit p) (λ h. not_in_own_slots r.path bit (ap (goes_on r.path bit) e ∙ contains_more (Below r.path bit) p more h))
 
     at : (front rest : Pairs) → r.path ≡ front ++ rest → front ≢ [] → (s : DocRow) × In s (rows_beside (Below r.path bit) rows) × (s.path ≡ front)
     at front [] e some = (r, stays_beside (Below r.path bit) rows r i (out r.path [] (sym (append-nil r.path))), e ∙ append-nil front)

@@ -15,14 +15,7 @@ use Rattle.td_doc.specs.Stretches.{is_in, kept_rows}
 use Rattle.td_doc.proofs.PutRows.{Differ}
 use Rattle.td_doc.proofs.Rules.{found}
 use Rattle.td_doc.proofs.Flattened.{flatten_names}
-
-stands_first : {X : Type 0} (x y : X) (list : List X) → StandsBefore x y list → In x list
-stands_first x y [] h = absurd h
-stands_first x y (z ∷ list) h = ⊎_elim (λ (a : (x ≡ z) × In y list). inl a.0) (λ (b : StandsBefore x y list). inr (stands_first x y list b)) h
-
-stands_last : {X : Type 0} (x y : X) (list : List X) → StandsBefore x y list → In y list
-stands_last x y [] h = absurd h
-stands_last x y (z ∷ list) h = ⊎_elim (λ (a : (x ≡ z) × In y list). inr a.1) (λ (b : StandsBefore x y list). inr (stands_last x y list b)) h
+use Rattle.td_base.proofs.Rising.{stands_first, stands_last}
 
 abbrev ids : List DocRow → List AtomIdValue
 ids rows = map row_id rows

@@ -7,7 +7,6 @@ pub mod Rules
 pub mod Typing
 pub mod Deletes
 pub mod ArrayPlaces
-pub mod RunAtoms
 pub mod Flattening
 pub mod Identities
 pub mod FreshDots

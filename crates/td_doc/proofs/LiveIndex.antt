@@ -5,7 +5,7 @@ use Rattle.std.specs.List.{insert_slice}
 use Rattle.std.specs.Option.{option_map}
 use Rattle.std.proofs.lemmas.List.{map-append, take_at, drop_at, append-nil, take-append-drop}
 use Rattle.std.proofs.lemmas.List.Elements.{filter-append}
-use Rattle.std.proofs.lemmas.Option.{slice_get_within}
+use Rattle.std.proofs.lemmas.Option.{slice_get_within, same_Some}
 use Rattle.td_base.specs.Value.{DotValue, AtomIdValue}
 use Rattle.td_base.specs.Lists.{In}
 use Rattle.td_base.proofs.Lists.{In-front, In-filter, across, all_in, successive_back}
@@ -20,10 +20,10 @@ use Rattle.td_doc.specs.Flatten.{flatten}
 use Rattle.td_doc.specs.Answers.{IsFresh, is_rooted, is_live_found, is_live_id, live_before}
 use Rattle.td_doc.proofs.PutRows.{Differ}
 use Rattle.td_doc.proofs.Placement.{self_id, has_id-false, has_id-true, run_first}
-use Rattle.td_doc.proofs.SlotRows.{filter_all}
+use Rattle.td_base.proofs.Searches.{filter_all}
 use Rattle.td_doc.proofs.Deleted.{delete_live}
 use Rattle.td_doc.proofs.Flattened.{flatten_keeps_live}
-use Rattle.td_doc.proofs.Typing.{live_split, live_id, live_atoms-append, atoms_named, count_of_atoms, run_at, run_typed_after, run_typed_between, same_some}
+use Rattle.td_doc.proofs.Typing.{live_split, live_id, live_atoms-append, atoms_named, count_of_atoms, run_at, run_typed_after, run_typed_between}
 use Rattle.td_doc.proofs.SubtreeRows.{find_in}
 use Rattle.td_doc.proofs.Together.{run_together}
 
@@ -87,7 +87,7 @@ some_within rows i x (Some r) e h = slice_get_within (live_rows rows) i r e
 live_here : (rows : List DocRow) (i : ℕ) (x : AtomIdValue) → IsDocument rows → live_id_at rows i ≡ Some x → (s : LiveRow x rows) × (length (live_rows s.front) ≡ i)
 live_here rows i x d h =
     let s = live_split rows i (some_within rows i x (slice_get (live_rows rows) i) refl h) in
-    (record { front = s.front; row = s.row; back = s.back; is = s.is; named = same_some (row_id s.row) x (sym (live_id rows i s) ∙ h); live = s.live }, s.before)
+    (record { front = s.front; row = s.row; back = s.back; is = s.is; named = same_Some (row_id s.row) x (sym (live_id rows i s) ∙ h); live = s.live }, s.before)
 
 -- and back
 pub index_of_found : (rows : List DocRow) (i : ℕ) (x : AtomIdValue) → IsDocument rows → live_id_at rows i ≡ Some x → live_before x rows ≡ i

@@ -3,7 +3,7 @@ use Rattle.std.proofs.Common.{◌≡◌, ◌≢◌, ◌⊎◌, ℕ, List, [], �
 use Rattle.std.specs.Prelude.{IsSome}
 use Rattle.std.specs.Option.{ForSome, option_map}
 use Rattle.std.specs.declared.cmp.Ordering.TheVariants.{Less}
-use Rattle.std.proofs.lemmas.Bool.{cases_Bool}
+use Rattle.std.proofs.lemmas.Bool.{cases_Bool, false_from_ne_true}
 use Rattle.td_base.specs.declared.bit.Bit.{Bit}
 use Rattle.td_base.specs.declared.bit.Bit.TheVariants.{Left, Right}
 use Rattle.td_base.specs.Value.{DotValue, AtomIdValue}
@@ -27,7 +27,7 @@ use Rattle.td_doc.specs.Stretches.{RunBetween}
 use Rattle.td_doc.proofs.PathEnds.{last_id-append}
 use Rattle.td_doc.proofs.PutRows.{Before, Differ, not_before_itself, not_both_before, three_ways, put_between, put_before}
 use Rattle.td_doc.proofs.ArrayRows.{array_starts, array_ascends, array_names, array_live, array_of_one, starts_contained}
-use Rattle.td_doc.proofs.SlotRows.{filter_none, false_of}
+use Rattle.td_base.proofs.Searches.{filter_none}
 use Rattle.td_base.proofs.Equals.{same_id_true, same_id_refl}
 
 -- finding a row
@@ -259,7 +259,7 @@ module _ (front : List DocRow) (r f : DocRow) (back : List DocRow) (d : IsDocume
   left_slot_empty : (q : DocRow) → In q (f ∷ back) → goes_on r.path Right q.path ≡ true → is_empty_slot all_rows (At (row_id f) Left) ≡ true
   left_slot_empty q i h =
       ap (λ (o : Option DocRow). is_empty_list (rows_below all_rows (option_map (λ (t : DocRow). Below t.path Left) o))) found_f
-      ∙ ap is_empty_list (filter_none (λ (t : DocRow). goes_on f.path Left t.path) all_rows (λ s j. false_of (goes_on f.path Left s.path) (left_of_f q i h s (subst (In s) (sym regrouped) j))))
+      ∙ ap is_empty_list (filter_none (λ (t : DocRow). goes_on f.path Left t.path) all_rows (λ s j. false_from_ne_true (goes_on f.path Left s.path) (left_of_f q i h s (subst (In s) (sym regrouped) j))))
 
   alloc_empty_left : (q : DocRow) → In q (f ∷ back) → goes_on r.path Right q.path ≡ true → is_empty_slot all_rows (At (row_id r) Right) ≡ false → is_empty_slot all_rows (alloc all_rows (Some (row_id r))) ≡ true
   alloc_empty_left q i h e =
@@ -321,7 +321,7 @@ alloc_empty_first (f ∷ rows) up =
     λ s h. let g = goes_on_parts f.path Left s.path h in subst (λ (p : Pairs). path_cmp p f.path ≡ Less) (sym g.is) (left_before f.path g.id g.rest) in
     ap (λ (o : Option DocRow). is_empty_list (rows_below (f ∷ rows) (option_map (λ (t : DocRow). Below t.path Left) o))) (find_first (row_id f) f rows (self_id f))
     ∙ ap is_empty_list (filter_none (λ (t : DocRow). goes_on f.path Left t.path) (f ∷ rows)
-    (λ s i. false_of (goes_on f.path Left s.path) (λ h. ⊎_elim (λ (e : s ≡ f). not_before_itself f.path (subst (λ (t : DocRow). Before t f) e (before_f s h))) (λ (k : In s rows). not_both_before f.path s.path (all_in (Before f) rows up.0 s k) (before_f s h)) i)))
+    (λ s i. false_from_ne_true (goes_on f.path Left s.path) (λ h. ⊎_elim (λ (e : s ≡ f). not_before_itself f.path (subst (λ (t : DocRow). Before t f) e (before_f s h))) (λ (k : In s rows). not_both_before f.path s.path (all_in (Before f) rows up.0 s k) (before_f s h)) i)))
 
 -- a row, with the rows before it and after it
 pub record Placed (rows : List DocRow) (x : AtomIdValue) : Type 0 where

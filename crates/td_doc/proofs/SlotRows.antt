@@ -21,6 +21,8 @@ use Rattle.td_doc.specs.Flatten.{rows_beside, flatten_below, flatten}
 use Rattle.td_doc.specs.Stretches.{IsStretch, IsReplaced}
 use Rattle.td_doc.proofs.PutRows.{Before, not_before_itself, not_both_before, three_ways, put_between}
 use Rattle.td_doc.proofs.ArrayRows.{nobody, starts_contained, starts_here, array_starts, array_ascends}
+use Rattle.std.proofs.lemmas.Bool.{false_from_ne_true}
+use Rattle.td_base.proofs.Searches.{filter_all, filter_none, filter_parts}
 
 -- a path outside a slot stands on one side of all that are in it
 
@@ -142,29 +144,6 @@ pub split : (slot : SlotPath) (rows : List DocRow) → Successive Before rows �
 split slot [] up = record { front = []; inside = []; back = []; is = refl; before = λ x i. absurd i; within = λ x i. absurd i; after = λ x i. absurd i }
 split slot (r ∷ rows) up = more_at slot r rows (λ x i. all_in (Before r) rows up.0 x i) (split slot rows up.1) (slot_contains slot r.path) refl
 
--- filters
-
-filter_all_at : {X : Type 0} (test : X → Bool) (x : X) (xs : List X) → test x ≡ true → filter test xs ≡ xs → filter test (x ∷ xs) ≡ x ∷ xs
-filter_all_at test x xs e ih = ap (λ b. cond b (x ∷ filter test xs) (filter test xs)) e ∙ ap (λ q. x ∷ q) ih
-
-pub filter_all : {X : Type 0} (test : X → Bool) (xs : List X) → ((x : X) → In x xs → test x ≡ true) → filter test xs ≡ xs
-filter_all test [] h = refl
-filter_all test (x ∷ xs) h = filter_all_at test x xs (h x (inl refl)) (filter_all test xs (λ y i. h y (inr i)))
-
-filter_none_at : {X : Type 0} (test : X → Bool) (x : X) (xs : List X) → test x ≡ false → filter test xs ≡ [] → filter test (x ∷ xs) ≡ []
-filter_none_at test x xs e ih = ap (λ b. cond b (x ∷ filter test xs) (filter test xs)) e ∙ ih
-
-pub filter_none : {X : Type 0} (test : X → Bool) (xs : List X) → ((x : X) → In x xs → test x ≡ false) → filter test xs ≡ []
-filter_none test [] h = refl
-filter_none test (x ∷ xs) h = filter_none_at test x xs (h x (inl refl)) (filter_none test xs (λ y i. h y (inr i)))
-
-pub filter_parts : {X : Type 0} (test : X → Bool) (xs ys zs : List X) → filter test (xs ++ ys ++ zs) ≡ filter test xs ++ filter test ys ++ filter test zs
-filter_parts test xs ys zs = filter-append test (xs ++ ys) zs ∙ ap (λ q. q ++ filter test zs) (filter-append test xs ys)
-
-pub false_of : (b : Bool) → (b ≡ true → ⊥) → b ≡ false
-false_of true h = absurd (h refl)
-false_of false h = refl
-
 pub contained_in : (slot : SlotPath) (atoms : List NamedAtom) (r : DocRow) → In r (array slot atoms) → slot_contains slot r.path ≡ true
 contained_in slot atoms r i = starts_contained slot r.path (array_starts (length atoms) slot atoms r i)
 
@@ -173,10 +152,10 @@ module _ (slot : SlotPath) (rows : List DocRow) (s : Split slot rows) where
   contained r = slot_contains slot r.path
 
   pub front_outside : (r : DocRow) → In r s.front → contained r ≡ false
-  front_outside r i = false_of (contained r) (λ h. not_before_itself r.path (s.before r i r.path h))
+  front_outside r i = false_from_ne_true (contained r) (λ h. not_before_itself r.path (s.before r i r.path h))
 
   pub back_outside : (r : DocRow) → In r s.back → contained r ≡ false
-  back_outside r i = false_of (contained r) (λ h. not_before_itself r.path (s.after r i r.path h))
+  back_outside r i = false_from_ne_true (contained r) (λ h. not_before_itself r.path (s.after r i r.path h))
 
   -- the rows in the slot
   pub split_inside : rows_below rows (Some slot) ≡ s.inside

@@ -1,4 +1,5 @@
--- The rows in the subtree of a row stand next to each other, and a flatten of a slot that does not have the row leaves them there.
+-- The rows in the subtree of a row stand next to each other, and a flatten of a slot that does not have the row leaves
+-- them there.
 use Rattle.std.proofs.Common.{◌≡◌, ◌⊎◌, List, [], ◌∷◌, ◌++◌, Bool, true, false, ◌&&◌, cond, map, filter, refl, sym, ap, ◌∙◌, subst, inl, inr, ⊎_elim, true≢false}
 use Rattle.std.specs.Prelude.{IsSome, is_some, Option, Some, None}
 use Rattle.std.specs.Option.{option_map}
@@ -15,7 +16,7 @@ use Rattle.td_path.specs.declared.slot.Slot.TheVariants.{Root, At}
 use Rattle.td_path.specs.declared.slot_path.SlotPath.{SlotPath}
 use Rattle.td_path.specs.declared.slot_path.SlotPath.TheVariants.{Whole, Below}
 use Rattle.td_path.proofs.InfixOrder.{first_pairs, same_pair_true, same_pair_from, same_pair_refl}
-use Rattle.std.proofs.lemmas.Bool.{and_parts}
+use Rattle.std.proofs.lemmas.Bool.{and_parts, false_from_ne_true}
 use Rattle.td_path.proofs.SlotOverlap.{none_empty}
 use Rattle.td_doc.specs.Document.{DocRow, row_id, find_row, is_live, live_rows, IsDocument}
 use Rattle.td_doc.specs.Slots.{slot_path, rows_below, is_within}
@@ -28,7 +29,7 @@ use Rattle.td_doc.specs.Subtrees.{begins, rows_at, rows_under, is_under, is_slot
 use Rattle.td_doc.proofs.PutRows.{Before, Differ, in_puts, puts_in}
 use Rattle.td_doc.proofs.ArrayRows.{array_names}
 use Rattle.td_doc.proofs.Rules.{found, in_found}
-use Rattle.td_doc.proofs.SlotRows.{contained_in, false_of}
+use Rattle.td_doc.proofs.SlotRows.{contained_in}
 use Rattle.td_doc.proofs.Flattened.{same_row, beside, stays_beside, not_in_own_slots, contains_more, flatten_document}
 use Rattle.td_base.specs.Equality.{same_bit}
 
@@ -99,7 +100,7 @@ and_false : (a b : Bool) → a ≡ false → (a && b) ≡ false
 and_false a b e = ap (λ c. c && b) e
 
 first_other : (c p : Pair) (bit : Bit) → same_bit c.0 bit ≡ false → same_bit p.0 bit ≡ true → same_pair c p ≡ false
-first_other c p bit n y = false_of (same_pair c p) (λ h. true≢false (sym y ∙ ap (λ (q : Pair). same_bit q.0 bit) (sym (same_pair_true c p h)) ∙ n))
+first_other c p bit n y = false_from_ne_true (same_pair c p) (λ h. true≢false (sym y ∙ ap (λ (q : Pair). same_bit q.0 bit) (sym (same_pair_true c p h)) ∙ n))
 
 begins_alike : (front : Pairs) (bit : Bit) (node p q : Pairs) → goes_on front bit p ≡ true → goes_on front bit q ≡ true → goes_on front bit node ≡ false → begins node p ≡ begins node q
 begins_alike front bit [] p q h k n = refl
@@ -126,9 +127,6 @@ slot_alike Whole node p q h k n = absurd (true≢false n)
 slot_alike (Below front bit) node p q h k n = begins_alike front bit node p q h k n
 
 -- which row is found
-
-same_some : (x y : DocRow) → Some x ≡ Some y → x ≡ y
-same_some x y h = cc
 
 find_in_at : (rows : List DocRow) (r : DocRow) → Successive Differ rows → In r rows → (o : Option DocRow) → find_row (row_id r) rows ≡ o → IsSome o → o ≡ Some r
 find_in_at rows r apart i None e h = absurd (true≢false (sym h))
@@ -222,7 +220,7 @@ begins_parts (c ∷ node) (x ∷ p) h =
 outside_at : (p node : Pairs) (bit : Bit) → begins node p ≡ true → goes_on p bit node ≡ false
 outside_at p node bit h =
     let m = begins_parts node p h in
-    false_of (goes_on p bit node) (λ k. not_in_own_slots p bit (ap (goes_on p bit) m.1 ∙ contains_more (Below p bit) node m.0 k))
+    false_from_ne_true (goes_on p bit node) (λ k. not_in_own_slots p bit (ap (goes_on p bit) m.1 ∙ contains_more (Below p bit) node m.0 k))
 
 above_at : (rows : List DocRow) (b x : AtomIdValue) (bit : Bit) → IsDocument rows → (o : Option DocRow) → find_row b rows ≡ o → is_some (find_row x (rows_at rows o)) ≡ true → is_within rows b (At x bit) ≡ false
 above_at rows b x bit d None e h = absurd (true≢false (sym h))

@@ -27,7 +27,7 @@ use Rattle.td_doc.proofs.PutRows.{Before, three_ways, put_between}
 use Rattle.td_doc.proofs.ArrayRows.{nobody, Starts, array_starts, array_ascends, named_row}
 use Rattle.td_doc.proofs.Placement.{put_array, run_between}
 use Rattle.td_doc.proofs.Rules.{IsNewIn, run_is_new}
-use Rattle.td_doc.proofs.SlotRows.{false_of}
+use Rattle.std.proofs.lemmas.Bool.{false_from_ne_true}
 use Rattle.td_doc.proofs.SubtreeRows.{begins_between, begins_parts}
 
 -- a row outside the subtree of a node stands on one side of all that is in it
@@ -151,7 +151,7 @@ module _ (rows : List DocRow) (d : IsDocument rows) (slot : SlotPath) (a : Named
       no_node above.0 above.1 above.2
 
   none_below : (r : DocRow) → In r rows → begins (path_in slot a.id) r.path ≡ false
-  none_below r i = false_of _ (λ h. let m = begins_parts (path_in slot a.id) r.path h in no_more r i m.0 m.1)
+  none_below r i = false_from_ne_true _ (λ h. let m = begins_parts (path_in slot a.id) r.path h in no_more r i m.0 m.1)
 
 -- an array of new identities stands together
 

@@ -4,7 +4,7 @@ use Rattle.std.specs.Prelude.{insert, slice_get}
 use Rattle.std.specs.Option.{ForSome, option_map}
 use Rattle.std.proofs.Math.Seq.{get_or-append_seam}
 use Rattle.std.proofs.lemmas.Bool.Decides.{nat_tests}
-use Rattle.std.proofs.lemmas.Option.{slice_get-get_or}
+use Rattle.std.proofs.lemmas.Option.{slice_get-get_or, same_Some}
 use Rattle.std.proofs.lemmas.List.{map-append, take_at, drop_at}
 use Rattle.std.proofs.lemmas.List.Elements.{filter-append}
 use Rattle.td_base.specs.Value.{DotValue, AtomIdValue}
@@ -129,16 +129,13 @@ typed rows (suc i) id atom d h =
 none_is_some : (x : AtomIdValue) → None ≡ Some x → ⊥
 none_is_some x e = cc
 
-pub same_some : (x y : AtomIdValue) → Some x ≡ Some y → x ≡ y
-same_some x y e = cc
-
 -- what is before an index is a row, or the start
 pub anchor_row : (rows : List DocRow) (index : ℕ) → index ≤ length (live_rows rows) → ForSome (anchor rows index) (IsRow rows)
 anchor_row rows zero h = λ x e. absurd (none_is_some x e)
 anchor_row rows (suc i) h =
     let s = live_split rows i (omega arith) in
     let there = in_found s.row rows (subst (In s.row) (sym s.is) (In-back s.row s.front (s.row ∷ s.back) (inl refl))) in
-    λ x e. subst (IsRow rows) (same_some (row_id s.row) x (sym (anchor_further rows i ∙ live_id rows i s) ∙ e)) there
+    λ x e. subst (IsRow rows) (same_Some (row_id s.row) x (sym (anchor_further rows i ∙ live_id rows i s) ∙ e)) there
 
 pub count_of_atoms : (rows : List DocRow) → length (live_atoms rows) ≡ length (live_rows rows)
 count_of_atoms rows = length-map (live_rows rows)

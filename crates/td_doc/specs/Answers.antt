@@ -57,4 +57,13 @@ live_before x (r ∷ rows) = if has_id x r then 0 else (if is_live r then 1 else
 
 -- what is told of the row x
 abbrev pub row_told : List DocRow → AtomIdValue → Option Row
-row_told rows x = option_map (λ (r : DocRow). record { id = row_id r; slot = own_slot r; atom = r.atom; deletes = length r.deletes; index = live_before x rows }) (find_row x rows)
+row_told rows x =
+    option_map
+    (λ (r : DocRow). record {
+      id = row_id r;
+      slot = own_slot r;
+      atom = r.atom;
+      deletes = length r.deletes;
+      index = live_before x rows;
+    })
+    (find_row x rows)

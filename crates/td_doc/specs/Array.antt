@@ -19,12 +19,14 @@ row_in slot a = record { path = path_in slot a.id; atom = a.atom; deletes = [] }
 abbrev pub around : (SlotPath → List NamedAtom → List DocRow) → SlotPath → List NamedAtom → List NamedAtom → List DocRow
 around array slot before [] = []
 around array slot before (middle ∷ after) =
-    array (Below (path_in slot middle.id) Left) before ++ row_in slot middle ∷ array (Below (path_in slot middle.id) Right) after
+    array (Below (path_in slot middle.id) Left) before
+    ++ row_in slot middle ∷ array (Below (path_in slot middle.id) Right) after
 
 -- the rows of these atoms in the slot, halved at each node. The number is at least how many they are
 abbrev pub array_upto : ℕ → SlotPath → List NamedAtom → List DocRow
 array_upto zero slot atoms = []
-array_upto (suc n) slot atoms = around (array_upto n) slot (take (length atoms / 2) atoms) (drop (length atoms / 2) atoms)
+array_upto (suc n) slot atoms =
+    around (array_upto n) slot (take (length atoms / 2) atoms) (drop (length atoms / 2) atoms)
 
 abbrev pub array : SlotPath → List NamedAtom → List DocRow
 array slot atoms = array_upto (length atoms) slot atoms

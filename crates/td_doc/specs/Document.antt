@@ -67,7 +67,8 @@ pub record IsDocument (rows : List DocRow) : Type 0 where
   pub apart : Successive (λ (r s : DocRow). row_id r ≢ row_id s) rows
   pub paths : (r : DocRow) → In r rows → IsPath r.path
   -- each nonempty proper front of a row's path is the path of a row
-  pub rooted : (r : DocRow) (front : Pairs) (next : Pair) (rest : Pairs) → In r rows → r.path ≡ front ++ next ∷ rest → front ≢ []
+  pub rooted : (r : DocRow) (front : Pairs) (next : Pair) (rest : Pairs) → In r rows
+      → r.path ≡ front ++ next ∷ rest → front ≢ []
       → (s : DocRow) × In s rows × (s.path ≡ front)
   -- delete dots are a set, told in their order
   pub deletes : (r : DocRow) → In r rows → Successive (λ (d e : DotValue). dot_cmp d e ≡ Less) r.deletes

@@ -15,7 +15,8 @@ rows_beside slot rows = filter (λ (r : DocRow). not (slot_contains slot r.path)
 -- the rows outside stay, and the array of the live rows inside is put in the slot; so the tombstones inside go
 abbrev pub flatten_below : Option SlotPath → List DocRow → List DocRow
 flatten_below None rows = rows
-flatten_below (Some slot) rows = put_rows (array slot (map named (live_rows (rows_below rows (Some slot))))) (rows_beside slot rows)
+flatten_below (Some slot) rows =
+    put_rows (array slot (map named (live_rows (rows_below rows (Some slot))))) (rows_beside slot rows)
 
 -- the document flattened at a slot whose atom is a row
 abbrev pub flatten : Slot → List DocRow → List DocRow

@@ -9,8 +9,8 @@ use crate::doc::Doc;
 use td_base::{AtomId, Bit};
 use td_path::Slot;
 
-/// The slot for what is placed after a row, or at the start. What is put there stands right after that row, or first. Takes
-/// no memory.
+/// The slot for what is placed after a row, or at the start. What is put there stands right after that row, or first.
+/// Takes no memory.
 pub fn alloc_slot<D: Doc>(doc: &D, after: Option<AtomId>) -> Slot
     requires { ForSome after (IsRow (D.rows doc.now)) }
     ensures { result ≡ alloc (D.rows doc.now) after }

@@ -69,11 +69,12 @@ pub fn run_atoms(alloc: Global, dot: Dot, run: &Run) -> Result<Vec<NamedAtom>, M
     ensures { IfOk result (λ atoms. atoms.items ≡ run_atoms dot run.now) }
 {
     let mut atoms = Vec::with_capacity(alloc, run.len() as usize)?;
-    for offset in 0..run.len() {
-        if let Some(atom) = run.atom(offset) {
-            let id = AtomId { dot, offset };
-            atoms.push(NamedAtom { id, atom })?;
-        }
+    for (offset, atom) in run.iter().enumerate() {
+        let id = AtomId {
+            dot,
+            offset: offset as u8,
+        };
+        atoms.push(NamedAtom { id, atom })?;
     }
     Ok(atoms)
 }

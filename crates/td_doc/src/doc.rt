@@ -59,15 +59,17 @@ pub trait Doc: Sized + Drop {
     /// Puts an atom in a slot.
     fn insert(&mut self, slot: Slot, id: AtomId, atom: Atom) -> Result<(), DocFault>
         requires { IsNone (find_row id (rows self.old)) }
-        ensures ok { OnOk result (IsTrue (is_rooted (rows self.old) slot) × (rows self.new ≡ insert_atom slot id atom (rows self.old))) }
+        ensures ok { OnOk result (IsTrue (is_rooted (rows self.old) slot)
+            × (rows self.new ≡ insert_atom slot id atom (rows self.old))) }
         ensures fault { IfErr result (IsSlotFault (rows self.old) slot) }
         ensures err { OnErr result (rows self.new ≡ rows self.old) };
 
-    /// Puts the array of an insert's run in a slot. Its atoms have the dot of the insert and their places in the run as
-    /// identities.
+    /// Puts the array of an insert's run in a slot. Its atoms have the dot of the insert and their places in the run
+    /// as identities.
     fn insert_run(&mut self, slot: Slot, dot: Dot, run: Run) -> Result<(), DocFault>
         requires { IsFresh (rows self.old) dot }
-        ensures ok { OnOk result (IsTrue (is_rooted (rows self.old) slot) × (rows self.new ≡ insert_run slot dot run (rows self.old))) }
+        ensures ok { OnOk result (IsTrue (is_rooted (rows self.old) slot)
+            × (rows self.new ≡ insert_run slot dot run (rows self.old))) }
         ensures fault { IfErr result (IsSlotFault (rows self.old) slot) }
         ensures err { OnErr result (rows self.new ≡ rows self.old) };
 
@@ -79,7 +81,8 @@ pub trait Doc: Sized + Drop {
 
     /// Makes an array of the live rows of a slot, and drops its tombstones.
     fn flatten(&mut self, slot: Slot) -> Result<(), DocFault>
-        ensures ok { OnOk result (IsTrue (is_rooted (rows self.old) slot) × (rows self.new ≡ flatten slot (rows self.old))) }
+        ensures ok { OnOk result (IsTrue (is_rooted (rows self.old) slot)
+            × (rows self.new ≡ flatten slot (rows self.old))) }
         ensures fault { IfErr result (IsSlotFault (rows self.old) slot) }
         ensures err { OnErr result (rows self.new ≡ rows self.old) };
 
@@ -125,8 +128,8 @@ pub trait Doc: Sized + Drop {
         contains_slot(self, &a, &b) || contains_slot(self, &b, &a)
     }
 
-    /// Whether the vector has all that was done to the rows in the slot: the dots of their identities and of the deletes that
-    /// named them.
+    /// Whether the vector has all that was done to the rows in the slot: the dots of their identities and of the
+    /// deletes that named them.
     fn known(&self, slot: Slot, v: &Vector) -> bool
         ensures { result ≡ is_known (rows self.now) slot v.now };
 

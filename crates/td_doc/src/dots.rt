@@ -51,7 +51,7 @@ fn insert_dot(dots: &mut Vec<Dot>, place: usize, dot: Dot) -> Result<(), Memory>
 }
 
 // How many of the dots stand before this one.
-#[tactic(auto, using(crate::proofs::RowLists::first_or_length))]
+#[tactic(auto, using(td_base::proofs::Searches::first_or_length))]
 fn place_of(dots: &[Dot], dot: Dot) -> usize
     ensures value { result ≡ position_or_len (λ (d : DotValue). is_le (dot_cmp dot d)) dots.now }
     ensures bound { result ≤ length dots.now }

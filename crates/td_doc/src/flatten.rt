@@ -12,7 +12,8 @@ use std::alloc::Global;
 use td_base::{Memory, NamedAtom};
 use td_path::{SlotPath, contains};
 
-/// Makes an array of the live rows in the slot, and drops its tombstones. The rows that go leave room for the new ones.
+/// Makes an array of the live rows in the slot, and drops its tombstones. The rows that go leave room for the new
+/// ones.
 pub fn flatten_rows(alloc: Global, rows: &mut Vec<PathRow>, slot: &SlotPath) -> Result<(), Memory>
     ensures ok { OnOk result (rows.new.items ≡ flatten_below (Some slot.now) rows.old.items) }
     ensures err { OnErr result (rows.new.items ≡ rows.old.items) }

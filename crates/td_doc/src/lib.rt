@@ -2,8 +2,8 @@
 //!
 //! `Doc` is what a document answers, stated on the list of rows; `Rows` is the plain document, a vector of rows with
 //! whole paths; `alloc_slot` is where what is typed goes; `contains` is which slots lie in which. Begin at
-//! `specs/Document.antt`, which says what a document is, and at `laws`, which says what the definitions come to: what is
-//! placed after a row stands right after it, a flatten changes no text, slots apart share no row.
+//! `specs/Document.antt`, which says what a document is, and at `laws`, which says what the definitions come to: what
+//! is placed after a row stands right after it, a flatten changes no text, slots apart share no row.
 #![tactic(auto)]
 
 mod alloc;

@@ -18,8 +18,8 @@ use td_base::{Atom, AtomId, Bytes, Dot, Memory, NamedAtom, Run};
 use td_clock::Vector;
 use td_path::Slot;
 
-/// The plain document: a vector of rows with whole paths, in infix order. Each call looks through all rows, so it is for
-/// small documents and for comparison.
+/// The plain document: a vector of rows with whole paths, in infix order. Each call looks through all rows, so it is
+/// for small documents and for comparison.
 #[derive(Debug, Drop)]
 pub struct Rows {
     rows: Vec<PathRow>,
@@ -128,7 +128,8 @@ impl Rows {
     // Puts the array of the atoms in the slot.
     fn put_array(&mut self, slot: Slot, atoms: &[NamedAtom]) -> Result<(), DocFault>
         requires { AreNew self.old atoms.now }
-        ensures ok { OnOk result (IsTrue (is_rooted self.old slot) × (self.new ≡ put_array_below (slot_path self.old slot) atoms.now self.old)) }
+        ensures ok { OnOk result (IsTrue (is_rooted self.old slot)
+            × (self.new ≡ put_array_below (slot_path self.old slot) atoms.now self.old)) }
         ensures fault { IfErr result (IsSlotFault self.old slot) }
         ensures err { OnErr result (self.new ≡ self.old) }
     {

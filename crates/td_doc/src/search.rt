@@ -28,7 +28,7 @@ pub fn place_of_id(rows: &[PathRow], id: AtomId) -> Option<usize>
 }
 
 /// How many rows stand before a new row.
-#[tactic(auto, using(crate::proofs::RowLists::first_or_length))]
+#[tactic(auto, using(td_base::proofs::Searches::first_or_length))]
 pub fn place_of(rows: &[PathRow], new: &PathRow) -> usize
     ensures value { result ≡ position_or_len (λ (r : DocRow). is_lt (path_cmp new.now.path r.path)) rows.now }
     ensures bound { result ≤ length rows.now }

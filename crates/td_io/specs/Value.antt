@@ -1,8 +1,8 @@
 -- What contracts see of a source and of a sink in memory.
 use Rattle.std.specs.Prelude.{ℕ, List, [], Option, None}
 
--- the bytes still to come, how many a call gives at most, the calls that fail, how many calls were made and failed, and
--- which of them was the first that found the end
+-- the bytes still to come, how many a call gives at most, the calls that fail, how many calls were made and failed,
+-- and which of them was the first that found the end
 pub record SourceValue : Type 0 where
   pub left : List ℕ
   pub most : ℕ

@@ -8,7 +8,8 @@ use crate::source::{Source, end_found};
 use std::io::{Error, Read};
 use std::marker::Model;
 
-/// A source that reads from a reader, and counts each of its errors. It tells a generic caller nothing of the bytes to come.
+/// A source that reads from a reader, and counts each of its errors. It tells a generic caller nothing of the bytes to
+/// come.
 #[derive(Drop)]
 pub struct ReadSource<R: Read> {
     reader: R,

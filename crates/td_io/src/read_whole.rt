@@ -11,8 +11,8 @@ use td_base::Bytes;
 /// How many bytes are taken in one call at most.
 const PIECE: usize = 4096;
 
-/// Takes all bytes of the source, where they are at most `most`, and else one byte more than that. After a fault the bytes
-/// that it took are lost.
+/// Takes all bytes of the source, where they are at most `most`, and else one byte more than that. After a fault the
+/// bytes that it took are lost.
 pub fn read_all<S: Source>(alloc: Global, source: &mut S, most: u32) -> Result<Bytes, ReadFault>
     ensures within { IfOk result (λ bytes. length bytes ≤ most) }
     ensures all { IfOk result (λ bytes. IfSome (S.left source.old) (λ left. bytes ≡ left)) }

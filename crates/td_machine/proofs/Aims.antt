@@ -1,4 +1,5 @@
--- What a request comes down to: an operation that may be made where no hold stands against it and there is room for it.
+-- What a request comes down to: an operation that may be made where no hold stands against it and there is room for
+-- it.
 use Rattle.std.proofs.Common.{◌≡◌, ◌<◌, ℕ, List, [], ◌∷◌, true, false, nat_lt, length, Option, Some, None, refl, subst, arith}
 use Rattle.std.proofs.lemmas.Bool.{ltb-false}
 use Rattle.std.specs.Prelude.{slice_get}

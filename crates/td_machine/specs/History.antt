@@ -41,8 +41,8 @@ pub record IsReached (m : Machine) : Type 0 where
   pub legal : IsLegal site size entries
   pub is : m ≡ after (start site size) entries
 
--- a history for each site, that of site s at place s - 1. Sites are numbered from 1, and 0 names none: as 0 - 1 is 0 it
--- would have the history of site 1, so what is said of each site of a family is asked of those from 1 on
+-- a history for each site, that of site s at place s - 1. Sites are numbered from 1, and 0 names none: as 0 - 1 is 0
+-- it would have the history of site 1, so what is said of each site of a family is asked of those from 1 on
 abbrev pub Family : Type 0
 Family = List History
 

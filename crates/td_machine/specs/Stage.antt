@@ -1,5 +1,5 @@
--- A stage for worked examples: machines side by side, their messages in the order of sending, and what each machine was
--- given.
+-- A stage for worked examples: machines side by side, their messages in the order of sending, and what each machine
+-- was given.
 use Rattle.std.specs.Prelude.{ℕ, zero, suc, ◌-◌, List, [], ◌∷◌, ◌++◌, Bool, true, false, length, map, filter, drop, Option, Some, None, if◌then◌else◌, ◌==◌}
 use Rattle.std.specs.List.{filter_map}
 use Rattle.td_base.specs.Value.{DotValue, AtomIdValue}

@@ -14,7 +14,8 @@ abbrev pub is_apart : List DocRow → Slot → Committed → Bool
 is_apart rows slot c = is_rooted rows c.slot && not (overlaps rows c.slot slot)
 
 -- the vote on a proposal of the slot whose vector is v: Yes exactly where the slot is the root or its atom is a row, v
--- has all that was done to the rows in it, no hold overlaps it, and each commit that v does not have lies apart from it
+-- has all that was done to the rows in it, no hold overlaps it, and each commit that v does not have lies apart from
+-- it
 abbrev pub votes_yes : List DocRow → List Hold → List Committed → Slot → List ℕ → Bool
 votes_yes rows holds commits slot v =
     is_rooted rows slot

@@ -37,8 +37,8 @@ pub fn histories_go_on()
     ensures steps { (m : Machine) (input : Input) → IsReached m → IsInput input → IsReached (step m input).machine }
 {}
 
-/// After every legal history the vector counts the operations of each site in the log, the operations of a site are its
-/// first ones in their order, and each operation stands in the log after all of its past (causal delivery; Lamport
+/// After every legal history the vector counts the operations of each site in the log, the operations of a site are
+/// its first ones in their order, and each operation stands in the log after all of its past (causal delivery; Lamport
 /// 1978).
 pub fn logs_are_causal()
     ensures counted { (m : Machine) → IsReached m → (site : ℕ) → 0 < site → site ≤ m.size
@@ -50,8 +50,8 @@ pub fn logs_are_causal()
         → (y : OpValue) × In y older × (y.dot ≡ d) }
 {}
 
-/// No site is 0, and none is past the size: whatever a machine was given, the dots of its operations, and of those that
-/// wait, are of its sites, and of those that wait none is its own.
+/// No site is 0, and none is past the size: whatever a machine was given, the dots of its operations, and of those
+/// that wait, are of its sites, and of those that wait none is its own.
 pub fn operations_are_of_its_sites()
     ensures had { (m : Machine) → IsReached m → (x : OpValue) → In x m.log
         → (0 < x.dot.site) × (x.dot.site ≤ m.size) × (0 < x.dot.seq) }

@@ -76,7 +76,8 @@ module _ (all : List Insertion) (F : AllFollow all) where
       at_slot Root r k ih = true≢false (sym k)
       at_slot (At x s) r k ih = ih r.0 r.1 (subst (λ z. under all b z ≡ true) (dot_in r.0 x r.2) k)
 
-  -- below the row x on the side s, the row r hangs by the pair t: that of an insertion in this slot, or of the run of x
+  -- below the row x on the side s, the row r hangs by the pair t: that of an insertion in this slot, or of the run of
+  -- x
   pub record Top (os : List Insertion) (x : DocRow) (s : Bit) (t : Pair) (r : DocRow) : Type 0 where
     pub ins : Insertion
     pub inside : In ins os

@@ -1,5 +1,5 @@
--- The rows of one insertion hang below one another in every log as in its array; so the empty slot of a new insertion holds
--- none of the run to which the slot's atom belongs.
+-- The rows of one insertion hang below one another in every log as in its array; so the empty slot of a new insertion
+-- holds none of the run to which the slot's atom belongs.
 use Rattle.std.proofs.Common.{◌≡◌, List, [], ◌∷◌, ◌++◌, map, length, sym, ap, ◌∙◌, subst, arith, append_assoc}
 use Rattle.td_base.specs.declared.bit.Bit.{Bit}
 use Rattle.td_base.specs.Lists.{In}

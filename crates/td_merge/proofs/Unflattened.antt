@@ -1,4 +1,5 @@
--- In a consistent family, at each moment at which a site has taken no commit, it has the rows and the text of the one order.
+-- In a consistent family, at each moment at which a site has taken no commit, it has the rows and the text of the one
+-- order.
 use Rattle.std.proofs.Common.{◌≡◌, ◌↔◌, ℕ, List, [], ◌∷◌, ◌++◌, true, map, length, refl, sym, ap, ◌∙◌, subst, inl, inr, append_assoc}
 use Rattle.std.specs.Prelude.{IsTrue}
 use Rattle.td_base.specs.Lists.{In}

@@ -1,5 +1,5 @@
--- A small history of two sites, in two orders in which its operations can have come; and insertions that no family has, in
--- which a slot is used again without a flatten.
+-- A small history of two sites, in two orders in which its operations can have come; and insertions that no family
+-- has, in which a slot is used again without a flatten.
 use Rattle.std.specs.Prelude.{List, [], ◌∷◌}
 use Rattle.td_base.specs.declared.bit.Bit.TheVariants.{Right}
 use Rattle.td_base.specs.Value.{AtomIdValue}
@@ -9,7 +9,8 @@ use Rattle.td_op.specs.declared.body.Body.TheVariants.{Insert, Delete}
 use Rattle.td_op.specs.Op.{OpValue}
 use Rattle.td_order.specs.Example.{atom, dot, letter, op, c_put, a_put}
 
--- The first site pastes abc. When the second has it, each puts a letter right after a, at once, and the second deletes b.
+-- The first site pastes abc. When the second has it, each puts a letter right after a, at once, and the second deletes
+-- b.
 
 abbrev pub b : AtomIdValue
 b = record { dot = dot 1 1; offset = 1 }

@@ -31,7 +31,9 @@ NoCommit ops = (x : OpValue) (proposal : DotValue) → In x ops → x.body ≢ C
 
 -- each delete names an atom that was known where it was made
 abbrev pub DeletesAtoms : List OpValue → Type 0
-DeletesAtoms ops = (x : OpValue) (target : AtomIdValue) → In x ops → x.body ≡ Delete target → (put : IsAtomOf ops target) × IsTrue (in_past put.inside.op x)
+DeletesAtoms ops =
+    (x : OpValue) (target : AtomIdValue) → In x ops → x.body ≡ Delete target
+    → (put : IsAtomOf ops target) × IsTrue (in_past put.inside.op x)
 
 -- where the insertion was made, its slot was empty
 pub record WasFree (ops : List OpValue) (a : Insertion) : Type 0 where

@@ -12,9 +12,10 @@ ghost use Rattle.td_order.specs.Show.{show};
 ghost use Rattle.td_order.specs.Causal.{IsWellRooted};
 ghost use Rattle.td_merge.specs.Log.{NoCommit};
 
-/// The operations that a site of a consistent family has made or taken at a moment are ones that sites can make one after
-/// another: no dot comes twice, each operation is valid and knew all that those in its past knew, and each insertion puts
-/// some atom in a slot whose atom an insertion in its past put. So their order is one, and has each atom once.
+/// The operations that a site of a consistent family has made or taken at a moment are ones that sites can make one
+/// after another: no dot comes twice, each operation is valid and knew all that those in its past knew, and each
+/// insertion puts some atom in a slot whose atom an insertion in its past put. So their order is one, and has each
+/// atom once.
 pub fn logs_are_well_rooted()
     ensures { (family : Family) → IsConsistent family → (t : Moment family) → IsWellRooted (machine_at family t).log }
 {}
@@ -26,8 +27,9 @@ pub fn line_ups_follow_the_past()
 {}
 
 /// At each moment at which a site has taken no commit, the rows of its document are the atoms of the one order of its
-/// operations, and its text is the one that they show. So where two sites have the same operations, or one site has them
-/// at two moments, the same text is shown, in whatever order they came. A commit that comes later takes nothing of that.
+/// operations, and its text is the one that they show. So where two sites have the same operations, or one site has
+/// them at two moments, the same text is shown, in whatever order they came. A commit that comes later takes nothing
+/// of that.
 pub fn texts_converge_where_nothing_is_flattened()
     ensures rows { (family : Family) → IsConsistent family → (t : Moment family) → NoCommit (machine_at family t).log
         → map row_id (machine_at family t).doc ≡ order (machine_at family t).log }

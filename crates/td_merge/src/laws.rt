@@ -13,8 +13,8 @@ ghost use Rattle.td_machine.specs.Replay.{doc_of};
 ghost use Rattle.td_merge.specs.Log.{DeletesAtoms, IsCausalLog, NoCommit, WasFree};
 ghost use Rattle.td_merge.specs.Example.{b, c, operations, first_log, second_log, used_twice, used_twice_log};
 
-/// Where each insertion was made in an empty slot and no slot is flattened: in whatever causal order a replica took the
-/// operations, the rows of its document are the atoms of the one order, in this order. Deletes move no row.
+/// Where each insertion was made in an empty slot and no slot is flattened: in whatever causal order a replica took
+/// the operations, the rows of its document are the atoms of the one order, in this order. Deletes move no row.
 #[tactic(auto, using(crate::proofs::RowsInOrder::rows_in_order))]
 pub fn rows_are_in_order()
     ensures { (ops log : List OpValue) → IsWellRooted ops → NoCommit ops
@@ -22,8 +22,9 @@ pub fn rows_are_in_order()
         → ((x : OpValue) → In x ops → In x log) → map row_id (doc_of log) ≡ order ops }
 {}
 
-/// Under the conditions of `rows_are_in_order`, and where each delete names an atom that was known where it was made, the text
-/// of the document is the one that the operations show: the atoms in order, without those that a delete names.
+/// Under the conditions of `rows_are_in_order`, and where each delete names an atom that was known where it was made,
+/// the text of the document is the one that the operations show: the atoms in order, without those that a delete
+/// names.
 #[tactic(auto, using(crate::proofs::TextInOrder::text_in_order))]
 pub fn text_is_that_of_the_order()
     ensures { (ops log : List OpValue) → IsWellRooted ops → NoCommit ops → DeletesAtoms ops
@@ -31,8 +32,8 @@ pub fn text_is_that_of_the_order()
         → ((x : OpValue) → In x ops → In x log) → text_of (doc_of log) ≡ show ops }
 {}
 
-/// The conditions of both can be met, by a history of two sites with a run, two letters put into one slot at once, and a
-/// delete. Its rows and its text, computed after two orders of arrival, are the same.
+/// The conditions of both can be met, by a history of two sites with a run, two letters put into one slot at once, and
+/// a delete. Its rows and its text, computed after two orders of arrival, are the same.
 #[tactic(auto, using(crate::proofs::ExampleHolds::example))]
 pub fn two_logs_of_a_small_history()
     ensures rooted { IsWellRooted operations }
@@ -49,8 +50,8 @@ pub fn two_logs_of_a_small_history()
     ensures second_text { text_of (doc_of second_log) ≡ 97 ∷ 112 ∷ 113 ∷ 99 ∷ [] }
 {}
 
-/// Without `WasFree` the rows need not be in order: here c stands before a in the document, and after it in the order. No
-/// site makes such an insertion, since it puts a run in an empty slot.
+/// Without `WasFree` the rows need not be in order: here c stands before a in the document, and after it in the order.
+/// No site makes such an insertion, since it puts a run in an empty slot.
 #[tactic(auto, using(crate::proofs::ExampleHolds::others))]
 pub fn empty_slots_are_needed()
     ensures rooted { IsWellRooted used_twice }

@@ -1,9 +1,9 @@
-//! Laws that join the document and the order: which rows and which text a replica's document has, by the one order of all
-//! atoms. It has no code: each law is the contract of a function with an empty body.
+//! Laws that join the document and the order: which rows and which text a replica's document has, by the one order of
+//! all atoms. It has no code: each law is the contract of a function with an empty body.
 //!
-//! Begin at `specs/Log.antt`, the orders in which operations can come to a replica; then
-//! `laws` says what rows and what text these are, as long as nothing is flattened, and `families` what a consistent family
-//! gives to these laws and to those of the order.
+//! Begin at `specs/Log.antt`, the orders in which operations can come to a replica; then `laws` says what rows and
+//! what text these are, as long as nothing is flattened, and `families` what a consistent family gives to these laws
+//! and to those of the order.
 #![tactic(auto)]
 
 mod families;

@@ -1,3 +1,2 @@
 pub mod PastLemmas
 pub mod InsertionLemmas
-pub mod ChangeLemmas

@@ -28,7 +28,8 @@ body_site (Propose slot) = slot_site slot
 body_site (Commit proposal) = Some proposal.site
 body_site (Abort proposal) = Some proposal.site
 
--- neither its own site nor the one that its body names is past the vector's size, and its number is the next of its site
+-- neither its own site nor the one that its body names is past the vector's size, and its number is the next of its
+-- site
 pub record IsOp (x : OpValue) : Type 0 where
   pub own : x.dot.site ≤ length x.deps
   pub named : IfSome (body_site x.body) (λ site. site ≤ length x.deps)

@@ -4,11 +4,12 @@ ghost use Rattle.td_op.specs.Op.{body_site};
 use td_base::{AtomId, Dot, Run, Site};
 use td_path::Slot;
 
-/// What an operation does to the document (Preguiça et al. 2009; the last three are the steps of a flatten, a two-phase
-/// commitment after Gray 1978).
+/// What an operation does to the document (Preguiça et al. 2009; the last three are the steps of a flatten, a
+/// two-phase commitment after Gray 1978).
 #[derive(Clone, Copy, Debug, PartialEq, Eq)]
 pub enum Body {
-    /// Puts the atoms of the run into the slot. The first has the identity of the operation's dot and offset 0, and so on.
+    /// Puts the atoms of the run into the slot. The first has the identity of the operation's dot and offset 0, and so
+    /// on.
     Insert { slot: Slot, run: Run },
     /// Makes the atom a tombstone.
     Delete { target: AtomId },

@@ -33,7 +33,8 @@ impl Change {
     }
 }
 
-// Puts the atoms of the run at the end, and turns them in front of what stood from the index on: one shift for the whole run.
+// Puts the atoms of the run at the end, and turns them in front of what stood from the index on: one shift for the
+// whole run.
 fn put_run(atoms: &mut Vec<Atom>, index: usize, run: &Run)
     requires range { index ≤ length atoms.old.items }
     requires room { vec_len atoms.old + length run.now ≤ vec_capacity atoms.old }
@@ -51,9 +52,7 @@ fn push_run(atoms: &mut Vec<Atom>, run: &Run)
     ensures len { vec_len atoms.new ≡ vec_len atoms.old + length run.now }
     ensures capacity { vec_capacity atoms.old ≤ vec_capacity atoms.new }
 {
-    for i in 0..run.len() {
-        if let Some(atom) = run.atom(i) {
-            atoms.push(atom).unwrap();
-        }
+    for atom in run.iter() {
+        atoms.push(atom).unwrap();
     }
 }

@@ -1,9 +1,9 @@
 //! What sites tell one another and what they answer: operations, votes and messages, requests, inputs, replies and the
 //! entries of a history, and changes of a text. All are values of fixed size that are copied.
 //!
-//! An operation is valid by construction: its dot is the one after those of its site that it depends on, and no site that it
-//! names is past the size of its vector. Begin at `op` and at `specs/Op.antt`. The insertions among operations, and the
-//! atoms that they put, are in `specs/Insertion.antt`. Which operation happened before which is in
+//! An operation is valid by construction: its dot is the one after those of its site that it depends on, and no site
+//! that it names is past the size of its vector. Begin at `op` and at `specs/Op.antt`. The insertions among
+//! operations, and the atoms that they put, are in `specs/Insertion.antt`. Which operation happened before which is in
 //! `specs/Past.antt`, with its laws in `laws`. What a change does to a text is in `specs/Change.antt`.
 #![tactic(auto)]
 

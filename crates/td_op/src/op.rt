@@ -7,9 +7,9 @@ use std::marker::Model;
 use td_base::Dot;
 use td_clock::Vector;
 
-/// An operation: its dot, the vector of the operations that were known where it was made, and what it does. Of its own site
-/// exactly those before it were known, and neither its site nor one that the body names is past the vector's size. No call
-/// takes memory.
+/// An operation: its dot, the vector of the operations that were known where it was made, and what it does. Of its own
+/// site exactly those before it were known, and neither its site nor one that the body names is past the vector's
+/// size. No call takes memory.
 #[derive(Clone, Copy, Debug, PartialEq, Eq)]
 pub struct Op {
     dot: Dot,

@@ -7,7 +7,8 @@ pub enum Reply {
     Made { dot: Dot },
     /// The proposal was given up.
     Cancelled,
-    /// Refused: a slot held for a proposal would change, or overlaps the one proposed. This is the least such proposal.
+    /// Refused: a slot held for a proposal would change, or overlaps the one proposed. This is the least such
+    /// proposal.
     Held { by: Dot },
     /// Refused: the index is past the live atoms, of which there are `len`.
     Position { len: u32 },

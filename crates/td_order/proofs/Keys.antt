@@ -1,5 +1,6 @@
--- Each atom has a key, a list of steps from the root down, by which all atoms can be compared. A step is a rank
--- among the insertions of its slot, the insert's dot, the offset in its run, and 0, 1 or 2: on to the left, here, on to the right.
+-- Each atom has a key, a list of steps from the root down, by which all atoms can be compared. A step is a rank among
+-- the insertions of its slot, the insert's dot, the offset in its run, and 0, 1 or 2: on to the left, here, on to the
+-- right.
 use Rattle.std.proofs.Common.{◌≡◌, ◌⊎◌, ◌<◌, ℕ, List, [], ◌∷◌, true, inl, inr, ⊎_elim}
 use Rattle.td_order.proofs.Lex.{Strict, Lex, lex_strict, Below, nat_strict}
 use Rattle.td_base.specs.Value.{DotValue, AtomIdValue}

@@ -46,7 +46,8 @@ put_before_first-In test ids x [] h = ⊎_elim (λ i. i) (λ j. absurd j) h
 put_before_first-In test ids x (y ∷ ys) h = put_before_first-In_at test ids x y ys (test y) (λ k. put_before_first-In test ids x ys k) h
 
 module _ {X : Type 0} (lt : X → X → Type 0) (trans : (x y z : X) → lt x y → lt y z → lt x z) (test : X → Bool) (ids : List X) (up : Successive lt ids) where
-  -- the ids go right after the last that passes: all that pass are below them, and what is above all that pass is above them
+  -- the ids go right after the last that passes: all that pass are below them, and what is above all that pass is
+  -- above them
   rises_after_last_at : (y : X) (ys : List X) (b : Bool) → b ≡ list_any test (y ∷ ys) → Successive lt (y ∷ ys) → Successive lt (put_after_last test ids ys)
       → ((x a : X) → In x (y ∷ ys) → In a ids → test x ≡ true → lt x a)
       → ((x a : X) → In x (y ∷ ys) → In a ids → test x ≡ false → ((l : X) → In l (y ∷ ys) → test l ≡ true → lt l x) → lt a x)

@@ -22,19 +22,21 @@ abbrev pub IsRootedIn : List OpValue → Insertion → Slot → Type 0
 IsRootedIn ops a Root = Unit {0}
 IsRootedIn ops a (At x bit) = (put : IsAtomOf ops x) × IsTrue (precedes put.insertion a)
 
--- causal operations without a dot twice, of which each insertion puts some atom in a slot that was known where it was made
+-- causal operations without a dot twice, of which each insertion puts some atom in a slot that was known where it was
+-- made
 pub record IsWellRooted (ops : List OpValue) : Type 0 where
   pub apart : DotsDiffer ops
   pub causal : IsCausal ops
   pub full : (a : Insertion) → IsInsertionOf ops a → a.run ≢ []
   pub rooted : (a : Insertion) → IsInsertionOf ops a → IsRootedIn ops a a.slot
 
--- where one insertion in a slot is in the past of another, each third one in the slot comes after the first or before the
--- second. (A slot in which something was put is used again only after a flatten emptied it, and no insertion in the slot is
--- concurrent with that flatten.)
+-- where one insertion in a slot is in the past of another, each third one in the slot comes after the first or before
+-- the second. (A slot in which something was put is used again only after a flatten emptied it, and no insertion in
+-- the slot is concurrent with that flatten.)
 abbrev pub HasEpochs : List OpValue → Type 0
 HasEpochs ops =
-    (c d e : Insertion) → IsInsertionOf ops c → IsInsertionOf ops d → IsInsertionOf ops e → c.slot ≡ d.slot → e.slot ≡ d.slot
+    (c d e : Insertion) → IsInsertionOf ops c → IsInsertionOf ops d → IsInsertionOf ops e
+    → c.slot ≡ d.slot → e.slot ≡ d.slot
     → IsTrue (precedes c d) → IsTrue (precedes c e) ⊎ IsTrue (precedes e d)
 
 -- a part of the operations that has the past of each of its members

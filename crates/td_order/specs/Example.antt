@@ -1,5 +1,5 @@
--- Two small lists of operations: a history of two sites in which a slot is used again after a flatten, and insertions that no
--- family has, in which a slot is used again without one.
+-- Two small lists of operations: a history of two sites in which a slot is used again after a flatten, and insertions
+-- that no family has, in which a slot is used again without one.
 use Rattle.std.specs.Prelude.{ℕ, List, [], ◌∷◌}
 use Rattle.td_base.specs.declared.bit.Bit.TheVariants.{Right}
 use Rattle.td_base.specs.Value.{DotValue, AtomIdValue}
@@ -23,7 +23,8 @@ op site seq deps body = record { dot = dot site seq; deps = deps; body = body }
 abbrev pub letter : ℕ → List (List ℕ)
 letter byte = (byte ∷ []) ∷ []
 
--- The first of two sites types xy and deletes y, and both agree to flatten the slot of y. Then each site puts a letter there.
+-- The first of two sites types xy and deletes y, and both agree to flatten the slot of y. Then each site puts a letter
+-- there.
 
 -- the slot on the right of x
 abbrev pub right_of_x : Slot
@@ -57,8 +58,8 @@ history = x_typed ∷ y_typed ∷ y_deleted ∷ flatten_proposed ∷ flatten_com
 abbrev pub known_to_second : List OpValue
 known_to_second = x_typed ∷ y_typed ∷ y_deleted ∷ flatten_proposed ∷ flatten_committed ∷ q_typed ∷ []
 
--- Site 1 puts c at the root, site 2 does not know it and puts d there, and site 3, which knows c alone, puts a there: though the
--- root was not empty, and no flatten emptied it.
+-- Site 1 puts c at the root, site 2 does not know it and puts d there, and site 3, which knows c alone, puts a there:
+-- though the root was not empty, and no flatten emptied it.
 abbrev pub c_put : OpValue
 c_put = op 1 1 (0 ∷ 0 ∷ 0 ∷ []) (Insert Root (letter 99))
 

@@ -1,5 +1,6 @@
--- The line-up: operations by how many operations each knew, ties by dot (as Lamport 1978 orders events by clock and process).
--- Here a list of operations in line-up has the last one first, so that those before an operation are the tail behind it.
+-- The line-up: operations by how many operations each knew, ties by dot (as Lamport 1978 orders events by clock and
+-- process). Here a list of operations in line-up has the last one first, so that those before an operation are the
+-- tail behind it.
 use Rattle.std.specs.Prelude.{◌≢◌, List, [], ◌∷◌, Bool, if◌then◌else◌}
 use Rattle.std.specs.declared.cmp.Ordering.{Ordering}
 use Rattle.std.specs.List.{list_any}

@@ -1,5 +1,5 @@
--- Where an insertion goes among the atoms of those before it in line-up: the rule by which this project orders concurrent
--- insertions. `placed` are those before it, the last first, and the list has their atoms.
+-- Where an insertion goes among the atoms of those before it in line-up: the rule by which this project orders
+-- concurrent insertions. `placed` are those before it, the last first, and the list has their atoms.
 use Rattle.std.specs.Prelude.{List, [], ◌∷◌, ◌++◌, Bool, true, false, ◌&&◌, not, if◌then◌else◌, filter}
 use Rattle.std.specs.List.{list_any}
 use Rattle.td_base.specs.declared.bit.Bit.TheVariants.{Left, Right}
@@ -52,10 +52,12 @@ abbrev pub has_some : {X : Type 0} → List X → Bool
 has_some [] = false
 has_some (x ∷ xs) = true
 
--- the list with the atoms of a, next to each other: after all that is under a smaller sibling; else, where it has siblings,
--- before all that is under one; else beside the atom that its slot names
+-- the list with the atoms of a, next to each other: after all that is under a smaller sibling; else, where it has
+-- siblings, before all that is under one; else beside the atom that its slot names
 abbrev pub place : List Insertion → List AtomIdValue → Insertion → List AtomIdValue
 place placed list a =
-    if has_some (smaller_siblings placed a) then put_after_last (is_under_any placed (smaller_siblings placed a)) (ids_of a) list
-    else (if has_some (siblings placed a) then put_before_first (is_under_any placed (siblings placed a)) (ids_of a) list
+    if has_some (smaller_siblings placed a)
+    then put_after_last (is_under_any placed (smaller_siblings placed a)) (ids_of a) list
+    else (if has_some (siblings placed a)
+    then put_before_first (is_under_any placed (siblings placed a)) (ids_of a) list
     else put_beside a.slot (ids_of a) list)

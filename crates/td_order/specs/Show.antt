@@ -24,7 +24,9 @@ is_deleted ops x = list_any (λ (o : OpValue). deletes x o.body) ops
 
 -- what the insertion with the dot of the atom puts at its offset
 abbrev pub atom_in : List Insertion → AtomIdValue → Option (List ℕ)
-atom_in inserted x = option_and_then (λ (a : Insertion). slice_get a.run x.offset) (find (λ (a : Insertion). same_dot a.dot x.dot) inserted)
+atom_in inserted x =
+    option_and_then (λ (a : Insertion). slice_get a.run x.offset)
+    (find (λ (a : Insertion). same_dot a.dot x.dot) inserted)
 
 -- the bytes of an atom (an atom of no insertion among the operations has none)
 abbrev pub atom_of : List OpValue → AtomIdValue → List ℕ

@@ -27,7 +27,8 @@ StandsOnSide list Root x = Unit {0}
 StandsOnSide list (At z Left) x = StandsBefore x z list
 StandsOnSide list (At z Right) x = StandsBefore z x list
 
--- of two atoms that hang in the slot, the new one stands nearer to the slot's atom, and at the root nearer to the start
+-- of two atoms that hang in the slot, the new one stands nearer to the slot's atom, and at the root nearer to the
+-- start
 abbrev pub StandsNearer : List AtomIdValue → Slot → AtomIdValue → AtomIdValue → Type 0
 StandsNearer list Root new old = StandsBefore new old list
 StandsNearer list (At z Left) new old = StandsBefore old new list
@@ -45,12 +46,14 @@ pub record ObeysRules (ops : List OpValue) (list : List AtomIdValue) : Type 0 wh
   -- what hangs on the left side of an atom stands before the atom, and what hangs on its right side after it
   pub sides : (b : Insertion) → IsInsertionOf ops b → (x : AtomIdValue) → HangsOn ops b x → StandsOnSide list b.slot x
   -- the atoms of an insertion stand in their order, each with all that hangs on its sides
-  pub runs : (a : Insertion) → IsInsertionOf ops a → (z w : AtomIdValue) → In z (ids_of a) → In w (ids_of a) → z.offset < w.offset
+  pub runs : (a : Insertion) → IsInsertionOf ops a → (z w : AtomIdValue) → In z (ids_of a) → In w (ids_of a)
+      → z.offset < w.offset
       → (x y : AtomIdValue) → HangsAt ops z x → HangsAt ops w y → StandsBefore x y list
   -- of two concurrent insertions in one slot, all that hangs on the one with the smaller dot stands first
   pub by_dot : (b c : Insertion) → IsInsertionOf ops b → IsInsertionOf ops c → b.slot ≡ c.slot
       → ¬ IsTrue (precedes b c) → ¬ IsTrue (precedes c b) → IsTrue (dot_lt b.dot c.dot)
       → (x y : AtomIdValue) → HangsOn ops b x → HangsOn ops c y → StandsBefore x y list
-  -- of two insertions in one slot of which one knew the other, all that hangs on the newer one stands nearer to the slot's atom
+  -- of two insertions in one slot of which one knew the other, all that hangs on the newer one stands nearer to the
+  -- slot's atom
   pub nearer : (b c : Insertion) → IsInsertionOf ops b → IsInsertionOf ops c → b.slot ≡ c.slot → IsTrue (precedes b c)
       → (new old : AtomIdValue) → HangsOn ops c new → HangsOn ops b old → StandsNearer list c.slot new old

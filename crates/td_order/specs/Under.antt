@@ -21,8 +21,8 @@ abbrev pub names_under : (DotValue → Bool) → Slot → Bool
 names_under is_under Root = false
 names_under is_under (At x bit) = is_under x.dot
 
--- of these insertions, the last in line-up first: the one with the dot c is under the one with the dot b, since it is that
--- one, or since the slot that it wrote names an atom of one before it that is under b
+-- of these insertions, the last in line-up first: the one with the dot c is under the one with the dot b, since it is
+-- that one, or since the slot that it wrote names an atom of one before it that is under b
 abbrev pub under : List Insertion → DotValue → DotValue → Bool
 under [] b c = false
 under (a ∷ before) b c =
@@ -32,8 +32,8 @@ under (a ∷ before) b c =
 abbrev pub is_under_any : List Insertion → List Insertion → AtomIdValue → Bool
 is_under_any placed tops x = list_any (λ (b : Insertion). under placed b.dot x.dot) tops
 
--- the same as a relation, in no order: the insertion c of these operations is under b since it is b, or since the slot that it
--- wrote names an atom of one of their insertions that is under b
+-- the same as a relation, in no order: the insertion c of these operations is under b since it is b, or since the slot
+-- that it wrote names an atom of one of their insertions that is under b
 pub data IsUnder (ops : List OpValue) (b : Insertion) : Insertion → Type 0 where
   itself : IsUnder ops b b
   by_slot : (c d : Insertion) → IsInsertionOf ops d → NamesAtomOf c.slot d → IsUnder ops b d → IsUnder ops b c

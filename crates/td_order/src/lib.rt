@@ -1,10 +1,11 @@
-//! The one order of all atoms that operations insert, and the text that they make, by what each operation wrote and knew
-//! alone: no path, no document, no message and no order of arrival is looked at.
+//! The one order of all atoms that operations insert, and the text that they make, by what each operation wrote and
+//! knew alone: no path, no document, no message and no order of arrival is looked at.
 //!
-//! Begin at `specs/Order.antt`: the operations are lined up (`specs/LineUp.antt`), and the atoms of each insertion are placed
-//! among those of the insertions before it (`specs/Place.antt`, `specs/Under.antt`). `order_of` and `show_of` compute both as
-//! they are written, slowly. `laws` says what the definitions come to; `standing`, that the order is the only list that obeys
-//! a few rules on two atoms (`specs/Standing.antt`); `part`, that a part of the operations has the order of the whole.
+//! Begin at `specs/Order.antt`: the operations are lined up (`specs/LineUp.antt`), and the atoms of each insertion are
+//! placed among those of the insertions before it (`specs/Place.antt`, `specs/Under.antt`). `order_of` and `show_of`
+//! compute both as they are written, slowly. `laws` says what the definitions come to; `standing`, that the order is
+//! the only list that obeys a few rules on two atoms (`specs/Standing.antt`); `part`, that a part of the operations
+//! has the order of the whole.
 #![tactic(auto)]
 
 mod atom_ids;

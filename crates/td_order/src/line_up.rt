@@ -16,8 +16,8 @@ pub fn line_up(alloc: Global, ops: &[Op]) -> Result<Vec<Op>, Memory>
     Ok(line)
 }
 
-/// Whether no two of the operations have one dot: the condition of `order_of` and `show_of`. It compares each two, and takes
-/// no memory.
+/// Whether no two of the operations have one dot: the condition of `order_of` and `show_of`. It compares each two, and
+/// takes no memory.
 pub fn dots_differ(ops: &[Op]) -> bool
     ensures { IsTrue result ↔ DotsDiffer ops.now }
 {

@@ -10,8 +10,8 @@ use std::alloc::Global;
 use td_base::{AtomId, Memory};
 use td_op::{Insertion, Op};
 
-/// The atoms of all insertions in the one order that the operations give them, deleted ones too. It looks through all atoms
-/// for each insertion, so it is for small lists and for comparison.
+/// The atoms of all insertions in the one order that the operations give them, deleted ones too. It looks through all
+/// atoms for each insertion, so it is for small lists and for comparison.
 pub fn order_of(alloc: Global, ops: &[Op]) -> Result<AtomIds, Memory>
     requires { DotsDiffer ops.now }
     ensures { IfOk result (λ ids. ids ≡ order ops.now) }

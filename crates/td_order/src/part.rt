@@ -24,8 +24,8 @@ pub fn a_slot_used_once_has_epochs()
         → HasEpochs ops }
 {}
 
-/// The conditions of `a_part_keeps_the_order` can be met, by a history in which a slot is used again after a flatten. The
-/// order of what the second site knew is that of all, with p left out.
+/// The conditions of `a_part_keeps_the_order` can be met, by a history in which a slot is used again after a flatten.
+/// The order of what the second site knew is that of all, with p left out.
 #[tactic(auto, using(crate::proofs::ExampleHolds::example))]
 pub fn a_small_history()
     ensures rooted { IsWellRooted history }
@@ -36,8 +36,8 @@ pub fn a_small_history()
     ensures text { show history ≡ 120 ∷ 112 ∷ 113 ∷ [] }
 {}
 
-/// Without `HasEpochs` a part need not have the order of the whole: here a stands before c in the part, and after it in the
-/// whole.
+/// Without `HasEpochs` a part need not have the order of the whole: here a stands before c in the part, and after it
+/// in the whole.
 #[tactic(auto, using(crate::proofs::ExampleHolds::others))]
 pub fn epochs_are_needed()
     ensures rooted { IsWellRooted without_epochs }

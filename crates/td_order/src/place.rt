@@ -11,8 +11,8 @@ use std::alloc::Global;
 use td_base::{AtomId, Memory};
 use td_op::Insertion;
 
-/// The list with the atoms of the new insertion, where `placed` are the insertions whose atoms it has, the last in line-up
-/// first.
+/// The list with the atoms of the new insertion, where `placed` are the insertions whose atoms it has, the last in
+/// line-up first.
 pub fn place(
     alloc: Global,
     placed: &[Insertion],

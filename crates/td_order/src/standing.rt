@@ -11,7 +11,8 @@ ghost use Rattle.td_order.specs.Order.{order};
 ghost use Rattle.td_order.specs.Standing.{ObeysRules};
 ghost use Rattle.td_order.specs.Causal.{HasEpochs, IsWellRooted};
 
-/// An insertion is under another where a chain of slots, each at an atom of the next insertion, leads from it to the other.
+/// An insertion is under another where a chain of slots, each at an atom of the next insertion, leads from it to the
+/// other.
 #[tactic(auto, using(crate::proofs::UnderLemmas::under_by_slots))]
 pub fn under_goes_by_slots()
     ensures { (ops : List OpValue) → IsWellRooted ops → (b c : Insertion) → IsInsertionOf ops b → IsInsertionOf ops c

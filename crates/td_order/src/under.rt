@@ -5,8 +5,8 @@ use td_base::{AtomId, Dot};
 use td_op::Insertion;
 use td_path::Slot;
 
-/// Of these insertions, the last in line-up first: whether the one with the dot is under the one with the dot `top`. It walks
-/// from the dot up, from slot to slot, to insertions that are earlier and earlier.
+/// Of these insertions, the last in line-up first: whether the one with the dot is under the one with the dot `top`.
+/// It walks from the dot up, from slot to slot, to insertions that are earlier and earlier.
 pub fn is_under(placed: &[Insertion], top: Dot, dot: Dot) -> bool
     ensures { result ≡ under placed.now top dot }
 {

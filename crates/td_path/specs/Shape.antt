@@ -1,4 +1,5 @@
--- The shape of an array: the tree of bits into which a list of atoms explodes (Preguiça et al. 2009), which halves it at each node.
+-- The shape of an array: the tree of bits into which a list of atoms explodes (Preguiça et al. 2009), which halves it
+-- at each node.
 use Rattle.std.specs.Prelude.{ℕ, zero, suc, ◌-◌, ◌/◌, ◌==◌, List, [], ◌∷◌, ◌++◌, Bool, true, false, ◌&&◌, if◌then◌else◌, map, Option}
 use Rattle.std.specs.List.{position}
 use Rattle.std.specs.declared.cmp.Ordering.{Ordering}
@@ -14,8 +15,8 @@ use Rattle.td_path.specs.Infix.{node_cmp}
 abbrev pub Bits : Type 0
 Bits = List Bit
 
--- the bit paths of the atoms of an array of k, in the order of the array. The atom with k / 2 before it stands at the top, those
--- before it are an array on its left, those after it one on its right. The first number is at least k
+-- the bit paths of the atoms of an array of k, in the order of the array. The atom with k / 2 before it stands at the
+-- top, those before it are an array on its left, those after it one on its right. The first number is at least k
 abbrev pub shape_upto : ℕ → ℕ → List Bits
 shape_upto zero k = []
 shape_upto (suc n) k =

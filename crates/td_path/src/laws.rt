@@ -20,8 +20,8 @@ pub fn infix_is_a_total_order()
     ensures apart { (p q : Pairs) → path_cmp p q ≡ Equal → p ≡ q }
 {}
 
-/// A node stands after all that hangs on its left and before all that hangs on its right, and what stands between the node
-/// and something that hangs on one side hangs on that side too. So the rows of a slot stand next to each other.
+/// A node stands after all that hangs on its left and before all that hangs on its right, and what stands between the
+/// node and something that hangs on one side hangs on that side too. So the rows of a slot stand next to each other.
 #[tactic(auto, using(crate::proofs::InfixOrder::left_before, crate::proofs::InfixOrder::right_after, crate::proofs::InfixOrder::between_left, crate::proofs::InfixOrder::between_right))]
 pub fn slots_stand_beside_their_node()
     ensures left { (p rest : Pairs) (x : AtomIdValue) → path_cmp (p ++ (Left, x) ∷ rest) p ≡ Less }
@@ -47,9 +47,9 @@ pub fn equal_slots_are_one()
     ensures one { (s t : Slot) → same_slot s t ≡ true → s ≡ t }
 {}
 
-/// An array has one bit path for each atom, and the path leads back to the atom and to no other. Paths stand in the order of
-/// the array, and are short: the atom that the longest path leads to is at a depth of at most the binary logarithm of the number
-/// of atoms.
+/// An array has one bit path for each atom, and the path leads back to the atom and to no other. Paths stand in the
+/// order of the array, and are short: the atom that the longest path leads to is at a depth of at most the binary
+/// logarithm of the number of atoms.
 #[tactic(auto, using(crate::proofs::ArrayShape::shape_length, crate::proofs::ArrayShape::index_of_path, crate::proofs::ArrayShape::path_of_index, crate::proofs::ArrayShape::shape_order, crate::proofs::ArrayShape::shape_depth))]
 pub fn an_array_has_a_short_path_for_each_atom()
     ensures one_each { (k : ℕ) → length (shape k) ≡ k }

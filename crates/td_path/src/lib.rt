@@ -1,8 +1,8 @@
 //! Paths in the tree of a Treedoc document, and slots, by their atom or by its path (Preguiça et al. 2009).
 //!
 //! `infix` is the order of the infix walk, `contains` and `overlap` say which slots have which rows, `shape_path` and
-//! `shape_index` where the atoms of an array hang. All are the definitions of `specs/Infix.antt`, `specs/SlotPaths.antt` and
-//! `specs/Shape.antt`: begin there.
+//! `shape_index` where the atoms of an array hang. All are the definitions of `specs/Infix.antt`,
+//! `specs/SlotPaths.antt` and `specs/Shape.antt`: begin there.
 #![tactic(auto)]
 
 mod infix_order;

@@ -5,8 +5,9 @@ use std::alloc::Global;
 use std::cmp::Ordering;
 use td_base::{Bit, Memory};
 
-/// The bits from the top node of an array of `k` atoms down to its atom `i`, counted from 0, where the array is halved at each
-/// node as `explode` does it (Preguiça et al. 2009). They are at most as many as the binary digits of `k` less one.
+/// The bits from the top node of an array of `k` atoms down to its atom `i`, counted from 0, where the array is halved
+/// at each node as `explode` does it (Preguiça et al. 2009). They are at most as many as the binary digits of `k` less
+/// one.
 pub fn shape_path(alloc: Global, k: u32, i: u32) -> Result<Vec<Bit>, Memory>
     requires { i < k }
     ensures { IfOk result (λ bits. slice_get (shape k) i ≡ Some bits.items) }
@@ -32,8 +33,8 @@ pub fn shape_path(alloc: Global, k: u32, i: u32) -> Result<Vec<Bit>, Memory>
     }
 }
 
-/// The atom, counted from 0, to which these bits lead from the top node of an array of `k` atoms. None where no atom of the
-/// array has them. Takes no memory.
+/// The atom, counted from 0, to which these bits lead from the top node of an array of `k` atoms. None where no atom
+/// of the array has them. Takes no memory.
 pub fn shape_index(k: u32, bits: &[Bit]) -> Option<u32>
     ensures { result ≡ shape_index k bits.now }
 {

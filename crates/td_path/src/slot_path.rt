@@ -42,8 +42,8 @@ fn contains_slot(slot: &SlotPath, other: &SlotPath) -> bool
     }
 }
 
-/// Whether the path begins with the front and goes on by the bit: whether the slot on that side of the node at the front
-/// contains the row with the path. Takes no memory.
+/// Whether the path begins with the front and goes on by the bit: whether the slot on that side of the node at the
+/// front contains the row with the path. Takes no memory.
 pub fn goes_on(front: &Path, bit: Bit, path: &Path) -> bool
     ensures { result ≡ goes_on front.now bit path.now }
 {

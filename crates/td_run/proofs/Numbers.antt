@@ -1,4 +1,5 @@
--- How an index is written: what `decimal` writes of a number below 10^9, and what the digits of such a number are worth.
+-- How an index is written: what `decimal` writes of a number below 10^9, and what the digits of such a number are
+-- worth.
 use Rattle.std.proofs.Common.{Bool, false, IsTrue, ◌↔◌, All, nat_eq, nat_le, eq-eqb, ◌≡◌, ◌≢◌, ◌+◌, ◌*◌, ◌-◌, ◌<◌, ◌≤◌, ◌^◌, ℕ, List, length, take, get_or, sym, ap, subst, ◌∙◌, zero, suc, arith}
 use Rattle.std.specs.Fmt.{decimal}
 use Rattle.std.proofs.lemmas.Bool.{eqb-true, leb-true, false≢true}

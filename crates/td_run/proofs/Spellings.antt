@@ -1,4 +1,5 @@
--- The lines of many commands: they spell one list of commands alone, and where a line is no command's, they spell none.
+-- The lines of many commands: they spell one list of commands alone, and where a line is no command's, they spell
+-- none.
 use Rattle.std.proofs.Common.{IsTrue, nat_eq, eq-eqb, ◌≡◌, ◌≢◌, ◌≤◌, ⊎_elim, ℕ, List, [], ◌∷◌, ◌++◌, All, codes, length, sum_by, sym, ap, subst, refl, ◌∙◌, append_assoc, append-nil, length-append, arith}
 use Rattle.std.specs.Fmt.{decimal}
 use Rattle.std.specs.List.{flat_map}

@@ -13,8 +13,8 @@ use Rattle.td_run.specs.FirstForm.{Spells}
 use Rattle.td_run.specs.Editor.{output, plain_list}
 use Rattle.td_run.specs.Answer.{IsPlay, IsPrinted, IsNoScript, IsWhole, PutsFront, fault_line, usage_line}
 
--- by what the source and the sink tell of themselves: of the words, the source before and after, the sink before and after,
--- and the status
+-- by what the source and the sink tell of themselves: of the words, the source before and after, the sink before and
+-- after, and the status
 pub record IsAnswered {S K : Type 0} (s : source.Ghosts S) (k : sink.Ghosts K) (words : List (List ℕ)) (old new : S)
     (before after : K) (status : Status) : Type 0 where
   -- Done: what the commands of the input print was put

@@ -35,7 +35,8 @@ insert_text e s index (byte ∷ text) =
 abbrev pub insert_line : ℕ → ℕ → Option ℕ → List ℕ
 insert_line made count None = codes "ins 1 " ++ (decimal made ++ (codes "/" ++ (decimal count ++ codes "\n")))
 insert_line made count (Some len) =
-    codes "ins 1 " ++ (decimal made ++ (codes "/" ++ (decimal count ++ (codes " position " ++ (decimal len ++ codes "\n")))))
+    codes "ins 1 "
+    ++ (decimal made ++ (codes "/" ++ (decimal count ++ (codes " position " ++ (decimal len ++ codes "\n")))))
 
 abbrev pub show_line : List ℕ → List ℕ
 show_line text = codes "show 1 \"" ++ text ++ codes "\"\n"

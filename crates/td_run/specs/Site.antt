@@ -21,7 +21,11 @@ next_atom made = record { dot = record { site = 1; seq = made + 1 }; offset = 0 
 
 -- the site after one insert more, in the slot that is allocated after the live atom before the index, or at the start
 abbrev pub typed_at : SiteState → ℕ → List ℕ → SiteState
-typed_at s index atom = record { rows = insert_atom (alloc s.rows (anchor s.rows index)) (next_atom s.made) atom s.rows; made = s.made + 1 }
+typed_at s index atom =
+    record {
+      rows = insert_atom (alloc s.rows (anchor s.rows index)) (next_atom s.made) atom s.rows;
+      made = s.made + 1;
+    }
 
 -- the site as what keeps the atoms
 abbrev pub treedoc : Editor SiteState

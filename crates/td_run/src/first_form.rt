@@ -22,8 +22,8 @@ pub enum Command {
     Insert { index: u32, text: Bytes },
 }
 
-/// Reads an input of the first form: nothing, or the line `sites 1` and then lines `show 1` and `ins 1 INDEX "TEXT"`, each
-/// ended by LF. An input of any other form is `None`.
+/// Reads an input of the first form: nothing, or the line `sites 1` and then lines `show 1` and `ins 1 INDEX "TEXT"`,
+/// each ended by LF. An input of any other form is `None`.
 pub fn read_first_form(alloc: Global, input: &[u8]) -> Result<Option<Vec<Command>>, Memory>
     ensures some { IfOk result (λ read. IfSome read (λ commands. Spells input.now commands.items)) }
     ensures none { IfOk result (λ read. IfNone read ((commands : List Command) → ¬ Spells input.now commands)) }
@@ -139,5 +139,6 @@ pub fn spellings_are_unique()
 /// The texts of an input's commands have no more bytes than an input can have.
 #[tactic(auto, using(crate::proofs::Spellings::texts_fit))]
 pub fn texts_fit_the_input()
-    ensures { (input : List ℕ) (commands : List Command) → Spells input commands → sum_by text_len commands ≤ MAX_INPUT }
+    ensures { (input : List ℕ) (commands : List Command)
+        → Spells input commands → sum_by text_len commands ≤ MAX_INPUT }
 {}

@@ -1,7 +1,7 @@
 //! The program's run: from the bytes of an input to the bytes that it prints.
 //!
-//! Begin at `first_form`, the language of the input, and at `specs/FirstForm.antt`, its grammar; at `program`, the call on top,
-//! and at `specs/Answered.antt`, what it promises.
+//! Begin at `first_form`, the language of the input, and at `specs/FirstForm.antt`, its grammar; at `program`, the
+//! call on top, and at `specs/Answered.antt`, what it promises.
 #![tactic(auto)]
 
 mod first_form;

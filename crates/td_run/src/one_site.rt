@@ -47,8 +47,8 @@ impl OneSite {
         })
     }
 
-    /// Inserts the bytes of a text of ASCII one by one, each right after the one before, up to the first that is refused. After
-    /// want of memory some of them may stand.
+    /// Inserts the bytes of a text of ASCII one by one, each right after the one before, up to the first that is
+    /// refused. After want of memory some of them may stand.
     pub fn insert_text(&mut self, index: u32, text: &[u8]) -> Result<Typed, Memory>
         requires room { self.old.made + length text.now ≤ MAX_SEQ }
         requires fits { index + length text.now < 2 ^ 32 }

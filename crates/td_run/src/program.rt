@@ -21,9 +21,9 @@ const USAGE: &[u8] = b"usage: treedoc play | live | kept | check | gen SIZE NUMB
 /// Written where the input is no script.
 const FAULT: &[u8] = b"fault 0 form\n";
 
-/// Runs the program: with the one word `play`, reads a script from the source and puts what its commands print into the
-/// sink. The sink takes the whole output that goes with the status; where that is `Write` a front of it, and where it is
-/// `Memory` or `Read` nothing.
+/// Runs the program: with the one word `play`, reads a script from the source and puts what its commands print into
+/// the sink. The sink takes the whole output that goes with the status; where that is `Write` a front of it, and where
+/// it is `Memory` or `Read` nothing.
 pub fn run_plain<S: Source, K: Sink>(
     alloc: Global,
     words: &[Bytes],

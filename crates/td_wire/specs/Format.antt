@@ -1,4 +1,5 @@
--- Which messages a format can say: format 2 all of them, and the older format 1 those of a first version of the buffer.
+-- Which messages a format can say: format 2 all of them, and the older format 1 those of a first version of the
+-- buffer.
 use Rattle.std.specs.Prelude.{◌≡◌, ◌≤◌, length}
 use Rattle.td_base.specs.Value.{AtomIdValue}
 use Rattle.td_path.specs.declared.slot.Slot.{Slot}

@@ -33,6 +33,6 @@ pub(crate) const MAX_OP_LEN: usize = KIND_LEN + DOT_LEN + MAX_DEPS_LEN + MAX_BOD
 /// The same of a vote: its voter, proposal and answer.
 pub(crate) const VOTE_LEN: usize = KIND_LEN + 1 + DOT_LEN + 1;
 
-/// The greatest length of a spelling, 402: that of an insert at 64 sites, in a slot at an atom, of a run of 64 bytes in
-/// 64 atoms.
+/// The greatest length of a spelling, 402: that of an insert at 64 sites, in a slot at an atom, of a run of 64 bytes
+/// in 64 atoms.
 pub const MAX_PACKET_LEN: usize = MARK_LEN + MAX_OP_LEN;

@@ -1,7 +1,7 @@
 //! The program `treedoc`: the words of the command line, standard input and standard output for `td_run`.
 //!
-//! It ends with the number of the status that `run` answers, and tells a person on standard error what went wrong. What the
-//! program does is the contract of `td_run::run`.
+//! It ends with the number of the status that `run` answers, and tells a person on standard error what went wrong.
+//! What the program does is the contract of `td_run::run`.
 #![tactic(auto)]
 
 ghost use Rattle.std.specs.Prelude.{◌≡◌};

@@ -10,8 +10,8 @@ ghost use Rattle.td_doc.specs.Array.{named, array};
 ghost use Rattle.td_base.specs.RunAtoms.{NamedAtom};
 ghost use Rattle.td_doc.specs.Subtrees.{bits_in};
 
-/// The rows of an array have its atoms in their order. They are live, stand in infix order and all in the slot, and hang there by
-/// the bits of the shape.
+/// The rows of an array have its atoms in their order. They are live, stand in infix order and all in the slot, and
+/// hang there by the bits of the shape.
 #[tactic(auto, using(crate::proofs::ArrayRows::array_names, crate::proofs::ArrayRows::array_live, crate::proofs::ArrayRows::array_order, crate::proofs::SlotRows::contained_in, crate::proofs::ArrayBits::array_bits))]
 pub fn an_array_has_its_atoms_in_their_order()
     ensures atoms { (slot : SlotPath) (atoms : List NamedAtom) → map named (array slot atoms) ≡ atoms }

@@ -16,8 +16,8 @@ pub fn a_delete_keeps_the_rules()
         → map named (delete id by rows) ≡ map named rows }
 {}
 
-/// The row that a delete names has its dot, so it is a tombstone, and each other row is as before. So one atom goes from the
-/// text, and the others stay in their order.
+/// The row that a delete names has its dot, so it is a tombstone, and each other row is as before. So one atom goes
+/// from the text, and the others stay in their order.
 #[tactic(auto, using(crate::proofs::Deleted::delete_marks, crate::proofs::Deleted::delete_leaves, crate::proofs::Deleted::delete_live))]
 pub fn a_delete_marks_one_row()
     ensures marked { (id : AtomIdValue) (by : DotValue) (rows : List DocRow) (r : DocRow) → In r (delete id by rows)

@@ -25,8 +25,8 @@ pub fn flatten_puts_an_array_in_place()
         (flatten slot rows) }
 {}
 
-/// A flatten changes no text. All rows but the tombstones of the slot stay, in their order, with their identities, atoms and
-/// delete dots.
+/// A flatten changes no text. All rows but the tombstones of the slot stay, in their order, with their identities,
+/// atoms and delete dots.
 #[tactic(auto, using(crate::proofs::Flattened::flatten_keeps_names, crate::proofs::Flattened::flatten_keeps_deletes, crate::proofs::Flattened::flatten_keeps_live, crate::proofs::Flattened::flatten_keeps_text))]
 pub fn flatten_keeps_the_text()
     ensures rows { (rows : List DocRow) (slot : Slot) → IsDocument rows
@@ -38,9 +38,9 @@ pub fn flatten_keeps_the_text()
     ensures text { (rows : List DocRow) (slot : Slot) → IsDocument rows → text_of (flatten slot rows) ≡ text_of rows }
 {}
 
-/// Of any two rows that stay, both in the slot, both outside or one of each, the one that stood first stands first afterwards.
-/// A row outside the slot, as one whose subtree has the slot, has afterwards the rows in its subtree that it had, as far as they
-/// stay, and no others.
+/// Of any two rows that stay, both in the slot, both outside or one of each, the one that stood first stands first
+/// afterwards. A row outside the slot, as one whose subtree has the slot, has afterwards the rows in its subtree that
+/// it had, as far as they stay, and no others.
 #[tactic(auto, using(crate::proofs::KeptOrder::flatten_order, crate::proofs::SubtreeRows::under_kept, crate::proofs::SubtreeRows::slot_above))]
 pub fn flatten_keeps_order_and_subtrees()
     ensures order { (rows : List DocRow) (slot : Slot) (x y : AtomIdValue) → IsDocument rows

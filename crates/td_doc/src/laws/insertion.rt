@@ -12,8 +12,8 @@ ghost use Rattle.td_doc.specs.Insertion.{insert_atom, insert_run, ComesBetween};
 ghost use Rattle.td_doc.specs.Answers.{IsRow, IsFresh, is_rooted};
 ghost use Rattle.td_doc.specs.Stretches.{IsPutTogether, RunBetween};
 
-/// An atom put in the slot that is allocated after a row stands right after that row, tombstone or not; at the start it
-/// stands first.
+/// An atom put in the slot that is allocated after a row stands right after that row, tombstone or not; at the start
+/// it stands first.
 #[tactic(auto, using(crate::proofs::Placement::placed_first, crate::proofs::Placement::placed_after))]
 pub fn what_is_placed_stands_there()
     ensures first { (rows : List DocRow) (id : AtomIdValue) (atom : List ℕ)
@@ -24,8 +24,8 @@ pub fn what_is_placed_stands_there()
         (insert_atom (alloc (front ++ r ∷ back) (Some (row_id r))) id atom (front ++ r ∷ back)) }
 {}
 
-/// So does a run: its atoms stand next to each other, in their order, right after the row that the run was placed after, or
-/// first.
+/// So does a run: its atoms stand next to each other, in their order, right after the row that the run was placed
+/// after, or first.
 #[tactic(auto, using(crate::proofs::Placement::run_first, crate::proofs::Placement::run_after))]
 pub fn a_run_stands_together()
     ensures first { (rows : List DocRow) → IsDocument rows → (dot : DotValue) (run : List (List ℕ))
@@ -40,7 +40,8 @@ pub fn a_run_stands_together()
 #[tactic(auto, using(crate::proofs::Together::run_together))]
 pub fn a_run_stands_together_in_any_slot()
     ensures { (rows : List DocRow) (slot : Slot) (dot : DotValue) (run : List (List ℕ)) → IsDocument rows
-        → IsFresh rows dot → IsTrue (is_rooted rows slot) → IsPutTogether (run_atoms dot run) rows (insert_run slot dot run rows) }
+        → IsFresh rows dot → IsTrue (is_rooted rows slot)
+        → IsPutTogether (run_atoms dot run) rows (insert_run slot dot run rows) }
 {}
 
 /// Typing is typing: an atom placed at an index stands at that index among the atoms shown, and no other atom moves.
@@ -60,22 +61,23 @@ pub fn a_run_stands_at_its_index()
         ≡ take index (live_atoms rows) ++ run ++ drop index (live_atoms rows) }
 {}
 
-/// An atom with a new identity, put in a slot whose atom is a row, leaves a document. It is a row in the slot then, no other row
-/// is added, and none goes.
+/// An atom with a new identity, put in a slot whose atom is a row, leaves a document. It is a row in the slot then, no
+/// other row is added, and none goes.
 #[tactic(auto, using(crate::proofs::Rules::insert_keeps, crate::proofs::AddedRows::insert_there, crate::proofs::Rules::insert_adds, crate::proofs::Rules::insert_stays))]
 pub fn insertion_keeps_the_rules()
     ensures document { (rows : List DocRow) (slot : Slot) (id : AtomIdValue) (atom : List ℕ) → IsDocument rows
         → IsNone (find_row id rows) → IsTrue (is_rooted rows slot) → IsDocument (insert_atom slot id atom rows) }
     ensures there { (rows : List DocRow) (slot : Slot) (id : AtomIdValue) (atom : List ℕ) → IsDocument rows
-        → IsNone (find_row id rows) → IsTrue (is_rooted rows slot) → is_within (insert_atom slot id atom rows) id slot ≡ true }
+        → IsNone (find_row id rows) → IsTrue (is_rooted rows slot)
+        → is_within (insert_atom slot id atom rows) id slot ≡ true }
     ensures adds { (slot : Slot) (id : AtomIdValue) (atom : List ℕ) (rows : List DocRow) (s : DocRow)
         → In s (insert_atom slot id atom rows) → In s rows ⊎ (row_id s ≡ id) }
     ensures stays { (slot : Slot) (id : AtomIdValue) (atom : List ℕ) (rows : List DocRow) (s : DocRow) → In s rows
         → In s (insert_atom slot id atom rows) }
 {}
 
-/// A run of which no row has the dot, put in a slot whose atom is a row, leaves a document. Its atoms are rows in the slot then,
-/// no other rows are added, and none goes.
+/// A run of which no row has the dot, put in a slot whose atom is a row, leaves a document. Its atoms are rows in the
+/// slot then, no other rows are added, and none goes.
 #[tactic(auto, using(crate::proofs::Rules::run_keeps, crate::proofs::AddedRows::run_there, crate::proofs::Rules::run_adds, crate::proofs::Rules::run_stays))]
 pub fn a_run_keeps_the_rules()
     ensures document { (rows : List DocRow) (slot : Slot) (dot : DotValue) (run : List (List ℕ)) → IsDocument rows

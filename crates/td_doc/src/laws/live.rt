@@ -18,8 +18,8 @@ pub fn a_live_row_is_found_at_its_index()
         → live_id_at rows index ≡ Some id → live_before id rows ≡ index }
 {}
 
-/// What a run does to the atoms shown, in any slot whose atom is a row: its atoms stand where the first of them stands, and
-/// no other moves. After a live row that is right behind it, and at the start before all.
+/// What a run does to the atoms shown, in any slot whose atom is a row: its atoms stand where the first of them
+/// stands, and no other moves. After a live row that is right behind it, and at the start before all.
 #[tactic(auto, using(crate::proofs::LiveIndex::run_put, crate::proofs::LiveIndex::run_put_after, crate::proofs::LiveIndex::run_put_first))]
 pub fn a_run_is_put_among_the_atoms_shown()
     ensures slot { (rows : List DocRow) (slot : Slot) (dot : DotValue) (run : List (List ℕ)) → IsDocument rows

@@ -14,8 +14,8 @@ pub fn rows_of_a_slot_stand_together()
     ensures subtree { (rows : List DocRow) (id : AtomIdValue) → IsDocument rows → IsStretch (rows_under rows id) rows }
 {}
 
-/// Slots that do not overlap have no row in common, and a flatten at one of them leaves the rows of the other as they are. To
-/// overlap is mutual.
+/// Slots that do not overlap have no row in common, and a flatten at one of them leaves the rows of the other as they
+/// are. To overlap is mutual.
 #[tactic(auto, using(crate::proofs::ApartSlots::overlaps_mutual, crate::proofs::ApartSlots::no_common_row, crate::proofs::ApartSlots::other_slot))]
 pub fn slots_apart_share_no_row()
     ensures mutual { (rows : List DocRow) (s t : Slot) → overlaps rows s t ≡ overlaps rows t s }

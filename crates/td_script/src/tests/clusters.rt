@@ -3,8 +3,8 @@ use std::alloc::Global;
 use std::process::Abort;
 use std::test::Fail;
 
-// The last samples of GraphemeBreakTest.txt of Unicode 15.0.0, with a bar at each boundary. The one with U+2701 is left
-// out: `unicode_segmentation` goes by a later version, in which U+2701 is no pictograph.
+// The last samples of GraphemeBreakTest.txt of Unicode 15.0.0, with a bar at each boundary. The one with U+2701 is
+// left out: `unicode_segmentation` goes by a later version, in which U+2701 is no pictograph.
 const SAMPLES: [&str; 23] = [
     "\u{d}\u{a}|\u{61}|\u{a}|\u{308}",
     "\u{61}\u{308}",

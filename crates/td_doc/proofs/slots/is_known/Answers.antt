@@ -6,7 +6,7 @@ use Rattle.td_path.specs.declared.slot.Slot.{Slot}
 use Rattle.td_path.specs.declared.slot_path.SlotPath.TheVariants.{Below}
 use Rattle.td_doc.specs.Document.{DocRow}
 use Rattle.td_doc.specs.Slots.{rows_below, is_known_row, is_known}
-use Rattle.td_doc.proofs.RowLists.{all_among}
+use Rattle.td_base.proofs.Searches.{all_among}
 use Rattle.td_doc.proofs.slots.is_known.Goals as goal
 
 pub returns-in-Root : goal.returns-in-Root
