@@ -1,9 +1,8 @@
 -- What the walks over the rows find, as the definitions say it.
-use Rattle.std.proofs.Common.{◌≡◌, ℕ, suc, ◌+◌, ◌≤◌, List, [], ◌∷◌, Bool, true, false, ◌||◌, ◌&&◌, cond, find, is_some, sym, ap, ◌∙◌, not, nat_eq, nat_lt, length, filter, Option, Some, None, refl, arith}
+use Rattle.std.proofs.Common.{◌≡◌, suc, ◌+◌, List, [], ◌∷◌, Bool, true, false, ◌||◌, cond, not, nat_eq, length, filter, refl, arith}
 use Rattle.std.proofs.lemmas.Bool.Decides.{nat_tests}
-use Rattle.std.proofs.lemmas.List.Sums.{prefix_len-le-length}
-use Rattle.std.specs.Prelude.{insert, position, unwrap_or}
-use Rattle.std.specs.List.{list_any, list_all, position_or_len}
+use Rattle.std.specs.Prelude.{insert}
+use Rattle.std.specs.List.{list_any, position_or_len}
 use Rattle.std.specs.Ordering.{is_lt}
 use Rattle.td_path.specs.Infix.{path_cmp}
 use Rattle.td_doc.specs.Document.{DocRow, is_empty_list}

@@ -1,6 +1,5 @@
 -- Rows that stand next to each other, and what stands in their place afterwards.
-use Rattle.std.specs.Prelude.{◌≡◌, ◌⊎◌, List, [], ◌∷◌, ◌++◌, Bool, false, ◌||◌, not, map, filter, Option, Some, None}
-use Rattle.td_base.specs.Lists.{In}
+use Rattle.std.specs.Prelude.{◌≡◌, List, ◌++◌, Bool, false, ◌||◌, not, map, filter, Option, Some, None}
 use Rattle.td_path.specs.SlotPaths.{slot_contains}
 use Rattle.td_path.specs.declared.slot.Slot.{Slot}
 use Rattle.td_path.specs.declared.slot_path.SlotPath.{SlotPath}

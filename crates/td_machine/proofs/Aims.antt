@@ -14,7 +14,7 @@ use Rattle.td_op.specs.declared.request.Request.TheVariants.{Insert, InsertAfter
 use Rattle.td_op.specs.declared.reply.Reply.TheVariants.{Position, Gone, NotOpen}
 use Rattle.td_op.specs.Input.{IsRequest}
 use Rattle.td_doc.specs.Document.{DocRow, is_live, row_id, live_rows, live_id_at, find_row}
-use Rattle.td_doc.specs.Allocation.{alloc, anchor}
+use Rattle.td_doc.specs.Allocation.{anchor}
 use Rattle.td_doc.specs.Answers.{IsRow, is_rooted, is_live_found, is_live_id}
 use Rattle.td_doc.proofs.Rules.{in_found, alloc_rooted}
 use Rattle.td_doc.proofs.Typing.{anchor_row}

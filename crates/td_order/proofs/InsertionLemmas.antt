@@ -1,5 +1,5 @@
 -- The insertions among operations, one by one.
-use Rattle.std.proofs.Common.{◌≡◌, List}
+use Rattle.std.proofs.Common.{List}
 use Rattle.td_base.specs.Lists.{In}
 use Rattle.td_op.specs.declared.insertion.Insertion.{Insertion}
 use Rattle.td_op.specs.Op.{OpValue}

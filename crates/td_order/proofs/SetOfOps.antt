@@ -1,6 +1,6 @@
 -- The order and the text are those of a set of operations: in which order a list has them does not matter.
 use Rattle.std.specs.Prelude.{◌↔◌, unwrap_or, find, slice_get, option_and_then}
-use Rattle.std.proofs.Common.{◌≡◌, List, [], ◌∷◌, Bool, true, false, cond, not, map, filter, Option, Some, None, refl, sym, ap, ◌∙◌, subst, inl, inr, ⊎_elim, true≢false}
+use Rattle.std.proofs.Common.{◌≡◌, List, [], ◌∷◌, Bool, not, map, filter, Option, Some, None, refl, sym, ap, ◌∙◌, ⊎_elim, true≢false}
 use Rattle.std.specs.List.{concat, list_any}
 use Rattle.std.specs.List.Sorted.{IsPermutation}
 use Rattle.std.proofs.lemmas.List.Sorted.{IsPermutation-sym}

@@ -61,7 +61,5 @@ fn atom_in(insertions: &[Insertion], id: AtomId) -> Option<Atom>
 fn insertion_with(insertions: &[Insertion], dot: Dot) -> Option<&Insertion>
     ensures { option_copied result ≡ find (λ (a : Insertion). same_dot a.dot dot) insertions.now }
 {
-    insertions
-        .iter()
-        .find(|insertion| insertion.dot == dot)
+    insertions.iter().find(|insertion| insertion.dot == dot)
 }

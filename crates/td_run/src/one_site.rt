@@ -1,4 +1,4 @@
-ghost use Rattle.std.specs.Prelude.{◌≡◌, ◌<◌, ◌≤◌, ◌+◌, ◌++◌, ◌∷◌, ◌^◌, [], All, length, IfOk, OnOk};
+ghost use Rattle.std.specs.Prelude.{◌≡◌, ◌<◌, ◌≤◌, ◌+◌, ◌++◌, ◌∷◌, ◌^◌, [], All, length, IfOk, OnOk, OnErr};
 ghost use Rattle.td_base.specs.declared.dot.TheConstants.{MAX_SEQ};
 ghost use Rattle.td_doc.specs.Document.{live_atoms, live_rows, text_of};
 ghost use Rattle.td_doc.specs.Allocation.{anchor};
@@ -105,9 +105,10 @@ impl OneSite {
         }
     }
 
-    /// Adds the text at the end. After want of memory a part of it may stand there.
+    /// Adds the text at the end.
     pub fn push_text(&self, out: &mut Bytes) -> Result<(), Memory>
-        ensures { OnOk result (out.new ≡ out.old ++ text_of self.now.rows) }
+        ensures ok { OnOk result (out.new ≡ out.old ++ text_of self.now.rows) }
+        ensures err { OnErr result (out.new ≡ out.old) }
     {
         self.doc.push_text(out)
     }

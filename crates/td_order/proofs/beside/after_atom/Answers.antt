@@ -1,4 +1,4 @@
-use Rattle.std.proofs.Common.{◌∙◌, sym, ap, arith}
+use Rattle.std.proofs.Common.{◌∙◌, sym, arith}
 use Rattle.td_base.specs.Equality.{same_id}
 use Rattle.td_order.proofs.Splices.{last_here, last_there}
 use Rattle.td_order.proofs.beside.after_atom.Goals as goal

@@ -4,7 +4,6 @@ use Rattle.std.proofs.lemmas.List.Sorted.{answers_always}
 use Rattle.td_op.specs.Op.{OpValue}
 use Rattle.td_op.specs.Past.{op_sum}
 use Rattle.td_order.proofs.LineUpLemmas.{line_up_of_sorted}
-use Rattle.td_base.proofs.Lists.{In-permutation}
 use Rattle.td_order.proofs.line_up.line_up.Goals as goal
 
 -- the copy is In-permutation, and sorted by the key that the closure gives
