@@ -1,6 +1,8 @@
 -- Choices, options, and the elements of a list.
-use Rattle.std.proofs.Common.{◌≡◌, ℕ, zero, suc, List, [], ◌∷◌, ◌++◌, Bool, true, false, Option, Some, None, refl, sym, subst, inl, inr, true≢false, if◌then◌else◌}
-use Rattle.std.specs.Prelude.{slice_get}
+use Rattle.std.proofs.Common.{map, length, take, drop, ap, ◌∙◌, arith, length-append, append-nil, append_assoc, take-append-drop, ◌≡◌, ℕ, zero, suc, List, [], ◌∷◌, ◌++◌, Bool, true, false, Option, Some, None, refl, sym, subst, inl, inr, true≢false, if◌then◌else◌}
+use Rattle.std.specs.Prelude.{slice_get, remove}
+use Rattle.std.specs.List.{insert_slice, drop-map}
+use Rattle.std.proofs.lemmas.List.{take_at, drop_at, map-append}
 use Rattle.std.specs.Option.{is_some}
 use Rattle.std.proofs.lemmas.Option.{same_Some}
 use Rattle.td_base.specs.Lists.{In, Successive}
@@ -60,3 +62,34 @@ pub one_more : {X : Type 0} (P : X → Type 0) (x : X) (xs : List X) → P x →
     → (y : X) → In y (x ∷ xs) → P y
 one_more P x xs h f y (inl e) = subst P (sym e) h
 one_more P x xs h f y (inr i) = f y i
+
+-- two tests that pass together are one
+pub both_tests : (a b : Bool) → (a ≡ true → b ≡ true) → (b ≡ true → a ≡ true) → a ≡ b
+both_tests true b h k = sym (h refl)
+both_tests false true h k = k refl
+both_tests false false h k = refl
+
+-- a map that agrees with another on the list
+pub map_same : {X Y : Type 0} (f g : X → Y) (xs : List X) → ((x : X) → In x xs → f x ≡ g x) → map f xs ≡ map g xs
+map_same f g [] h = refl
+map_same f g (x ∷ xs) h = λ i. h x (inl refl) i ∷ map_same f g xs (λ y j. h y (inr j)) i
+
+-- a map, and a list without one of its elements
+
+map-take : {X Y : Type 0} (f : X → Y) (xs : List X) (i : ℕ) → map f (take i xs) ≡ take i (map f xs)
+map-take f xs zero = refl
+map-take f [] (suc i) = refl
+map-take {Y = Y} f (x ∷ xs) (suc i) = ap (λ (q : List Y). f x ∷ q) (map-take f xs i)
+
+pub map-remove : {X Y : Type 0} (f : X → Y) (xs : List X) (i : ℕ) → map f (remove xs i) ≡ remove (map f xs) i
+map-remove f xs i = map-append f (take i xs) (drop (suc i) xs) ∙ (λ k. map-take f xs i k ++ sym (drop-map f (suc i) xs) k)
+
+pub remove_middle : {X : Type 0} (xs : List X) (x : X) (ys : List X) (i : ℕ) → length xs ≡ i → xs ++ ys ≡ remove (xs ++ x ∷ ys) i
+remove_middle {X = X} xs x ys i h =
+    let front : List X = xs ++ x ∷ [] in
+    let so_many : length front ≡ suc i = omega (arith, length-append xs (x ∷ []), h) in
+    λ k. sym (take_at xs (x ∷ ys) i h) k ++ sym (ap (drop (suc i)) (sym (append_assoc xs (x ∷ []) ys)) ∙ drop_at front ys (suc i) so_many) k
+
+-- nothing put anywhere
+pub insert_slice_nil : {X : Type 0} (xs : List X) (i : ℕ) → insert_slice xs i [] ≡ xs
+insert_slice_nil xs i = ap (λ q. q ++ drop i xs) (append-nil (take i xs)) ∙ take-append-drop i xs

@@ -1,6 +1,6 @@
 -- What is found in a list, what passes a test, and what a filter keeps.
 use Rattle.std.proofs.Common.{◌≡◌, ◌≤◌, ℕ, List, [], ◌∷◌, ◌++◌, Bool, true, false, ◌&&◌, ◌||◌, ◌+◌, suc, cond, not, map, filter, length, take, drop, nat_lt, Option, Some, None, refl, sym, ap, ◌∙◌, subst, inl, inr, ⊎_elim, true≢false, arith, take-append-drop}
-use Rattle.std.proofs.lemmas.Bool.{and_parts}
+use Rattle.std.proofs.lemmas.Bool.{and_parts, or_right}
 use Rattle.std.proofs.lemmas.Bool.Decides.{nat_tests}
 use Rattle.std.proofs.lemmas.List.Elements.{filter-append}
 use Rattle.std.proofs.lemmas.List.Sums.{prefix_len-le-length}
@@ -136,3 +136,16 @@ all_at kept test x xs false h = h
 pub all_among : {X : Type 0} (kept test : X → Bool) (xs : List X) → list_all (λ (x : X). not (kept x) || test x) xs ≡ list_all test (filter kept xs)
 all_among kept test [] = refl
 all_among kept test (x ∷ xs) = all_at kept test x xs (kept x) (all_among kept test xs)
+
+-- whether one passes, of a list with one more
+
+pub any_false : {X : Type 0} (test : X → Bool) (x : X) → test x ≡ false → list_any test (x ∷ []) ≡ false
+any_false test x h = ap (λ b. b || false) h
+
+pub any_snoc : {X : Type 0} (test : X → Bool) (xs : List X) (x : X) → test x ≡ false → list_any test (xs ++ (x ∷ [])) ≡ list_any test xs
+any_snoc test [] x h = any_false test x h
+any_snoc test (y ∷ ys) x h = ap (λ b. test y || b) (any_snoc test ys x h)
+
+pub any_last : {X : Type 0} (test : X → Bool) (xs : List X) (x : X) → test x ≡ true → list_any test (xs ++ (x ∷ [])) ≡ true
+any_last test [] x h = ap (λ b. b || false) h
+any_last test (y ∷ ys) x h = or_right (test y) (list_any test (ys ++ (x ∷ []))) (any_last test ys x h)

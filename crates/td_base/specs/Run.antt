@@ -1,5 +1,5 @@
 -- Runs as lists of atoms.
-use Rattle.std.specs.Prelude.{◌≡◌, ◌<◌, ◌≤◌, ℕ, List, [], ◌∷◌, length, take, drop, All}
+use Rattle.std.specs.Prelude.{◌≡◌, ◌<◌, ◌≤◌, ℕ, List, [], ◌∷◌, length, take, drop, map, All}
 use Rattle.std.specs.List.{concat}
 use Rattle.td_base.specs.Atom.{IsAtom}
 use Rattle.td_base.specs.declared.run.TheConstants.{MAX_RUN_LEN}
@@ -21,3 +21,7 @@ IsRunFault atoms (Long len) = (MAX_RUN_LEN < length (concat atoms)) × (len ≡ 
 abbrev pub pieces : List ℕ → List ℕ → List (List ℕ)
 pieces [] bytes = []
 pieces (len ∷ lens) bytes = take len bytes ∷ pieces lens (drop len bytes)
+
+-- the atoms of a text of ASCII, one for each byte
+abbrev pub letters : List ℕ → List (List ℕ)
+letters text = map (λ (byte : ℕ). byte ∷ []) text

@@ -69,6 +69,7 @@ impl Atom {
         })
     }
 
+    /// Its bytes, 1 to `MAX_ATOM_LEN` of them.
     pub fn bytes(&self) -> &[u8]
         ensures bytes { result.now ≡ self.now }
         ensures atom { IsAtom self.now }

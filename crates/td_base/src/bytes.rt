@@ -44,6 +44,7 @@ impl Bytes {
         self.items.truncate(len);
     }
 
+    /// The bytes in order.
     pub fn as_slice(&self) -> &[u8]
         ensures { result.now ≡ self.now }
     {

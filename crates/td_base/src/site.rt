@@ -36,6 +36,7 @@ impl Site {
         Some(Site { number: n })
     }
 
+    /// Its number, from 1 to `MAX_SITE`.
     pub fn number(self) -> u8
         ensures value { result ≡ self }
         ensures least { 1 ≤ self }

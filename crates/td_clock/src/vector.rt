@@ -64,6 +64,7 @@ impl Vector {
         u32::from(self.numbers[place_of(site)])
     }
 
+    /// Makes that number another, of at most `MAX_SEQ`.
     pub fn set(&mut self, site: Site, value: u32)
         requires site { site ≤ length self.old }
         requires small { value ≤ MAX_SEQ }

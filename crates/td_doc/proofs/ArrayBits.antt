@@ -1,5 +1,5 @@
 -- The rows of an array hang below its slot by the bits of the shape.
-use Rattle.std.proofs.Common.{◌≡◌, ◌≤◌, ◌<◌, ◌+◌, ◌-◌, ◌/◌, ℕ, zero, suc, List, [], ◌∷◌, ◌++◌, map, length, take, drop, refl, sym, ap, ◌∙◌, inl, inr, arith, append_assoc, length-drop, length-take-le, length-append}
+use Rattle.std.proofs.Common.{◌≡◌, ◌≤◌, ◌<◌, ◌+◌, ◌-◌, ◌/◌, ℕ, zero, suc, List, [], ◌∷◌, ◌++◌, map, length, take, drop, refl, sym, ap, ◌∙◌, arith, append_assoc, length-drop, length-take-le, length-append}
 use Rattle.std.proofs.lemmas.List.{map-append, drop_at, append-nil}
 use Rattle.td_base.specs.declared.bit.Bit.{Bit}
 use Rattle.td_base.specs.declared.bit.Bit.TheVariants.{Left, Right}
@@ -16,6 +16,7 @@ use Rattle.td_doc.specs.Array.{row_in, around, array_upto, array}
 use Rattle.td_base.specs.RunAtoms.{NamedAtom}
 use Rattle.td_doc.specs.Subtrees.{slot_depth, bits_in}
 use Rattle.td_doc.proofs.ArrayRows.{Starts, array_starts}
+use Rattle.td_base.proofs.Elements.{map_same}
 
 node_length : (slot : SlotPath) (x : AtomIdValue) → length (path_in slot x) ≡ slot_depth slot + 1
 node_length Whole x = refl
@@ -33,10 +34,6 @@ bits_deeper slot x side path s =
     let longer : path ≡ path_in slot x ++ (side, s.id) ∷ s.rest = s.is ∙ append_assoc (path_in slot x) ((side, s.id) ∷ []) s.rest in
     ap (bits_in slot) longer ∙ bits_after slot x ((side, s.id) ∷ s.rest)
     ∙ ap (λ (bits : Bits). side ∷ bits) (sym (ap (bits_in (Below (path_in slot x) side)) s.is ∙ bits_after (Below (path_in slot x) side) s.id s.rest))
-
-map_same : {X Y : Type 0} (f g : X → Y) (xs : List X) → ((x : X) → In x xs → f x ≡ g x) → map f xs ≡ map g xs
-map_same f g [] h = refl
-map_same f g (x ∷ xs) h = λ i. h x (inl refl) i ∷ map_same f g xs (λ y j. h y (inr j)) i
 
 map_twice : (side : Bit) (f : DocRow → Bits) (rows : List DocRow) → map (λ (r : DocRow). side ∷ f r) rows ≡ below side (map f rows)
 map_twice side f [] = refl

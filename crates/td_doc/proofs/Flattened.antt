@@ -26,6 +26,7 @@ use Rattle.td_doc.proofs.ArrayRows.{array_names, array_bare, array_live}
 use Rattle.td_doc.proofs.Rules.{HangsIn, hangs_whole, found, array_document}
 use Rattle.td_doc.proofs.SlotRows.{Split, split, split_flatten, front_outside, back_outside, flatten_replaces}
 use Rattle.td_base.proofs.Searches.{filter_all, filter_parts}
+use Rattle.std.proofs.Math.Bool.{or-true, or-false}
 
 -- what goes on in a slot
 
@@ -127,21 +128,13 @@ Same f xs ys = map f xs ≡ map f ys
 map_parts : {X : Type 0} (f : DocRow → X) (xs ys zs : List DocRow) → map f (xs ++ ys ++ zs) ≡ map f xs ++ map f ys ++ map f zs
 map_parts f xs ys zs = map-append f (xs ++ ys) zs ∙ ap (λ q. q ++ map f zs) (map-append f xs ys)
 
-or_true : (b : Bool) → (b || true) ≡ true
-or_true true = refl
-or_true false = refl
-
-or_false : (b : Bool) → (b || false) ≡ b
-or_false true = refl
-or_false false = refl
-
 module _ (slot : SlotPath) (rows : List DocRow) (s : Split slot rows) where
   stay_outside : (r : DocRow) → slot_contains slot r.path ≡ false → stay (Some slot) r ≡ true
-  stay_outside r h = ap (λ b. is_live r || not b) h ∙ or_true (is_live r)
+  stay_outside r h = ap (λ b. is_live r || not b) h ∙ or-true (is_live r)
 
   stay_inside : (xs : List DocRow) → ((r : DocRow) → In r xs → slot_contains slot r.path ≡ true) → filter (stay (Some slot)) xs ≡ live_rows xs
   stay_inside [] h = refl
-  stay_inside (x ∷ xs) h = λ i. cond ((ap (λ b. is_live x || not b) (h x (inl refl)) ∙ or_false (is_live x)) i) (x ∷ stay_inside xs (λ r j. h r (inr j)) i) (stay_inside xs (λ r j. h r (inr j)) i)
+  stay_inside (x ∷ xs) h = λ i. cond ((ap (λ b. is_live x || not b) (h x (inl refl)) ∙ or-false (is_live x)) i) (x ∷ stay_inside xs (λ r j. h r (inr j)) i) (stay_inside xs (λ r j. h r (inr j)) i)
 
   kept_split : filter (stay (Some slot)) rows ≡ s.front ++ live_rows s.inside ++ s.back
   kept_split =
@@ -164,7 +157,7 @@ module _ (slot : SlotPath) (rows : List DocRow) (s : Split slot rows) where
       ∙ ap (λ (q : List DocRow). map named (live_rows q)) (sym s.is)
 
 all_stay : (rows : List DocRow) → filter (stay None) rows ≡ rows
-all_stay rows = filter_all (stay None) rows (λ r i. or_true (is_live r))
+all_stay rows = filter_all (stay None) rows (λ r i. or-true (is_live r))
 
 -- no deletes
 

@@ -1,9 +1,9 @@
 -- Places among the live rows: that of a live row, and what a change does there.
-use Rattle.std.proofs.Common.{◌≡◌, ◌≢◌, ◌<◌, ◌+◌, ℕ, zero, suc, List, [], ◌∷◌, ◌++◌, Bool, true, false, not, cond, map, filter, take, drop, length, Option, Some, None, refl, sym, ap, ◌∙◌, subst, inl, inr, true≢false, arith, append_assoc, length-append}
+use Rattle.std.proofs.Common.{◌≡◌, ◌≢◌, ◌<◌, ◌+◌, ℕ, suc, List, [], ◌∷◌, ◌++◌, Bool, true, false, not, cond, map, filter, length, Option, Some, None, refl, sym, ap, ◌∙◌, subst, inl, inr, true≢false, arith, append_assoc}
 use Rattle.std.specs.Prelude.{remove, slice_get, IsTrue}
 use Rattle.std.specs.List.{insert_slice}
 use Rattle.std.specs.Option.{option_map}
-use Rattle.std.proofs.lemmas.List.{map-append, take_at, drop_at, append-nil, take-append-drop}
+use Rattle.std.proofs.lemmas.List.{append-nil}
 use Rattle.std.proofs.lemmas.List.Elements.{filter-append}
 use Rattle.std.proofs.lemmas.Option.{slice_get_within, same_Some}
 use Rattle.td_base.specs.Value.{DotValue, AtomIdValue}
@@ -26,6 +26,7 @@ use Rattle.td_doc.proofs.Flattened.{flatten_keeps_live}
 use Rattle.td_doc.proofs.Typing.{live_split, live_id, live_atoms-append, atoms_named, count_of_atoms, run_at, run_typed_after, run_typed_between}
 use Rattle.td_doc.proofs.SubtreeRows.{find_in}
 use Rattle.td_doc.proofs.Together.{run_together}
+use Rattle.td_base.proofs.Elements.{remove_middle, insert_slice_nil, map-remove}
 
 -- a live row with the identity, between the rows before it and those after it
 
@@ -109,33 +110,14 @@ one_gone front r back d live =
     ∙ (λ i. keep_others (row_id r) front (other_rows front r back d) i ++ cond (not (self_id r i)) (r ∷ filter (others (row_id r)) (live_rows back)) (filter (others (row_id r)) (live_rows back)))
     ∙ ap (λ (q : List DocRow). live_rows front ++ q) (keep_others (row_id r) back (λ s i e. later_rows front r back d s i (sym e)))
 
-cut_at : {X : Type 0} (xs : List X) (x : X) (ys : List X) (i : ℕ) → length xs ≡ i → xs ++ ys ≡ remove (xs ++ x ∷ ys) i
-cut_at {X = X} xs x ys i h =
-    let front : List X = xs ++ x ∷ [] in
-    let so_many : length front ≡ suc i = omega (arith, length-append xs (x ∷ []), h) in
-    λ k. sym (take_at xs (x ∷ ys) i h) k ++ sym (ap (drop (suc i)) (sym (append_assoc xs (x ∷ []) ys)) ∙ drop_at front ys (suc i) so_many) k
-
 cut_row : (x : AtomIdValue) (by : DotValue) (rows : List DocRow) → IsDocument rows → (s : LiveRow x rows) → live_rows (delete x by rows) ≡ remove (live_rows rows) (length (live_rows s.front))
 cut_row x by rows d s =
     delete_live x by rows
     ∙ (λ i. filter (others (sym s.named i)) (live_rows (s.is i)))
     ∙ one_gone s.front s.row s.back (subst IsDocument s.is d) s.live
-    ∙ cut_at (live_rows s.front) s.row (live_rows s.back) (length (live_rows s.front)) refl
+    ∙ remove_middle (live_rows s.front) s.row (live_rows s.back) (length (live_rows s.front)) refl
     ∙ ap (λ (q : List DocRow). remove q (length (live_rows s.front)))
     (sym (ap live_rows s.is ∙ filter-append is_live s.front (s.row ∷ s.back) ∙ ap (λ b. live_rows s.front ++ cond b (s.row ∷ live_rows s.back) (live_rows s.back)) s.live))
-
-map_take : {X Y : Type 0} (f : X → Y) (xs : List X) (i : ℕ) → map f (take i xs) ≡ take i (map f xs)
-map_take f xs zero = refl
-map_take f [] (suc i) = refl
-map_take {Y = Y} f (x ∷ xs) (suc i) = ap (λ (q : List Y). f x ∷ q) (map_take f xs i)
-
-map_drop : {X Y : Type 0} (f : X → Y) (xs : List X) (i : ℕ) → map f (drop i xs) ≡ drop i (map f xs)
-map_drop f xs zero = refl
-map_drop f [] (suc i) = refl
-map_drop f (x ∷ xs) (suc i) = map_drop f xs i
-
-map_remove : {X Y : Type 0} (f : X → Y) (xs : List X) (i : ℕ) → map f (remove xs i) ≡ remove (map f xs) i
-map_remove f xs i = map-append f (take i xs) (drop (suc i) xs) ∙ (λ k. map_take f xs i k ++ map_drop f xs (suc i) k)
 
 -- the atom at the index goes
 pub deleted_at : (rows : List DocRow) (i : ℕ) (x : AtomIdValue) (by : DotValue) → IsDocument rows → live_id_at rows i ≡ Some x
@@ -143,7 +125,7 @@ pub deleted_at : (rows : List DocRow) (i : ℕ) (x : AtomIdValue) (by : DotValue
 deleted_at rows i x by d h = let s = live_here rows i x d h in cut_row x by rows d s.0 ∙ ap (remove (live_rows rows)) s.1
 
 atoms_cut : (rows after : List DocRow) (i : ℕ) → live_rows after ≡ remove (live_rows rows) i → live_atoms after ≡ remove (live_atoms rows) i
-atoms_cut rows after i e = ap (map (λ (r : DocRow). r.atom)) e ∙ map_remove (λ (r : DocRow). r.atom) (live_rows rows) i
+atoms_cut rows after i e = ap (map (λ (r : DocRow). r.atom)) e ∙ map-remove (λ (r : DocRow). r.atom) (live_rows rows) i
 
 pub delete_cuts : (rows : List DocRow) (x : AtomIdValue) (by : DotValue) → IsDocument rows → is_live_id rows x ≡ true
     → live_atoms (delete x by rows) ≡ remove (live_atoms rows) (live_before x rows)
@@ -171,9 +153,6 @@ first_before : (x : AtomIdValue) (front : List DocRow) (n : DocRow) (ns back : L
 first_before x front n ns back e h =
     ap (live_before x) (append_assoc front (n ∷ ns) back) ∙ (λ i. live_before (sym e i) (front ++ n ∷ (ns ++ back))) ∙ before_at front n (ns ++ back) (λ s i q. h s i (q ∙ e))
 
-nothing_in : {X : Type 0} (xs : List X) (i : ℕ) → insert_slice xs i [] ≡ xs
-nothing_in xs i = ap (λ q. q ++ drop i xs) (append-nil (take i xs)) ∙ take-append-drop i xs
-
 module _ (dot : DotValue) (front back rows after : List DocRow) (was : rows ≡ front ++ back) (new : (s : DocRow) → In s front → row_id s ≢ first_of dot) where
   shown_before : live_atoms rows ≡ live_atoms front ++ live_atoms back
   shown_before = ap live_atoms was ∙ live_atoms-append front back
@@ -182,7 +161,7 @@ module _ (dot : DotValue) (front back rows after : List DocRow) (was : rows ≡ 
       → live_atoms after ≡ live_atoms front ++ run ++ live_atoms back → live_atoms after ≡ insert_slice (live_atoms rows) (live_before (first_of dot) after) run
   put_at_first [] rows_of e is shown =
       shown ∙ ap (λ (q : List (List ℕ)). q ++ live_atoms back) (append-nil (live_atoms front)) ∙ sym shown_before
-      ∙ sym (nothing_in (live_atoms rows) (live_before (first_of dot) after))
+      ∙ sym (insert_slice_nil (live_atoms rows) (live_before (first_of dot) after))
   put_at_first (a ∷ run) [] e is shown = absurd cc
   put_at_first (a ∷ run) (n ∷ ns) e is shown =
       let place : live_before (first_of dot) after ≡ length (live_atoms front) =

@@ -16,7 +16,7 @@ use Rattle.td_path.specs.declared.slot.Slot.TheVariants.{Root, At}
 use Rattle.td_path.specs.declared.slot_path.SlotPath.{SlotPath}
 use Rattle.td_path.specs.declared.slot_path.SlotPath.TheVariants.{Whole, Below}
 use Rattle.td_path.proofs.InfixOrder.{first_pairs, same_pair_true, same_pair_from, same_pair_refl}
-use Rattle.std.proofs.lemmas.Bool.{and_parts, false_from_ne_true}
+use Rattle.std.proofs.lemmas.Bool.{and_parts, false_from_ne_true, and_left}
 use Rattle.td_path.proofs.SlotOverlap.{none_empty}
 use Rattle.td_doc.specs.Document.{DocRow, row_id, find_row, is_live, live_rows, IsDocument}
 use Rattle.td_doc.specs.Slots.{slot_path, rows_below, is_within}
@@ -96,9 +96,6 @@ subtree_stretch rows b up = stretch_at rows (find_row b rows) up
 
 -- two rows of a slot are in the same subtrees of nodes outside it
 
-and_false : (a b : Bool) → a ≡ false → (a && b) ≡ false
-and_false a b e = ap (λ c. c && b) e
-
 first_other : (c p : Pair) (bit : Bit) → same_bit c.0 bit ≡ false → same_bit p.0 bit ≡ true → same_pair c p ≡ false
 first_other c p bit n y = false_from_ne_true (same_pair c p) (λ h. true≢false (sym y ∙ ap (λ (q : Pair). same_bit q.0 bit) (sym (same_pair_true c p h)) ∙ n))
 
@@ -106,7 +103,7 @@ begins_alike : (front : Pairs) (bit : Bit) (node p q : Pairs) → goes_on front 
 begins_alike front bit [] p q h k n = refl
 begins_alike front bit (c ∷ node) [] q h k n = absurd (none_empty front bit h)
 begins_alike front bit (c ∷ node) (x ∷ p) [] h k n = absurd (none_empty front bit k)
-begins_alike [] bit (c ∷ node) (x ∷ p) (y ∷ q) h k n = and_false (same_pair c x) (begins node p) (first_other c x bit n h) ∙ sym (and_false (same_pair c y) (begins node q) (first_other c y bit n k))
+begins_alike [] bit (c ∷ node) (x ∷ p) (y ∷ q) h k n = and_left (same_pair c x) (begins node p) (first_other c x bit n h) ∙ sym (and_left (same_pair c y) (begins node q) (first_other c y bit n k))
 begins_alike (g ∷ front) bit (c ∷ node) (x ∷ p) (y ∷ q) h k n =
     let a = and_parts _ _ h in
     let b = and_parts _ _ k in
@@ -120,7 +117,7 @@ begins_alike (g ∷ front) bit (c ∷ node) (x ∷ p) (y ∷ q) h k n =
 
     at : (b : Bool) → same_pair c g ≡ b → (goes_on front bit node ≡ false → begins node p ≡ begins node q) → (same_pair c g && begins node p) ≡ (same_pair c g && begins node q)
     at true e ih = ap (λ o. same_pair c g && o) (ih (inner e))
-    at false e ih = and_false (same_pair c g) (begins node p) e ∙ sym (and_false (same_pair c g) (begins node q) e)
+    at false e ih = and_left (same_pair c g) (begins node p) e ∙ sym (and_left (same_pair c g) (begins node q) e)
 
 slot_alike : (slot : SlotPath) (node p q : Pairs) → slot_contains slot p ≡ true → slot_contains slot q ≡ true → slot_contains slot node ≡ false → begins node p ≡ begins node q
 slot_alike Whole node p q h k n = absurd (true≢false n)

@@ -3,6 +3,7 @@ use Rattle.std.specs.Prelude.{◌≡◌, ◌≢◌, ℕ, List, [], ◌∷◌, �
 use Rattle.std.specs.Option.{option_map, is_some}
 use Rattle.std.specs.List.{AllByRecursion}
 use Rattle.td_base.specs.Value.{DotValue, AtomIdValue}
+use Rattle.td_path.specs.Slot.{slot_atom}
 use Rattle.td_path.specs.declared.slot.Slot.{Slot}
 use Rattle.td_path.specs.declared.slot.Slot.TheVariants.{Root, At}
 use Rattle.td_doc.specs.declared.doc.Row.{Row}
@@ -31,18 +32,13 @@ abbrev pub is_rooted : List DocRow → Slot → Bool
 is_rooted rows Root = true
 is_rooted rows (At x bit) = is_row rows x
 
--- the slot names the atom
-abbrev pub Names : Slot → AtomIdValue → Type 0
-Names Root x = ⊥
-Names (At y bit) x = x ≡ y
-
 -- no row is of the insert with this dot
 abbrev pub IsFresh : List DocRow → DotValue → Type 0
 IsFresh rows dot = AllByRecursion (λ (r : DocRow). (row_id r).dot ≢ dot) rows
 
 -- why a change in the slot is refused: its atom is no row
 abbrev pub IsSlotFault : List DocRow → Slot → DocFault → Type 0
-IsSlotFault rows slot (Gone id) = Names slot id × IsNone (find_row id rows)
+IsSlotFault rows slot (Gone id) = (slot_atom slot ≡ Some id) × IsNone (find_row id rows)
 IsSlotFault rows slot Memory = Unit {0}
 
 -- why a delete is refused: the atom is no row

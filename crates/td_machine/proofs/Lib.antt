@@ -19,3 +19,4 @@ pub mod Ranges
 pub mod Witness
 pub mod FlattenWitness
 pub mod Growing
+pub mod Showing

@@ -3,7 +3,8 @@ use Rattle.std.specs.Prelude.{List, [], ◌∷◌, codes}
 use Rattle.td_base.specs.declared.bit.Bit.TheVariants.{Left, Right}
 use Rattle.td_path.specs.declared.slot.Slot.TheVariants.{Root}
 use Rattle.td_op.specs.declared.request.Request.TheVariants.{Insert, Paste, Delete, Propose, ProposeAt, Cancel}
-use Rattle.td_machine.specs.Stage.{Move, Ask, Give, GoOn, dot, letters}
+use Rattle.td_base.specs.Run.{letters}
+use Rattle.td_machine.specs.Stage.{Move, Ask, Give, GoOn, dot}
 
 -- two sites put an atom each into one gap
 abbrev pub one_gap : List Move

@@ -7,6 +7,7 @@ pub mod Decision
 pub mod Machine
 pub mod Making
 pub mod Replay
+pub mod Shown
 pub mod Taking
 pub mod Request
 pub mod Step

@@ -149,10 +149,6 @@ dot site seq = record { site = site; seq = seq }
 abbrev pub atom_id : ℕ → ℕ → ℕ → AtomIdValue
 atom_id site seq offset = record { dot = dot site seq; offset = offset }
 
--- the run of these letters, each of one byte
-abbrev pub letters : List ℕ → List (List ℕ)
-letters text = map (λ (c : ℕ). c ∷ []) text
-
 abbrev pub live_row : AtomIdValue → Slot → List ℕ → Told
 live_row id slot atom = record { id = id; slot = slot; atom = atom; deletes = [] }
 

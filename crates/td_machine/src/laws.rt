@@ -10,15 +10,18 @@ ghost use Rattle.td_op.specs.declared.input.Input.TheVariants.{Take};
 ghost use Rattle.td_op.specs.declared.message.Message.{Message};
 ghost use Rattle.td_op.specs.Input.{IsInput};
 ghost use Rattle.td_path.specs.declared.slot.Slot.{Slot};
+ghost use Rattle.td_op.specs.declared.body.Body.{Body};
 ghost use Rattle.td_op.specs.declared.body.Body.TheVariants.{Insert};
 ghost use Rattle.td_op.specs.Op.{OpValue, IsOp, named_atom};
 ghost use Rattle.td_op.specs.Past.{in_past, op_sum};
-ghost use Rattle.td_doc.specs.Document.{IsDocument};
+ghost use Rattle.td_doc.specs.Document.{DocRow, IsDocument, live_atoms};
 ghost use Rattle.td_doc.specs.Slots.{overlaps};
 ghost use Rattle.td_machine.specs.Counts.{ops_of};
 ghost use Rattle.td_op.specs.Insertion.{Inserts};
 ghost use Rattle.td_machine.specs.Hold.{Hold};
-ghost use Rattle.td_doc.specs.Answers.{is_rooted};
+ghost use Rattle.td_doc.specs.Answers.{IsFresh, is_rooted};
+ghost use Rattle.td_machine.specs.Making.{effect};
+ghost use Rattle.td_machine.specs.Shown.{change_by, changed_by};
 ghost use Rattle.td_machine.specs.Machine.{Machine, start, made, undecided};
 ghost use Rattle.td_machine.specs.Step.{step, IsRefusal};
 ghost use Rattle.td_machine.specs.Replay.{doc_of};
@@ -73,6 +76,16 @@ pub fn documents_obey_their_rules()
 /// And it is the one that the operations of its log leave.
 pub fn a_document_is_that_of_its_log()
     ensures { (m : Machine) → IsReached m → m.doc ≡ doc_of m.log }
+{}
+
+/// What an operation does to the list of atoms that a document shows is the change that is told of it, where an insert is
+/// a new one in a slot whose atom is a row.
+#[tactic(auto, using(crate::proofs::Showing::shown_after))]
+pub fn operations_change_the_atoms_shown()
+    ensures { (log : List OpValue) (dot : DotValue) (body : Body) (rows : List DocRow) → IsDocument rows
+        → ((slot : Slot) (run : List (List ℕ)) → body ≡ Insert slot run
+        → IsFresh rows dot × IsTrue (is_rooted rows slot))
+        → live_atoms (effect log dot body rows) ≡ changed_by (change_by dot body rows) (live_atoms rows) }
 {}
 
 /// The holds of a machine never overlap, and the atom of a held slot is a row.

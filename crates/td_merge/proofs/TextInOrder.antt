@@ -31,7 +31,7 @@ use Rattle.td_order.specs.Show.{atom_of, deletes, is_deleted, show}
 use Rattle.td_order.specs.Causal.{IsWellRooted}
 use Rattle.td_base.proofs.Equals.{same_dot_true, same_dot_refl, same_id_true, same_id_refl}
 use Rattle.td_op.proofs.InsertionLemmas.{from_op, In-insertions, insertions-In}
-use Rattle.td_order.proofs.LineUpLemmas.{both_tests}
+use Rattle.td_base.proofs.Elements.{both_tests}
 use Rattle.td_order.proofs.SetOfOps.{one_op}
 use Rattle.td_machine.specs.Replay.{doc_of}
 use Rattle.td_merge.specs.Log.{IsCausalLog, NoCommit, DeletesAtoms, WasFree}

@@ -1,5 +1,5 @@
 // What rows and what text a document has, whatever the order in which operations came.
-ghost use Rattle.std.specs.Prelude.{◌≡◌, List, [], ◌∷◌, map};
+ghost use Rattle.std.specs.Prelude.{◌≡◌, List, [], ◌∷◌, map, codes};
 ghost use Rattle.td_base.specs.Lists.{In};
 ghost use Rattle.td_op.specs.Op.{OpValue};
 ghost use Rattle.td_doc.specs.Document.{row_id, text_of};
@@ -46,8 +46,8 @@ pub fn two_logs_of_a_small_history()
     ensures whole_second { (x : OpValue) → In x operations → In x second_log }
     ensures first_rows { map row_id (doc_of first_log) ≡ atom 1 1 ∷ atom 1 2 ∷ atom 2 1 ∷ b ∷ c ∷ [] }
     ensures second_rows { map row_id (doc_of second_log) ≡ atom 1 1 ∷ atom 1 2 ∷ atom 2 1 ∷ b ∷ c ∷ [] }
-    ensures first_text { text_of (doc_of first_log) ≡ 97 ∷ 112 ∷ 113 ∷ 99 ∷ [] }
-    ensures second_text { text_of (doc_of second_log) ≡ 97 ∷ 112 ∷ 113 ∷ 99 ∷ [] }
+    ensures first_text { text_of (doc_of first_log) ≡ codes "apqc" }
+    ensures second_text { text_of (doc_of second_log) ≡ codes "apqc" }
 {}
 
 /// Without `WasFree` the rows need not be in order: here c stands before a in the document, and after it in the order.

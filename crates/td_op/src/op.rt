@@ -42,6 +42,7 @@ impl Op {
         Some(Op { dot, deps, body })
     }
 
+    /// The name of the operation.
     pub fn dot(&self) -> Dot
         ensures dot { result ≡ self.now.dot }
         ensures op { IsOp self.now }
@@ -49,6 +50,7 @@ impl Op {
         self.dot
     }
 
+    /// How many operations of each site were known where it was made.
     pub fn deps(&self) -> &Vector
         ensures deps { result.now ≡ self.now.deps }
         ensures op { IsOp self.now }
@@ -56,6 +58,7 @@ impl Op {
         &self.deps
     }
 
+    /// What it does.
     pub fn body(&self) -> Body
         ensures body { result ≡ self.now.body }
         ensures op { IsOp self.now }

@@ -19,6 +19,7 @@ use Rattle.td_base.proofs.Rising.{one_rising}
 use Rattle.td_base.specs.Equality.{same_dot}
 use Rattle.td_base.proofs.Equals.{same_dot_true, same_dot_refl}
 use Rattle.td_base.proofs.Orders.{Compares, compares, dot_lt_true, dot_lt_from}
+use Rattle.td_base.proofs.Elements.{both_tests}
 
 -- an operation's place in line-up
 abbrev place_of : OpValue → List ℕ
@@ -194,11 +195,6 @@ sorted_falls xs up =
 -- dots that differ still do in another order
 abbrev one_dot_test : OpValue → OpValue → Bool
 one_dot_test x y = same_dot x.dot y.dot
-
-pub both_tests : (a b : Bool) → (a ≡ true → b ≡ true) → (b ≡ true → a ≡ true) → a ≡ b
-both_tests true b h k = sym (h refl)
-both_tests false true h k = k refl
-both_tests false false h k = refl
 
 flips : (x y : OpValue) → one_dot_test x y ≡ one_dot_test y x
 flips x y =

@@ -16,7 +16,8 @@ use Rattle.td_order.specs.Order.{placed, order}
 use Rattle.td_order.specs.Show.{atom_of, deletes, is_deleted, show}
 use Rattle.td_base.proofs.Equals.{same_dot_true}
 use Rattle.td_op.proofs.InsertionLemmas.{from_op, In-insertions, insertions-In}
-use Rattle.td_order.proofs.LineUpLemmas.{both_tests, one_line_up, differ_permuted, OtherDot}
+use Rattle.td_order.proofs.LineUpLemmas.{one_line_up, differ_permuted, OtherDot}
+use Rattle.td_base.proofs.Elements.{both_tests}
 use Rattle.td_base.proofs.Searches.{find_In, find_none}
 
 -- of operations without a dot twice, the one with a dot

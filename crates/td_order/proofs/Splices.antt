@@ -4,22 +4,7 @@ use Rattle.std.proofs.lemmas.List.{take_more, append-nil, drop_all, length-take-
 use Rattle.std.specs.Prelude.{unwrap_or}
 use Rattle.std.specs.List.{list_any, position, position_or_len}
 use Rattle.td_order.specs.Place.{put_after_last, put_before_first}
-use Rattle.td_base.proofs.Searches.{first_or_length}
-
-any_false : {X : Type 0} (test : X → Bool) (x : X) → test x ≡ false → list_any test (x ∷ []) ≡ false
-any_false test x h = ap (λ b. b || false) h
-
-any_snoc : {X : Type 0} (test : X → Bool) (xs : List X) (x : X) → test x ≡ false → list_any test (xs ++ (x ∷ [])) ≡ list_any test xs
-any_snoc test [] x h = any_false test x h
-any_snoc test (y ∷ ys) x h = ap (λ b. test y || b) (any_snoc test ys x h)
-
-true_or : (b c : Bool) → c ≡ true → (b || c) ≡ true
-true_or true c h = refl
-true_or false c h = h
-
-any_last : {X : Type 0} (test : X → Bool) (xs : List X) (x : X) → test x ≡ true → list_any test (xs ++ (x ∷ [])) ≡ true
-any_last test [] x h = ap (λ b. b || false) h
-any_last test (y ∷ ys) x h = true_or (test y) _ (any_last test ys x h)
+use Rattle.td_base.proofs.Searches.{first_or_length, any_snoc, any_last, any_false}
 
 after_more_at : {X : Type 0} (test : X → Bool) (ids : List X) (y : X) (ys : List X) (x : X) (b : Bool) → put_after_last test ids (ys ++ (x ∷ [])) ≡ put_after_last test ids ys ++ (x ∷ [])
     → cond b (y ∷ put_after_last test ids (ys ++ (x ∷ []))) (ids ++ (y ∷ (ys ++ (x ∷ [])))) ≡ cond b (y ∷ put_after_last test ids ys) (ids ++ (y ∷ ys)) ++ (x ∷ [])

@@ -26,6 +26,7 @@ impl AtomIds {
         AtomIds { items }
     }
 
+    /// The identities in order.
     pub fn as_slice(&self) -> &[AtomId]
         ensures { result.now ≡ self.now }
     {

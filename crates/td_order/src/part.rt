@@ -1,5 +1,5 @@
 // A part of the operations has the order of the whole; each law is the contract of a function with an empty body.
-ghost use Rattle.std.specs.Prelude.{◌≡◌, List, [], ◌∷◌, IsTrue};
+ghost use Rattle.std.specs.Prelude.{◌≡◌, List, [], ◌∷◌, IsTrue, codes};
 ghost use Rattle.td_op.specs.Op.{OpValue};
 ghost use Rattle.td_op.specs.declared.insertion.Insertion.{Insertion};
 ghost use Rattle.td_order.specs.Lists.{IsSublist};
@@ -33,7 +33,7 @@ pub fn a_small_history()
     ensures part { IsPart known_to_second history }
     ensures whole_order { order history ≡ atom 1 1 ∷ atom 1 6 ∷ atom 2 1 ∷ atom 1 2 ∷ [] }
     ensures part_order { order known_to_second ≡ atom 1 1 ∷ atom 2 1 ∷ atom 1 2 ∷ [] }
-    ensures text { show history ≡ 120 ∷ 112 ∷ 113 ∷ [] }
+    ensures text { show history ≡ codes "xpq" }
 {}
 
 /// Without `HasEpochs` a part need not have the order of the whole: here a stands before c in the part, and after it

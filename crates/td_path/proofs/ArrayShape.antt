@@ -6,7 +6,7 @@ use Rattle.std.specs.List.{position, position_from}
 use Rattle.std.specs.Option.{option_map, option_or}
 use Rattle.std.specs.declared.cmp.Ordering.TheVariants.{Less}
 use Rattle.std.proofs.lemmas.Bool.Decides.{nat_tests}
-use Rattle.std.proofs.lemmas.Option.{slice_get-map, slice_get_within}
+use Rattle.std.proofs.lemmas.Option.{slice_get-map, slice_get_within, none-some, same_Some}
 use Rattle.std.proofs.lemmas.Iterator.Adapters.{position_from-zero}
 use Rattle.std.proofs.Math.Nat.{two-pow-succ}
 use Rattle.td_base.specs.declared.bit.Bit.{Bit}
@@ -103,10 +103,10 @@ data Place (k i : ℕ) (bits : Bits) : Type 0 where
   on_right : (rest : Bits) (j : ℕ) → i ≡ k / 2 + 1 + j → bits ≡ Right ∷ rest → slice_get (shape (after k)) j ≡ Some rest → Place k i bits
 
 longer : (bit : Bit) (o : Option Bits) (bits : Bits) → option_map (λ (rest : Bits). bit ∷ rest) o ≡ Some bits → (rest : Bits) × (bits ≡ bit ∷ rest) × (o ≡ Some rest)
-longer bit None bits h = absurd (none_some bits h)
+longer bit None bits h = absurd (none-some bits h)
   where
-    none_some : (bits : Bits) → None ≡ Some bits → ⊥
-    none_some bits h = cc
+    none-some : (bits : Bits) → None ≡ Some bits → ⊥
+    none-some bits h = cc
 longer bit (Some rest) bits h = (rest, same (bit ∷ rest) bits h, refl)
   where
     same : (x y : Bits) → Some x ≡ Some y → y ≡ x
@@ -288,29 +288,23 @@ index_of_path (bit ∷ bits) = undone_further bit bits (index_of_path bits)
 abbrev IsPathOf : Bits → Type 0
 IsPathOf bits = (k i : ℕ) → shape_index k bits ≡ Some i → slice_get (shape k) i ≡ Some bits
 
-none_some : (i : ℕ) → None ≡ Some i → ⊥
-none_some i h = cc
-
-same_number : (i j : ℕ) → Some i ≡ Some j → i ≡ j
-same_number i j h = cc
-
 path_top : IsPathOf []
-path_top zero i h = absurd (none_some i h)
-path_top (suc k) i h = at_middle (suc k) i (omega arith) (same_number i (suc k / 2) (sym h ∙ index_top (suc k) (omega arith)))
+path_top zero i h = absurd (none-some i h)
+path_top (suc k) i h = at_middle (suc k) i (omega arith) (same_Some i (suc k / 2) (sym h ∙ index_top (suc k) (omega arith)))
 
 path_left : (bits : Bits) → IsPathOf bits → IsPathOf (Left ∷ bits)
-path_left bits ih zero i h = absurd (none_some i h)
+path_left bits ih zero i h = absurd (none-some i h)
 path_left bits ih (suc k) i h =
     let below_it = ih (suc k / 2) i (sym (index_left (suc k) bits (omega arith)) ∙ h) in
     let within = slice_get_within (shape (suc k / 2)) i bits below_it in
     at_left (suc k) i (omega (arith, shape_length (suc k / 2))) ∙ ap (option_map (λ (r : Bits). Left ∷ r)) below_it
 
 moved : (n i : ℕ) (o : Option ℕ) → option_map (λ j. n + 1 + j) o ≡ Some i → (j : ℕ) × (o ≡ Some j) × (i ≡ n + 1 + j)
-moved n i None h = absurd (none_some i h)
-moved n i (Some j) h = (j, refl, same_number i (n + 1 + j) (sym h))
+moved n i None h = absurd (none-some i h)
+moved n i (Some j) h = (j, refl, same_Some i (n + 1 + j) (sym h))
 
 path_right : (bits : Bits) → IsPathOf bits → IsPathOf (Right ∷ bits)
-path_right bits ih zero i h = absurd (none_some i h)
+path_right bits ih zero i h = absurd (none-some i h)
 path_right bits ih (suc k) i h =
     let m = moved (suc k / 2) i (shape_index (after (suc k)) bits) (sym (index_right (suc k) bits (omega arith)) ∙ h) in
     at_right (suc k) i m.0 (omega arith) m.2 ∙ ap (option_map (λ (r : Bits). Right ∷ r)) (ih (after (suc k)) m.0 m.1)

@@ -53,12 +53,14 @@ impl Path {
         })
     }
 
+    /// How many pairs it has: the depth of its node.
     pub fn len(&self) -> u32
         ensures { result ≡ length self.now }
     {
         self.pairs.len() as u32
     }
 
+    /// Whether it is the way to the root.
     pub fn is_empty(&self) -> bool
         ensures { IsTrue result ↔ (self.now ≡ []) }
     {

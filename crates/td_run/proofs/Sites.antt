@@ -12,6 +12,7 @@ use Rattle.td_doc.specs.Answers.{IsSlotFault, is_rooted}
 use Rattle.td_run.specs.Editor.{Outcome, after_one, insert_text}
 use Rattle.td_run.specs.Site.{SiteState, treedoc}
 use Rattle.td_run.proofs.Typing.{after_many}
+use Rattle.std.proofs.lemmas.Option.{none-some, same_Some}
 
 ascii_byte : (byte : ℕ) → byte < 128 → (i : ℕ) → get_or (byte ∷ []) i 0 < 128
 ascii_byte byte h zero = h
@@ -47,5 +48,5 @@ stops_here s index made k text whole h past rest =
 
 -- a slot that names a row is not refused as gone
 pub not_gone : (rows : List DocRow) (slot : Slot) (x : AtomIdValue) → is_rooted rows slot ≡ true → IsSlotFault rows slot (Gone x) → ⊥
-not_gone rows Root x rooted fault = fault.0
-not_gone rows (At y bit) x rooted fault = true≢false (sym rooted ∙ ap (λ z. is_some (find_row z rows)) (sym fault.0) ∙ fault.1)
+not_gone rows Root x rooted fault = none-some x fault.0
+not_gone rows (At y bit) x rooted fault = true≢false (sym rooted ∙ ap (λ z. is_some (find_row z rows)) (same_Some y x fault.0) ∙ fault.1)
