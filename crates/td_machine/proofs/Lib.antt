@@ -1,3 +1,4 @@
+pub mod Waiting
 pub mod Vectors
 pub mod Ballots
 pub mod Parts

@@ -32,6 +32,7 @@ use Rattle.td_machine.proofs.Aims.{FitsAim, aimed}
 use Rattle.td_machine.proofs.StepKinds.{IsForeign, by_kinds}
 use Rattle.td_base.proofs.Equals.{same_dot_refl}
 use Rattle.td_machine.proofs.Ballots.{counted_same, found_counted}
+use Rattle.td_machine.proofs.Waiting.{In-put_waiting}
 
 -- what it names is here or not, whatever waits
 misfit_same : (x y : OpValue) (m : Machine) → misfit x (forget y m) ≡ misfit x m
@@ -148,7 +149,7 @@ module _ {Came : Message → Type 0} {site size : ℕ} where
           → ((x : OpValue) → In x m.waiting → IsOffered Came m.site m.size x)
           → (x : OpValue) → In x n.waiting → IsOffered Came n.site n.size x
       keeps m n b (Delays y o new late) h =
-          one_more (IsOffered Came m.site m.size) y m.waiting o h
+          λ x i. one_more (IsOffered Came m.site m.size) y m.waiting o h x (In-put_waiting y m.waiting x i)
       keeps m n b (Forgets y i ready) h =
           λ x j. h x (In-filter (λ (z : OpValue). not (is_dot_of y.dot z)) x m.waiting j).0
       keeps m n b part h = h

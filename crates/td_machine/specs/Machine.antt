@@ -18,7 +18,7 @@ pub record Machine : Type 0 where
   pub have : List ℕ
   -- those operations, the newest first
   pub log : List OpValue
-  -- operations that came before others that they depend on
+  -- operations that came before others that they depend on, in the order of their dots
   pub waiting : List OpValue
   pub holds : List Hold
   -- the own proposals

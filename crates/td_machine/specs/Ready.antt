@@ -37,6 +37,11 @@ is_dot_of d x = same_dot x.dot d
 abbrev pub waits : DotValue → List OpValue → Bool
 waits d waiting = list_any (is_dot_of d) waiting
 
+-- the operation waits too; what waits is kept in the order of dots
+abbrev pub put_waiting : OpValue → List OpValue → List OpValue
+put_waiting x [] = x ∷ []
+put_waiting x (y ∷ waiting) = if dot_lt y.dot x.dot then y ∷ put_waiting x waiting else x ∷ y ∷ waiting
+
 -- the others wait on
 abbrev pub without : DotValue → List OpValue → List OpValue
 without d waiting = filter (λ (x : OpValue). not (is_dot_of d x)) waiting

@@ -1,5 +1,5 @@
 -- What a machine answers to a message, and what it does with it.
-use Rattle.std.specs.Prelude.{ℕ, ◌∷◌, Bool, ◌||◌, not, nat_lt, length, Option, Some, None, if◌then◌else◌, ◌==◌}
+use Rattle.std.specs.Prelude.{ℕ, Bool, ◌||◌, not, nat_lt, length, Option, Some, None, if◌then◌else◌, ◌==◌}
 use Rattle.std.specs.List.{find}
 use Rattle.std.specs.Option.{is_some}
 use Rattle.td_base.specs.Value.{DotValue}
@@ -16,7 +16,7 @@ use Rattle.td_op.specs.declared.reply.Why.{Why}
 use Rattle.td_op.specs.declared.reply.Why.TheVariants.{Size, Own, Atom, Proposal, Vote as NoHold, Address}
 use Rattle.td_op.specs.Op.{OpValue}
 use Rattle.td_doc.specs.Document.{find_row}
-use Rattle.td_machine.specs.Ready.{is_had, is_ready, next_ready, waits, without}
+use Rattle.td_machine.specs.Ready.{is_had, is_ready, next_ready, waits, put_waiting, without}
 use Rattle.td_machine.specs.Log.{proposed, commits, is_undecided_of}
 use Rattle.td_machine.specs.Hold.{is_held}
 use Rattle.td_machine.specs.Vote.{votes_yes}
@@ -62,7 +62,7 @@ abbrev pub take : OpValue → Machine → Machine
 take x m = take_as (proposed x.body) x m
 
 abbrev pub keep_waiting : OpValue → Machine → Machine
-keep_waiting x m = record m { waiting = x ∷ m.waiting }
+keep_waiting x m = record m { waiting = put_waiting x m.waiting }
 
 abbrev pub fit_step : Option Why → OpValue → Machine → Stepped
 fit_step (Some why) x m = stepped (Unfit why) m
