@@ -1,6 +1,6 @@
 -- What is found in a list, what passes a test, and what a filter keeps.
 use Rattle.std.proofs.Common.{◌≡◌, ◌≤◌, ℕ, List, [], ◌∷◌, ◌++◌, Bool, true, false, ◌&&◌, ◌||◌, ◌+◌, suc, cond, not, map, filter, length, take, drop, nat_lt, Option, Some, None, refl, sym, ap, ◌∙◌, subst, inl, inr, ⊎_elim, true≢false, arith, take-append-drop}
-use Rattle.std.proofs.lemmas.Bool.{and_parts, or_right}
+use Rattle.std.proofs.lemmas.Bool.{and_parts, and_from, or_right}
 use Rattle.std.proofs.lemmas.Bool.Decides.{nat_tests}
 use Rattle.std.proofs.lemmas.List.Elements.{filter-append}
 use Rattle.std.proofs.lemmas.List.Sums.{prefix_len-le-length}
@@ -65,6 +65,11 @@ each_passes test [] h x i = absurd i
 each_passes test (y ∷ ys) h x i =
     let p = and_parts (test y) (list_all test ys) h in
     ⊎_elim (λ (e : x ≡ y). subst (λ z. test z ≡ true) (sym e) p.0) (λ k. each_passes test ys p.1 x k) i
+
+pub all_pass : {X : Type 0} (test : X → Bool) (xs : List X) → ((x : X) → In x xs → test x ≡ true) → list_all test xs ≡ true
+all_pass test [] h = refl
+all_pass test (x ∷ xs) h =
+    and_from (test x) (list_all test xs) (h x (inl refl)) (all_pass test xs (λ y i. h y (inr i)))
 
 -- a filter, and what it keeps, through a map
 

@@ -40,7 +40,7 @@ in_add_at d e x dots true c ih h = h
 in_add_at d e x dots false true ih h = inr h
 in_add_at d e x dots false false ih h = ⊎_elim (λ (q : x ≡ e). inr (inl q)) (λ (k : In x (add_dot d dots)). ⊎_elim (λ (q : x ≡ d). inl q) (λ (j : In x dots). inr (inr j)) (ih k)) h
 
-in_add : (d x : DotValue) (dots : List DotValue) → In x (add_dot d dots) → (x ≡ d) ⊎ In x dots
+pub in_add : (d x : DotValue) (dots : List DotValue) → In x (add_dot d dots) → (x ≡ d) ⊎ In x dots
 in_add d x [] h = h
 in_add d x (e ∷ dots) h = in_add_at d e x dots (is_lt (dot_cmp d e)) (is_eq (dot_cmp d e)) (in_add d x dots) h
 

@@ -108,10 +108,10 @@ effect_document log dot (Abort p) rows d fresh = d
 
 -- ---- the machine
 
-abbrev Had : List ℕ → AtomIdValue → Type 0
+abbrev pub Had : List ℕ → AtomIdValue → Type 0
 Had have z = IsTrue (vector_has have z.dot)
 
-abbrev Obeys : List ℕ → List DocRow → Type 0
+abbrev pub Obeys : List ℕ → List DocRow → Type 0
 Obeys have rows = IsDocument rows × EachRow (Had have) rows
 
 no_rows : IsDocument []
@@ -124,6 +124,17 @@ no_rows =
       deletes = λ r i. absurd i;
     }
 
+-- no row is of an insert with the dot of an operation that is next
+pub fresh_next : (x : OpValue) (m : Machine) → IsNext m.have x → Obeys m.have m.doc → IsFresh m.doc x.dot
+fresh_next x m next o =
+    all_of (λ (r : DocRow). (row_id r).dot ≢ x.dot) m.doc
+    (λ r i e.
+    let number : x.dot.seq ≡ vector_get m.have x.dot.site + 1 = next.next in
+    let known : x.dot.seq ≤ vector_get m.have x.dot.site =
+    leb-true x.dot.seq (vector_get m.have x.dot.site)
+    (subst (λ (d : DotValue). IsTrue (vector_has m.have d)) e (o.1 r i)) in
+    omega (arith, known, number))
+
 next_obeys : (x : OpValue) (m : Machine) → IsNext m.have x → Obeys m.have m.doc
     → Obeys (vector_bump m.have x.dot.site) (effect m.log x.dot x.body m.doc)
 next_obeys x m next o =
@@ -133,13 +144,7 @@ next_obeys x m next o =
     bump_same m.have x.dot.site next.some next.within in
     let had : IsTrue (vector_has have x.dot) =
     le-leb x.dot.seq (vector_get have x.dot.site) (omega (arith, number, now)) in (
-      effect_document m.log x.dot x.body m.doc o.0
-          (all_of (λ (r : DocRow). (row_id r).dot ≢ x.dot) m.doc
-          (λ r i e.
-          let known : x.dot.seq ≤ vector_get m.have x.dot.site =
-          leb-true x.dot.seq (vector_get m.have x.dot.site)
-          (subst (λ (d : DotValue). IsTrue (vector_has m.have d)) e (o.1 r i)) in
-          omega (arith, known, number))),
+      effect_document m.log x.dot x.body m.doc o.0 (fresh_next x m next o),
       after_effect (Had have) m.log x.dot x.body m.doc o.0
           (λ r i.
           covered_dots have m.have (bump_covers m.have x.dot.site next.some next.within) (row_id r).dot (o.1 r i))

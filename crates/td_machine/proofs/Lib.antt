@@ -8,6 +8,7 @@ pub mod Walk
 pub mod Turns
 pub mod Counting
 pub mod Documents
+pub mod Knowing
 pub mod Room
 pub mod Stays
 pub mod Holding
@@ -21,3 +22,4 @@ pub mod Witness
 pub mod FlattenWitness
 pub mod Growing
 pub mod Showing
+pub mod Changes

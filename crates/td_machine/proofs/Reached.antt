@@ -7,7 +7,8 @@ use Rattle.td_base.specs.Lists.{In, Successive}
 use Rattle.td_clock.specs.Vector.{vector_get, vector_has}
 use Rattle.td_op.specs.Op.{OpValue}
 use Rattle.td_doc.specs.Document.{IsDocument}
-use Rattle.td_doc.specs.Slots.{overlaps}
+use Rattle.td_doc.specs.Slots.{overlaps, is_known}
+use Rattle.td_path.specs.declared.slot.Slot.TheVariants.{Root}
 use Rattle.td_machine.specs.Hold.{Hold}
 use Rattle.td_doc.specs.Answers.{is_rooted}
 use Rattle.td_machine.specs.Counts.{counts, ops_of, IsNext, IsInTurn}
@@ -20,6 +21,7 @@ use Rattle.td_machine.proofs.Walk.{offered}
 use Rattle.td_machine.proofs.Turns.{length_counts, counted}
 use Rattle.td_machine.proofs.Counting.{total, older_in_turn, numbered, past_found, Found}
 use Rattle.td_machine.proofs.Documents.{documents, logged}
+use Rattle.td_machine.proofs.Knowing.{rows_known}
 use Rattle.td_machine.proofs.Holding.{holding}
 use Rattle.td_machine.proofs.Room.{room}
 use Rattle.td_machine.proofs.Induction.{Anything, IsBuiltSomewhere, built_of}
@@ -78,6 +80,9 @@ module _ (m : Machine) (r : IsReached m) where
 
   pub rules_of : IsDocument m.doc
   rules_of = (documents m built).0
+
+  pub known_of : is_known m.doc Root m.have ≡ true
+  known_of = rows_known m built
 
   pub replay_of : m.doc ≡ doc_of m.log
   replay_of = logged m built

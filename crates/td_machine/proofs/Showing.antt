@@ -32,7 +32,7 @@ shown_after_delete dot target rows d = at (is_live_id rows target) refl
     at true e = delete_cuts rows target dot d e
     at false e = ap (map (λ (r : DocRow). r.atom)) (delete_again rows target dot d e)
 
-shown_after_flatten : (slot : Option Slot) (rows : List DocRow) → IsDocument rows
+pub shown_after_flatten : (slot : Option Slot) (rows : List DocRow) → IsDocument rows
     → live_atoms (flatten_found slot rows) ≡ live_atoms rows
 shown_after_flatten None rows d = refl
 shown_after_flatten (Some slot) rows d = flatten_shows rows slot d

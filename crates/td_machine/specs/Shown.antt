@@ -1,14 +1,17 @@
 -- What an operation does to the list of atoms that a document shows, as a change of that list.
-use Rattle.std.specs.Prelude.{ℕ, List, [], ◌∷◌, Option, Some, None, if◌then◌else◌}
+use Rattle.std.specs.Prelude.{ℕ, List, [], ◌∷◌, length, Option, Some, None, if◌then◌else◌, ◌==◌}
+use Rattle.std.specs.Option.{option_and_then}
 use Rattle.td_base.specs.Value.{DotValue}
 use Rattle.td_op.specs.declared.body.Body.{Body}
 use Rattle.td_op.specs.declared.body.Body.TheVariants.{Insert, Delete, Propose, Commit, Abort}
 use Rattle.td_op.specs.declared.change.Change.{Change}
 use Rattle.td_op.specs.declared.change.Change.TheVariants.{Put, PutRun, Cut}
 use Rattle.td_op.specs.Change.{changed}
+use Rattle.td_op.specs.Op.{OpValue}
 use Rattle.td_doc.specs.Document.{DocRow}
 use Rattle.td_doc.specs.Insertion.{insert_run}
 use Rattle.td_doc.specs.Answers.{is_live_id, live_before}
+use Rattle.td_machine.specs.Machine.{Machine}
 
 -- a run put at the index: one atom is put alone
 abbrev pub put_at_index : ℕ → List (List ℕ) → Change
@@ -29,3 +32,13 @@ change_by dot (Abort proposal) rows = None
 abbrev pub changed_by : Option Change → List (List ℕ) → List (List ℕ)
 changed_by None atoms = atoms
 changed_by (Some change) atoms = changed change atoms
+
+-- the operation of the log that has so many older ones
+abbrev pub op_over : ℕ → List OpValue → Option OpValue
+op_over k [] = None
+op_over k (x ∷ log) = if length log == k then Some x else op_over k log
+
+-- what the first operation that the machine n has more than m did to the atoms shown
+abbrev pub change_between : Machine → Machine → Option Change
+change_between m n =
+    option_and_then (λ (x : OpValue). change_by x.dot x.body m.doc) (op_over (length m.log) n.log)

@@ -10,18 +10,19 @@ ghost use Rattle.td_op.specs.declared.input.Input.TheVariants.{Take};
 ghost use Rattle.td_op.specs.declared.message.Message.{Message};
 ghost use Rattle.td_op.specs.Input.{IsInput};
 ghost use Rattle.td_path.specs.declared.slot.Slot.{Slot};
+ghost use Rattle.td_path.specs.declared.slot.Slot.TheVariants.{Root};
 ghost use Rattle.td_op.specs.declared.body.Body.{Body};
 ghost use Rattle.td_op.specs.declared.body.Body.TheVariants.{Insert};
 ghost use Rattle.td_op.specs.Op.{OpValue, IsOp, named_atom};
 ghost use Rattle.td_op.specs.Past.{in_past, op_sum};
 ghost use Rattle.td_doc.specs.Document.{DocRow, IsDocument, live_atoms};
-ghost use Rattle.td_doc.specs.Slots.{overlaps};
+ghost use Rattle.td_doc.specs.Slots.{overlaps, is_known};
 ghost use Rattle.td_machine.specs.Counts.{ops_of};
 ghost use Rattle.td_op.specs.Insertion.{Inserts};
 ghost use Rattle.td_machine.specs.Hold.{Hold};
 ghost use Rattle.td_doc.specs.Answers.{IsFresh, is_rooted};
 ghost use Rattle.td_machine.specs.Making.{effect};
-ghost use Rattle.td_machine.specs.Shown.{change_by, changed_by};
+ghost use Rattle.td_machine.specs.Shown.{change_by, changed_by, change_between};
 ghost use Rattle.td_machine.specs.Machine.{Machine, start, made, undecided};
 ghost use Rattle.td_machine.specs.Step.{step, IsRefusal};
 ghost use Rattle.td_machine.specs.Replay.{doc_of};
@@ -86,6 +87,20 @@ pub fn operations_change_the_atoms_shown()
         → ((slot : Slot) (run : List (List ℕ)) → body ≡ Insert slot run
         → IsFresh rows dot × IsTrue (is_rooted rows slot))
         → live_atoms (effect log dot body rows) ≡ changed_by (change_by dot body rows) (live_atoms rows) }
+{}
+
+/// What a step does to the list of atoms shown is the change that is told of the first operation that it makes or takes,
+/// and nothing where it makes and takes none: the decision that may come second changes no atom shown.
+pub fn steps_change_the_atoms_shown()
+    ensures { (m : Machine) (input : Input) → IsReached m → IsInput input
+        → live_atoms (step m input).machine.doc
+        ≡ changed_by (change_between m (step m input).machine) (live_atoms m.doc) }
+{}
+
+/// The vector of a machine has all that was done to the rows of its document. So a vector that covers it has too, and a
+/// vote need look at no row then.
+pub fn documents_are_known()
+    ensures { (m : Machine) → IsReached m → IsTrue (is_known m.doc Root m.have) }
 {}
 
 /// The holds of a machine never overlap, and the atom of a held slot is a row.
