@@ -14,6 +14,7 @@ pub mod Stays
 pub mod Holding
 pub mod Induction
 pub mod Naming
+pub mod OwnProposals
 pub mod Refusals
 pub mod Family
 pub mod Reached

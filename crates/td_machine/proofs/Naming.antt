@@ -45,7 +45,7 @@ pub record IsSound (x : OpValue) : Type 0 where
 
 -- ---- own ballots are on own proposals
 
-abbrev OfSite : ℕ → List Ballot → Type 0
+abbrev pub OfSite : ℕ → List Ballot → Type 0
 OfSite site ballots = (b : Ballot) → In b ballots → b.proposal.site ≡ site
 
 close_of_site : (p : DotValue) (commit : Bool) (ballots : List Ballot) (site : ℕ) → OfSite site ballots
@@ -106,7 +106,7 @@ module _ {Came : Message → Type 0} {site size : ℕ} where
         },
       )))
 
-  own_ballots : (m : Machine) → IsBuilt Came site size m → OfSite m.site m.ballots
+  pub own_ballots : (m : Machine) → IsBuilt Came site size m → OfSite m.site m.ballots
   own_ballots = by_parts (λ (m : Machine). OfSite m.site m.ballots) (λ some within b i. absurd i) keeps
     where
       keeps : (m n : Machine) → IsBuilt Came site size m → Part Came m n → OfSite m.site m.ballots
@@ -153,7 +153,7 @@ module _ {Came : Message → Type 0} {site size : ℕ} where
       omega (arith, own, long, within)
 
   -- the site that an own operation names is that of its atom, or of an own proposal
-  own_site : (body : Body) (m : Machine) → IsBuilt Came site size m → MayMake body m
+  pub own_site : (body : Body) (m : Machine) → IsBuilt Came site size m → MayMake body m
       → IfSome (body_site body) (λ (s : ℕ). s ≤ length m.have)
   own_site (Insert Root run) m b may = tt
   own_site (Insert (At z bit) run) m b may = inserted_site m b z (own_names (Insert (At z bit) run) m b may z refl)

@@ -1,5 +1,5 @@
 -- What holds after every legal history.
-use Rattle.std.proofs.Common.{◌≡◌, ◌≢◌, ◌<◌, ◌≤◌, ◌+◌, ◌++◌, ◌∷◌, ℕ, List, true, false, length, sym, subst, arith}
+use Rattle.std.proofs.Common.{◌≡◌, ◌≢◌, ◌<◌, ◌≤◌, ◌+◌, ◌++◌, ◌∷◌, ℕ, List, true, false, length, None, sym, subst, arith}
 use Rattle.std.specs.Prelude.{IsTrue}
 use Rattle.td_base.specs.Value.{DotValue}
 use Rattle.td_base.specs.declared.dot.TheConstants.{MAX_SEQ}
@@ -23,6 +23,11 @@ use Rattle.td_machine.proofs.Counting.{total, older_in_turn, numbered, past_foun
 use Rattle.td_machine.proofs.Documents.{documents, logged}
 use Rattle.td_machine.proofs.Knowing.{rows_known}
 use Rattle.td_machine.proofs.Holding.{holding}
+use Rattle.td_machine.proofs.Naming.{own_ballots}
+use Rattle.td_machine.proofs.OwnProposals.{polls, open_proposed}
+use Rattle.td_machine.specs.Decision.{Ballot, is_open}
+use Rattle.td_machine.specs.Log.{proposed_slot, decision}
+use Rattle.std.specs.Option.{is_some}
 use Rattle.td_machine.proofs.Room.{room}
 use Rattle.td_machine.proofs.Induction.{Anything, IsBuiltSomewhere, built_of}
 
@@ -92,3 +97,10 @@ module _ (m : Machine) (r : IsReached m) where
 
   pub apart_of : Successive (λ (g h : Hold). overlaps m.doc g.slot h.slot ≡ false) m.holds
   apart_of = (holding m built).apart
+
+  pub ballots_of : (b : Ballot) → In b m.ballots → (b.proposal.site ≡ m.site) × IsTrue (vector_has m.have b.proposal)
+  ballots_of b i = (own_ballots m built b i, (polls m built).had b i)
+
+  pub open_of : (b : Ballot) → In b m.ballots → is_open b ≡ true
+      → IsTrue (is_some (proposed_slot b.proposal m.log)) × (decision b.proposal m.log ≡ None)
+  open_of b i o = (open_proposed m built b i o, (polls m built).undecided b i o)

@@ -1,5 +1,5 @@
 // What the definitions come to, each law as the contract of a function with an empty body.
-ghost use Rattle.std.specs.Prelude.{◌≡◌, ◌≢◌, ◌<◌, ◌≤◌, ◌+◌, ◌++◌, [], ◌∷◌, replicate, ℕ, List, true, false, length, IsTrue, Some};
+ghost use Rattle.std.specs.Prelude.{◌≡◌, ◌≢◌, ◌<◌, ◌≤◌, ◌+◌, ◌++◌, [], ◌∷◌, replicate, ℕ, List, true, false, length, IsTrue, Some, None};
 ghost use Rattle.td_base.specs.Value.{DotValue, AtomIdValue};
 ghost use Rattle.td_base.specs.declared.site.TheConstants.{MAX_SITE};
 ghost use Rattle.td_base.specs.declared.dot.TheConstants.{MAX_SEQ};
@@ -20,6 +20,9 @@ ghost use Rattle.td_doc.specs.Slots.{overlaps, is_known};
 ghost use Rattle.td_machine.specs.Counts.{ops_of};
 ghost use Rattle.td_op.specs.Insertion.{Inserts};
 ghost use Rattle.td_machine.specs.Hold.{Hold};
+ghost use Rattle.td_machine.specs.Decision.{Ballot, is_open};
+ghost use Rattle.td_machine.specs.Log.{proposed_slot, decision};
+ghost use Rattle.std.specs.Option.{is_some};
 ghost use Rattle.td_doc.specs.Answers.{IsFresh, is_rooted};
 ghost use Rattle.td_machine.specs.Making.{effect};
 ghost use Rattle.td_machine.specs.Shown.{change_by, changed_by, change_between};
@@ -108,6 +111,14 @@ pub fn holds_keep_apart()
     ensures rooted { (m : Machine) → IsReached m → (h : Hold) → In h m.holds → is_rooted m.doc h.slot ≡ true }
     ensures apart { (m : Machine) → IsReached m
         → Successive (λ (g h : Hold). overlaps m.doc g.slot h.slot ≡ false) m.holds }
+{}
+
+/// Ballots are on proposals that the site made, and an open one is on a proposal of the log that is not decided there.
+pub fn ballots_are_on_own_proposals()
+    ensures own { (m : Machine) → IsReached m → (b : Ballot) → In b m.ballots
+        → (b.proposal.site ≡ m.site) × IsTrue (vector_has m.have b.proposal) }
+    ensures opened { (m : Machine) → IsReached m → (b : Ballot) → In b m.ballots → is_open b ≡ true
+        → IsTrue (is_some (proposed_slot b.proposal m.log)) × (decision b.proposal m.log ≡ None) }
 {}
 
 /// Sites that have done nothing are a consistent family, and a consistent family with one more entry is one, where the
