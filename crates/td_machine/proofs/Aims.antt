@@ -74,7 +74,7 @@ asking : (slot : Slot) (m : Machine) → is_rooted m.doc slot ≡ true → FitsA
 asking slot m rooted free room = record { rooted = rooted; free = free; room = room }
 
 -- a live atom at an index is a row
-live_found : (rows : List DocRow) (index : ℕ) (x : AtomIdValue) → live_id_at rows index ≡ Some x
+pub live_found : (rows : List DocRow) (index : ℕ) (x : AtomIdValue) → live_id_at rows index ≡ Some x
     → is_some (find_row x rows) ≡ true
 live_found rows index x e = at (slice_get (live_rows rows) index) refl e
   where

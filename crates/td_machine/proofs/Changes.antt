@@ -38,7 +38,7 @@ use Rattle.td_machine.specs.History.{IsReached}
 
 -- ---- the operation that has so many older ones
 
-none_over : (k : ℕ) (log : List OpValue) → length log ≤ k → op_over k log ≡ None
+pub none_over : (k : ℕ) (log : List OpValue) → length log ≤ k → op_over k log ≡ None
 none_over k [] h = refl
 none_over k (x ∷ log) h = at (nat_eq (length log) k) refl (none_over k log (omega (arith, h)))
   where
@@ -47,11 +47,11 @@ none_over k (x ∷ log) h = at (nat_eq (length log) k) refl (none_over k log (om
     at true e none = let same : length log ≡ k = eqb-true (length log) k e in absurd (omega (arith, h, same))
     at false e none = none
 
-one_over : (x : OpValue) (log : List OpValue) → op_over (length log) (x ∷ log) ≡ Some x
+pub one_over : (x : OpValue) (log : List OpValue) → op_over (length log) (x ∷ log) ≡ Some x
 one_over x log =
     ap (λ (b : Bool). if b then Some x else op_over (length log) log) (eq-eqb (length log) (length log) refl)
 
-two_over : (y x : OpValue) (log : List OpValue) → op_over (length log) (y ∷ x ∷ log) ≡ Some x
+pub two_over : (y x : OpValue) (log : List OpValue) → op_over (length log) (y ∷ x ∷ log) ≡ Some x
 two_over y x log = at (nat_eq (length (x ∷ log)) (length log)) refl
   where
     at : (b : Bool) → nat_eq (length (x ∷ log)) (length log) ≡ b

@@ -33,7 +33,7 @@ use Rattle.td_machine.proofs.Turns.{counted as in_turn, comes_next}
 
 -- ---- what the log has is had
 
-had_counts : (n : ℕ) (log : List OpValue) → IsInTurn n log → (y : OpValue) → In y log
+pub had_counts : (n : ℕ) (log : List OpValue) → IsInTurn n log → (y : OpValue) → In y log
     → IsTrue (vector_has (counts n log) y.dot)
 had_counts n [] c y i = absurd i
 had_counts n (x ∷ log) c y (inl e) =
