@@ -2,6 +2,7 @@ pub mod Lists
 pub mod Elements
 pub mod Rising
 pub mod Searches
+pub mod Reversed
 pub mod AtomLemmas
 pub mod RunLemmas
 pub mod RunPieces

@@ -1,5 +1,5 @@
 -- Dots, identities and bits are in a total order, which tells different ones apart.
-use Rattle.std.proofs.Common.{◌≡◌, ◌⊎◌, ◌<◌, ◌==◌, ℕ, Bool, true, false, cond, nat_lt, refl, sym, subst, inl, inr, ⊎_elim, true≢false, arith}
+use Rattle.std.proofs.Common.{◌≡◌, ◌⊎◌, ◌<◌, ◌≤◌, ◌==◌, ℕ, Bool, true, false, cond, nat_lt, refl, sym, subst, inl, inr, ⊎_elim, true≢false, arith}
 use Rattle.std.proofs.lemmas.Bool.Decides.{nat_tests}
 use Rattle.std.specs.declared.cmp.Ordering.{Ordering}
 use Rattle.std.specs.declared.cmp.Ordering.TheVariants.{Less, Equal, Greater}
@@ -105,6 +105,20 @@ dot_lt_true_at d e Greater p a b h = absurd (true≢false (sym h))
 
 pub dot_lt_true : (d e : DotValue) → dot_lt d e ≡ true → (d.site < e.site) ⊎ ((d.site ≡ e.site) × (d.seq < e.seq))
 dot_lt_true d e h = dot_lt_true_at d e (nat_cmp d.site e.site) (nat_cmp d.seq e.seq) (compares d.site e.site) (compares d.seq e.seq) h
+
+-- and what is not smaller has no smaller site, and at one site no smaller number
+
+dot_lt_false_at : (d e : DotValue) (o p : Ordering) → Compares d.site e.site o → Compares d.seq e.seq p
+    → is_lt (ordering_then o p) ≡ false → (e.site ≤ d.site) × (e.site ≡ d.site → e.seq ≤ d.seq)
+dot_lt_false_at d e Less p a b h = absurd (true≢false h)
+dot_lt_false_at d e Equal Less a b h = absurd (true≢false h)
+dot_lt_false_at d e Equal Equal a b h = (omega arith, λ k. omega arith)
+dot_lt_false_at d e Equal Greater a b h = (omega arith, λ k. omega arith)
+dot_lt_false_at d e Greater p a b h = (omega arith, λ k. omega arith)
+
+pub dot_lt_false : (d e : DotValue) → dot_lt d e ≡ false → (e.site ≤ d.site) × (e.site ≡ d.site → e.seq ≤ d.seq)
+dot_lt_false d e h =
+    dot_lt_false_at d e (nat_cmp d.site e.site) (nat_cmp d.seq e.seq) (compares d.site e.site) (compares d.seq e.seq) h
 
 dot_lt_from_at : (d e : DotValue) (o p : Ordering) → Compares d.site e.site o → Compares d.seq e.seq p → (d.site < e.site) ⊎ ((d.site ≡ e.site) × (d.seq < e.seq)) → is_lt (ordering_then o p) ≡ true
 dot_lt_from_at d e Less p a b h = refl

@@ -1,12 +1,13 @@
 -- What is found in a list, what passes a test, and what a filter keeps.
-use Rattle.std.proofs.Common.{◌≡◌, ◌≤◌, ℕ, List, [], ◌∷◌, ◌++◌, Bool, true, false, ◌&&◌, ◌||◌, ◌+◌, suc, cond, not, map, filter, length, take, drop, nat_lt, Option, Some, None, refl, sym, ap, ◌∙◌, subst, inl, inr, ⊎_elim, true≢false, arith, take-append-drop}
-use Rattle.std.proofs.lemmas.Bool.{and_parts, and_from, or_right}
+use Rattle.std.proofs.Common.{◌≡◌, ◌≤◌, ℕ, List, [], ◌∷◌, ◌++◌, Bool, true, false, ◌&&◌, ◌||◌, ◌+◌, zero, suc, cond, not, map, filter, length, take, drop, nat_lt, Option, Some, None, refl, sym, ap, ◌∙◌, subst, inl, inr, ⊎_elim, true≢false, arith, take-append-drop}
+use Rattle.std.proofs.lemmas.Bool.{and_from, and_parts, or_right}
 use Rattle.std.proofs.lemmas.Bool.Decides.{nat_tests}
-use Rattle.std.proofs.lemmas.List.Elements.{filter-append}
+use Rattle.std.proofs.lemmas.List.Elements.{All-from_recursion, filter-append}
 use Rattle.std.proofs.lemmas.List.Sums.{prefix_len-le-length}
 use Rattle.std.specs.Prelude.{find, is_some, unwrap_or}
 use Rattle.std.specs.List.{list_any, list_all, position, position_or_len}
-use Rattle.td_base.specs.Lists.{In}
+use Rattle.std.specs.List.Sorted.{IsPartitionedBy}
+use Rattle.td_base.specs.Lists.{In, Successive}
 use Rattle.td_base.proofs.Lists.{In-front, In-back}
 
 -- what a search finds
@@ -66,10 +67,22 @@ each_passes test (y ∷ ys) h x i =
     let p = and_parts (test y) (list_all test ys) h in
     ⊎_elim (λ (e : x ≡ y). subst (λ z. test z ≡ true) (sym e) p.0) (λ k. each_passes test ys p.1 x k) i
 
-pub all_pass : {X : Type 0} (test : X → Bool) (xs : List X) → ((x : X) → In x xs → test x ≡ true) → list_all test xs ≡ true
+pub all_pass : {X : Type 0} (test : X → Bool) (xs : List X) → ((x : X) → In x xs → test x ≡ true)
+    → list_all test xs ≡ true
 all_pass test [] h = refl
 all_pass test (x ∷ xs) h =
     and_from (test x) (list_all test xs) (h x (inl refl)) (all_pass test xs (λ y i. h y (inr i)))
+
+-- where what stands before an element that passes passes, those that pass stand first
+pub passing_first : {X : Type 0} (test : X → Bool) (xs : List X)
+    → Successive (λ (x y : X). test y ≡ true → test x ≡ true) xs → IsPartitionedBy test xs
+passing_first test [] s i j d le lt h = absurd (omega arith)
+passing_first test (x ∷ xs) s zero zero d le lt h = h
+passing_first {X} test (x ∷ xs) s zero (suc j) d le lt h =
+    All-from_recursion (λ (y : X). test y ≡ true → test x ≡ true) xs s.0 j d (omega arith) h
+passing_first test (x ∷ xs) s (suc i) zero d le lt h = absurd (omega arith)
+passing_first test (x ∷ xs) s (suc i) (suc j) d le lt h =
+    passing_first test xs s.1 i j d (omega arith) (omega arith) h
 
 -- a filter, and what it keeps, through a map
 

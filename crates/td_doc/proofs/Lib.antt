@@ -21,3 +21,4 @@ pub mod AddedRows
 pub mod Texts
 pub mod Together
 pub mod LiveIndex
+pub mod Known

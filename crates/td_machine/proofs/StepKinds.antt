@@ -66,7 +66,7 @@ smaller_in x (Some z) y e = at (dot_lt z.dot x.dot) e
     at true k = inr (ap (λ (w : OpValue). Some w) k)
     at false k = inl (sym k)
 
-least_in : (ops : List OpValue) (y : OpValue) → least_op ops ≡ Some y → In y ops
+pub least_in : (ops : List OpValue) (y : OpValue) → least_op ops ≡ Some y → In y ops
 least_in [] y e = absurd cc
 least_in (x ∷ ops) y e =
     ⊎_elim (λ (k : y ≡ x). inl k) (λ (k : least_op ops ≡ Some y). inr (least_in ops y k))
