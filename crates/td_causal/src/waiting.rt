@@ -1,0 +1,8 @@
+use td_op::Op;
+
+/// An operation that waits, with the number by which its keeper knows it.
+#[derive(Clone, Copy, Debug, PartialEq, Eq)]
+pub struct Waiting {
+    pub op: Op,
+    pub number: u32,
+}
