@@ -1,0 +1,4 @@
+pub mod Commits
+pub mod Placing
+pub mod PassedOver
+pub mod Newest
