@@ -1,0 +1,4 @@
+pub mod Reversed
+pub mod Rising
+pub mod Placed
+pub mod Kept
