@@ -1,5 +1,5 @@
 -- Choices, options, and the elements of a list.
-use Rattle.std.proofs.Common.{map, length, take, drop, ap, ◌∙◌, arith, length-append, append-nil, append_assoc, take-append-drop, ◌≡◌, ℕ, zero, suc, List, [], ◌∷◌, ◌++◌, Bool, true, false, Option, Some, None, refl, sym, subst, inl, inr, true≢false, if◌then◌else◌}
+use Rattle.std.proofs.Common.{map, length, take, drop, ap, ◌∙◌, arith, length-append, append-nil, append_assoc, take-append-drop, ◌≡◌, ℕ, zero, suc, List, [], ◌∷◌, ◌++◌, Bool, true, false, Option, Some, None, refl, sym, subst, inl, inr, true≢false, if◌then◌else◌, ◌<◌}
 use Rattle.std.specs.Prelude.{slice_get, remove}
 use Rattle.std.specs.List.{insert_slice, drop-map}
 use Rattle.std.proofs.lemmas.List.{take_at, drop_at, map-append}
@@ -93,3 +93,10 @@ remove_middle {X = X} xs x ys i h =
 -- nothing put anywhere
 pub insert_slice_nil : {X : Type 0} (xs : List X) (i : ℕ) → insert_slice xs i [] ≡ xs
 insert_slice_nil xs i = ap (λ q. q ++ drop i xs) (append-nil (take i xs)) ∙ take-append-drop i xs
+
+-- what stands in the front
+
+pub get_front : {X : Type 0} (xs ys : List X) (k : ℕ) → k < length xs → slice_get (xs ++ ys) k ≡ slice_get xs k
+get_front [] ys k h = absurd (omega arith)
+get_front (x ∷ xs) ys zero h = refl
+get_front (x ∷ xs) ys (suc k) h = get_front xs ys k (omega arith)

@@ -129,3 +129,19 @@ dot_lt_from_at d e Greater p a b h = absurd (⊎_elim (λ (k : d.site < e.site).
 
 pub dot_lt_from : (d e : DotValue) → (d.site < e.site) ⊎ ((d.site ≡ e.site) × (d.seq < e.seq)) → dot_lt d e ≡ true
 dot_lt_from d e h = dot_lt_from_at d e (nat_cmp d.site e.site) (nat_cmp d.seq e.seq) (compares d.site e.site) (compares d.seq e.seq) h
+
+-- an order is told from the test of it
+
+pub less_of : (o : Ordering) → is_lt o ≡ true → o ≡ Less
+less_of Less h = refl
+less_of Equal h = absurd (true≢false (sym h))
+less_of Greater h = absurd (true≢false (sym h))
+
+-- no two dots are each before the other
+
+pub dot_apart : (d e : DotValue) → dot_lt d e ≡ true → dot_lt e d ≡ true → ⊥
+dot_apart d e h k =
+    ⊎_elim
+    (λ (a : d.site < e.site). ⊎_elim (λ (b : e.site < d.site). omega arith) (λ (b : (e.site ≡ d.site) × (e.seq < d.seq)). omega arith) (dot_lt_true e d k))
+    (λ (a : (d.site ≡ e.site) × (d.seq < e.seq)). ⊎_elim (λ (b : e.site < d.site). omega arith) (λ (b : (e.site ≡ d.site) × (e.seq < d.seq)). omega arith) (dot_lt_true e d k))
+    (dot_lt_true d e h)

@@ -8,7 +8,8 @@ use Rattle.std.specs.Prelude.{find, is_some, unwrap_or}
 use Rattle.std.specs.List.{list_any, list_all, position, position_or_len}
 use Rattle.std.specs.List.Sorted.{IsPartitionedBy}
 use Rattle.td_base.specs.Lists.{In, Successive}
-use Rattle.td_base.proofs.Lists.{In-front, In-back}
+use Rattle.td_base.proofs.Lists.{In-front, In-back, all_in}
+use Rattle.std.proofs.lemmas.Map.Entries.{option_filter}
 
 -- what a search finds
 
@@ -83,6 +84,29 @@ passing_first {X} test (x ∷ xs) s zero (suc j) d le lt h =
 passing_first test (x ∷ xs) s (suc i) zero d le lt h = absurd (omega arith)
 passing_first test (x ∷ xs) s (suc i) (suc j) d le lt h =
     passing_first test xs s.1 i j d (omega arith) (omega arith) h
+
+-- nothing is found where nothing passes
+
+pub find_nothing : {X : Type 0} (p : X → Bool) (xs : List X) → ((x : X) → In x xs → p x ≡ false) → find p xs ≡ None
+find_nothing p [] h = refl
+find_nothing p (x ∷ xs) h = λ i. cond (h x (inl refl) i) (Some x) (find_nothing p xs (λ y j. h y (inr j)) i)
+
+both_at : {X : Type 0} (q : X → Bool) (x : X) (a b : Bool) (found one : Option X) → q x ≡ b → (a ≡ true → found ≡ None)
+    → found ≡ option_filter q one → cond (a && b) (Some x) found ≡ option_filter q (cond a (Some x) one)
+both_at q x true true found one e none ih = λ i. cond (sym e i) (Some x) None
+both_at q x true false found one e none ih = none refl ∙ (λ i. cond (sym e i) (Some x) None)
+both_at q x false b found one e none ih = ih
+
+-- a test that is two, the first of which one element passes at most
+pub find_both : {X : Type 0} (p q r : X → Bool) (xs : List X) → ((x : X) → In x xs → r x ≡ (p x && q x))
+    → Successive (λ (x y : X). p x ≡ true → p y ≡ false) xs → find r xs ≡ option_filter q (find p xs)
+find_both p q r [] same one = refl
+find_both {X} p q r (x ∷ xs) same one =
+    ap (λ (b : Bool). cond b (Some x) (find r xs)) (same x (inl refl))
+    ∙ both_at q x (p x) (q x) (find r xs) (find p xs) refl
+    (λ e. find_nothing r xs
+    (λ y i. same y (inr i) ∙ ap (λ (b : Bool). b && q y) (all_in (λ (y : X). p x ≡ true → p y ≡ false) xs one.0 y i e)))
+    (find_both p q r xs (λ y i. same y (inr i)) one.1)
 
 -- a filter, and what it keeps, through a map
 

@@ -1,22 +1,20 @@
 -- The ready operation of a site, which is the next one there, and the least of all sites.
-use Rattle.std.proofs.Common.{◌≡◌, ◌≤◌, ◌<◌, ◌+◌, ◌⊎◌, ◌==◌, ◌&&◌, ℕ, List, [], ◌∷◌, length, Bool, true, false, cond, not, find, filter, if◌then◌else◌, nat_le, Option, Some, None, refl, sym, ap, ◌∙◌, subst, inl, inr, ⊎_elim, true≢false, arith}
+use Rattle.std.proofs.Common.{◌≡◌, ◌≤◌, ◌<◌, ◌+◌, ◌⊎◌, ◌==◌, ◌&&◌, ℕ, List, [], ◌∷◌, length, Bool, true, false, not, find, filter, if◌then◌else◌, nat_le, Option, Some, None, refl, sym, ap, ◌∙◌, subst, inl, inr, ⊎_elim, true≢false, arith}
 use Rattle.std.proofs.lemmas.Bool.{and_parts, and_from, eqb-true, eq-eqb, leb-true, le-leb, false_from_ne_true}
 use Rattle.std.proofs.lemmas.Bool.Decides.{nat_tests}
 use Rattle.std.proofs.lemmas.Map.Entries.{option_filter}
 use borrow.Author.Count.{below_more}
 use Rattle.td_base.specs.Value.{DotValue, IsDot}
-use Rattle.std.specs.declared.cmp.Ordering.TheVariants.{Less}
-use Rattle.td_base.specs.Order.{dot_cmp, dot_lt}
+use Rattle.td_base.specs.Order.{dot_lt}
 use Rattle.td_base.specs.Equality.{same_dot}
 use Rattle.td_base.specs.Lists.{In, Successive}
 use Rattle.td_base.specs.declared.dot.TheConstants.{MAX_SEQ}
 use Rattle.td_base.proofs.Elements.{both_tests}
 use Rattle.td_base.proofs.Equals.{same_dot_true, same_dot_refl}
 use Rattle.td_base.proofs.Lists.{all_in, In-filter, filter_In, In-map, map_In, successive_imp}
-use Rattle.td_base.proofs.Orders.{dot_lt_true}
+use Rattle.td_base.proofs.Orders.{dot_lt_true, dot_apart}
 use Rattle.td_base.proofs.Rising.{rises_tri}
-use Rattle.td_base.proofs.Searches.{find_In, find_none, filter_none}
-use Rattle.td_doc.proofs.PutRows.{less_of}
+use Rattle.td_base.proofs.Searches.{find_In, find_none, filter_none, find_nothing, find_both}
 use Rattle.td_clock.specs.Vector.{vector_get, vector_has, vector_covers}
 use Rattle.td_clock.proofs.VectorLemmas.{covered_dots}
 use Rattle.td_op.specs.Op.{OpValue, IsOp}
@@ -24,30 +22,7 @@ use Rattle.td_machine.specs.Ready.{is_had, is_ready, smaller_op, least_op, next_
 use Rattle.td_machine.proofs.StepKinds.{least_in}
 use Rattle.td_causal.specs.declared.waiting.Waiting.{Waiting}
 use Rattle.td_causal.specs.Waiting.{ops_waiting, has_dot, is_ready_of, AreOfSize, AreWaiting}
-use Rattle.td_causal.proofs.Entries.{Rising, turned, later_other}
-
--- ---- searches
-
-find_nothing : {X : Type 0} (p : X → Bool) (xs : List X) → ((x : X) → In x xs → p x ≡ false) → find p xs ≡ None
-find_nothing p [] h = refl
-find_nothing p (x ∷ xs) h = λ i. cond (h x (inl refl) i) (Some x) (find_nothing p xs (λ y j. h y (inr j)) i)
-
-both_at : {X : Type 0} (q : X → Bool) (x : X) (a b : Bool) (found one : Option X) → q x ≡ b → (a ≡ true → found ≡ None)
-    → found ≡ option_filter q one → cond (a && b) (Some x) found ≡ option_filter q (cond a (Some x) one)
-both_at q x true true found one e none ih = λ i. cond (sym e i) (Some x) None
-both_at q x true false found one e none ih = none refl ∙ (λ i. cond (sym e i) (Some x) None)
-both_at q x false b found one e none ih = ih
-
--- a test that is two, the first of which one element passes at most
-find_both : {X : Type 0} (p q r : X → Bool) (xs : List X) → ((x : X) → In x xs → r x ≡ (p x && q x))
-    → Successive (λ (x y : X). p x ≡ true → p y ≡ false) xs → find r xs ≡ option_filter q (find p xs)
-find_both p q r [] same one = refl
-find_both {X} p q r (x ∷ xs) same one =
-    ap (λ (b : Bool). cond b (Some x) (find r xs)) (same x (inl refl))
-    ∙ both_at q x (p x) (q x) (find r xs) (find p xs) refl
-    (λ e. find_nothing r xs
-    (λ y i. same y (inr i) ∙ ap (λ (b : Bool). b && q y) (all_in (λ (y : X). p x ≡ true → p y ≡ false) xs one.0 y i e)))
-    (find_both p q r xs (λ y i. same y (inr i)) one.1)
+use Rattle.td_causal.proofs.Entries.{Rising, later_other}
 
 -- ---- what is ready is the next of its site
 
@@ -125,10 +100,6 @@ one_dot d ws r =
     ws r
 
 -- ---- the least
-
-dot_apart : (d e : DotValue) → dot_lt d e ≡ true → dot_lt e d ≡ true → ⊥
-dot_apart d e h k =
-    true≢false (sym k ∙ turned d e Less (less_of (dot_cmp d e) h))
 
 abbrev IsLeast : OpValue → List OpValue → Type 0
 IsLeast x ops = (y : OpValue) → In y ops → (y ≡ x) ⊎ (dot_lt x.dot y.dot ≡ true)

@@ -21,8 +21,8 @@ use Rattle.td_coord.specs.Tally.{own_ballot, started, put_ballot, close_due}
 use Rattle.td_coord.specs.TallyParts.{IsRising}
 use Rattle.td_coord.specs.Places.{IsPlace}
 use Rattle.td_coord.proofs.Rising.{not_below_itself, other_way}
-use Rattle.td_coord.proofs.Reversed.{map-reverse}
-use Rattle.td_doc.proofs.PutRows.{less_of}
+use Rattle.td_base.proofs.Reversed.{map-reverse}
+use Rattle.td_base.proofs.Orders.{less_of}
 
 abbrev Before : Ballot → Ballot → Type 0
 Before b c = dot_cmp b.proposal c.proposal ≡ Less

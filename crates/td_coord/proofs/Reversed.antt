@@ -1,9 +1,9 @@
 -- Lists kept the other way round.
-use Rattle.std.proofs.Common.{◌≡◌, ◌≤◌, ◌==◌, ℕ, List, [], ◌∷◌, ◌++◌, length, map, take, refl, sym, ap, ◌∙◌, arith}
+use Rattle.std.proofs.Common.{◌≡◌, ◌≤◌, ◌==◌, ℕ, List, length, take, ◌∙◌, arith}
 use Rattle.std.specs.Prelude.{reverse}
 use Rattle.std.specs.List.{list_any}
 use Rattle.std.proofs.lemmas.Bool.Decides.{nat_tests}
-use Rattle.std.proofs.lemmas.List.{length-take-le, length-reverse, reverse-append, map-append}
+use Rattle.std.proofs.lemmas.List.{length-take-le, length-reverse}
 use Rattle.std.proofs.lemmas.List.Sorted.{IsPermutation-reverse, list_any-IsPermutation}
 
 pub front_length : (n : ℕ) (xs : List ℕ) → n ≤ length xs → length (reverse (take n xs)) ≡ n
@@ -17,9 +17,3 @@ pub is_among : (n : ℕ) (xs : List ℕ) → list_any (λ (x : ℕ). x == n) xs 
 is_among n xs =
     (λ i. list_any (λ (x : ℕ). either_way x n i) xs)
     ∙ list_any-IsPermutation (λ (x : ℕ). n == x) xs (reverse xs) (IsPermutation-reverse xs)
-
-pub map-reverse : {X Y : Type 0} (f : X → Y) (xs : List X) → map f (reverse xs) ≡ reverse (map f xs)
-map-reverse f [] = refl
-map-reverse {Y = Y} f (x ∷ xs) =
-    ap (map f) (reverse-append (x ∷ []) xs) ∙ map-append f (reverse xs) (x ∷ [])
-    ∙ ap (λ (ys : List Y). ys ++ f x ∷ []) (map-reverse f xs) ∙ sym (reverse-append (f x ∷ []) (map f xs))

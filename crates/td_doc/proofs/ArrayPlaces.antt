@@ -14,6 +14,7 @@ use Rattle.td_doc.specs.Document.{DocRow}
 use Rattle.td_doc.specs.Array.{named, row_in, around, array_upto, array}
 use Rattle.td_base.specs.RunAtoms.{NamedAtom}
 use Rattle.td_doc.proofs.ArrayRows.{array_names}
+use Rattle.td_base.proofs.Elements.{get_front}
 
 -- what is given in place of the length does not matter
 
@@ -82,11 +83,6 @@ halves atoms middle some is = record { some = some; is = read atoms (length atom
     read (a ∷ atoms) (suc k) middle h is = let next : suc k + 1 ≡ suc (k + 1) = omega arith in rw next (read atoms k middle (omega arith) is)
 
 -- where a row of the array is
-
-pub get_front : {X : Type 0} (xs ys : List X) (k : ℕ) → k < length xs → slice_get (xs ++ ys) k ≡ slice_get xs k
-get_front [] ys k h = absurd (omega arith)
-get_front (x ∷ xs) ys zero h = refl
-get_front (x ∷ xs) ys (suc k) h = get_front xs ys k (omega arith)
 
 get_middle : {X : Type 0} (xs ys : List X) (x : X) (k : ℕ) → k ≡ length xs → slice_get (xs ++ x ∷ ys) k ≡ Some x
 get_middle [] ys x zero h = refl

@@ -8,12 +8,12 @@ use Rattle.td_base.specs.Value.{DotValue, AtomIdValue}
 use Rattle.td_base.specs.Lists.{In, Successive}
 use Rattle.td_base.proofs.Lists.{In-map, map_In, all_in, all_of, successive_imp, successive_map}
 use Rattle.td_path.specs.Infix.{path_cmp}
-use Rattle.td_base.proofs.Orders.{dot_total, equal_dots, is_eq_true}
+use Rattle.td_base.proofs.Orders.{dot_total, equal_dots, is_eq_true, less_of}
 use Rattle.td_doc.specs.Document.{DocRow, row_id, has_id, is_live, is_empty_list, live_rows, IsPath, IsDocument}
 use Rattle.td_doc.specs.Deletion.{add_dot, mark_deleted, delete}
 use Rattle.td_doc.specs.Array.{named}
 use Rattle.td_base.specs.RunAtoms.{NamedAtom}
-use Rattle.td_doc.proofs.PutRows.{Before, Differ, less_of}
+use Rattle.td_doc.proofs.PutRows.{Before, Differ}
 use Rattle.td_doc.proofs.Placement.{self_id, has_id-false}
 
 -- the set of delete dots

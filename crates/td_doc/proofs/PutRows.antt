@@ -11,6 +11,7 @@ use Rattle.td_path.specs.Infix.{Pairs, path_cmp}
 use Rattle.td_path.proofs.InfixOrder.{path_total, equal_paths}
 use Rattle.td_doc.specs.Document.{DocRow, row_id}
 use Rattle.td_doc.specs.Insertion.{put_row, put_rows}
+use Rattle.td_base.proofs.Orders.{less_of}
 
 abbrev pub Before : DocRow → DocRow → Type 0
 Before r s = path_cmp r.path s.path ≡ Less
@@ -45,11 +46,6 @@ reverse_less Greater h = refl
 -- what stands before is not after
 pub not_after : (p q : Pairs) → path_cmp q p ≡ Less → is_lt (path_cmp p q) ≡ false
 not_after p q h = reverse_less (path_cmp p q) (sym (path_total.antisymm q p) ∙ h)
-
-pub less_of : (o : Ordering) → is_lt o ≡ true → o ≡ Less
-less_of Less h = refl
-less_of Equal h = absurd (true≢false (sym h))
-less_of Greater h = absurd (true≢false (sym h))
 
 not_less : (p q : Pairs) → is_lt (path_cmp p q) ≡ false → p ≢ q → path_cmp q p ≡ Less
 not_less p q h n =

@@ -12,9 +12,9 @@ use Rattle.td_base.specs.Lists.{In}
 use Rattle.td_base.proofs.Lists.{In-back}
 use Rattle.td_path.specs.Infix.{Pair, Pairs, pair_cmp, path_cmp}
 use Rattle.td_path.proofs.InfixOrder.{path_total, equal_pairs, same_pairs, left_before, right_after}
-use Rattle.td_base.proofs.Orders.{bit_total}
+use Rattle.td_base.proofs.Orders.{bit_total, less_of}
 use Rattle.td_doc.specs.Document.{DocRow, last_id}
-use Rattle.td_doc.proofs.PutRows.{not_before_itself, less_of}
+use Rattle.td_doc.proofs.PutRows.{not_before_itself}
 
 abbrev pub PathLt : Pairs → Pairs → Type 0
 PathLt p q = path_cmp p q ≡ Less

@@ -5,9 +5,9 @@ use Rattle.td_order.proofs.Lex.{Tri, below, same, above, lex_append, lex_cancel,
 use Rattle.td_order.proofs.ListLemmas.{none_of, some_of, rises_after_last, rises_before_first}
 use Rattle.td_order.proofs.Keys.{Key, StepLt, KeyLt, key_strict, step_strict, step, id_of, first_step, rank_first, dot_first}
 use Rattle.td_base.proofs.Equals.{same_id_true, same_id_refl}
-use Rattle.td_base.proofs.Orders.{dot_lt_from}
+use Rattle.td_base.proofs.Orders.{dot_lt_from, dot_apart}
 use Rattle.td_order.proofs.Fits.{slot_key, OlderRank, Names, IsRooted, Fits, AllFit, first_id, fits_at, full_at, same_insert, key_end, Found, find, under_key, under_self, Mate, mate}
-use Rattle.td_order.proofs.Placing.{Sibling, sibling_of, of_sibling, smaller_of, of_smaller, dot_apart, older_apart, In-placed, placed-In, IdLt, id_trans, atom_key, ids_rise_from}
+use Rattle.td_order.proofs.Placing.{Sibling, sibling_of, of_sibling, smaller_of, of_smaller, older_apart, In-placed, placed-In, IdLt, id_trans, atom_key, ids_rise_from}
 use Rattle.td_base.specs.Value.{DotValue, AtomIdValue}
 use Rattle.td_base.specs.declared.bit.Bit.TheVariants.{Left, Right}
 use Rattle.td_base.specs.Lists.{In, Successive}

@@ -80,13 +80,6 @@ smaller_of os a c h = let r = In-filter (λ c. dot_lt c.dot a.dot) c (siblings o
 pub of_smaller : (os : List Insertion) (a c : Insertion) → Sibling os a c → dot_lt c.dot a.dot ≡ true → In c (smaller_siblings os a)
 of_smaller os a c h e = filter_In (λ c. dot_lt c.dot a.dot) c (siblings os a) (of_sibling os a c h) e
 
-pub dot_apart : (d e : DotValue) → dot_lt d e ≡ true → dot_lt e d ≡ true → ⊥
-dot_apart d e h k =
-    ⊎_elim
-    (λ (a : d.site < e.site). ⊎_elim (λ (b : e.site < d.site). omega arith) (λ (b : (e.site ≡ d.site) × (e.seq < d.seq)). omega arith) (dot_lt_true e d k))
-    (λ (a : (d.site ≡ e.site) × (d.seq < e.seq)). ⊎_elim (λ (b : e.site < d.site). omega arith) (λ (b : (e.site ≡ d.site) × (e.seq < d.seq)). omega arith) (dot_lt_true e d k))
-    (dot_lt_true d e h)
-
 pub older_apart : (s : Slot) (c a : ℕ) → OlderRank s c a → c ≡ a → ⊥
 older_apart Root c a h e = omega arith
 older_apart (At x Left) c a h e = omega arith
