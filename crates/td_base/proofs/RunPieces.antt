@@ -7,7 +7,7 @@ use Rattle.std.specs.Int.Count.{count_trailing_zeros, count_leading_zeros, leadi
 use Rattle.std.proofs.Math.Nat.{mul-le-mul_left, div-div-eq-div-mul}
 use Rattle.std.proofs.Math.Seq.{set-append_seam}
 use Rattle.std.proofs.lemmas.Nat.{pow-add}
-use Rattle.std.proofs.lemmas.List.{append_assoc, take_at, drop_at, take_all, take_more, take-append-drop, drop-replicate, length-take-le, length-map, map_push, get_or-map, nil_from_length}
+use Rattle.std.proofs.lemmas.List.{append_assoc, append-nil, take_at, drop_at, take_all, take_more, take-append-drop, drop-replicate, length-take-le, length-map, map_push, get_or-map, nil_from_length}
 use Rattle.std.proofs.lemmas.List.Sums.{sum_by-cons}
 use Rattle.std.proofs.lemmas.List.Elements.{All-head, All-tail, All-take}
 use Rattle.td_base.specs.declared.atom.TheConstants.{MAX_ATOM_LEN}
@@ -88,6 +88,12 @@ all_lengths atoms i lengths end so_far =
 
 -- ---- pieces
 
+-- the atoms have as many bytes as their lengths come to
+pub length_concat : (atoms : List (List ℕ)) → length (concat atoms) ≡ sum (map length atoms)
+length_concat [] = refl
+length_concat (atom ∷ atoms) =
+    omega (arith, length-append atom (concat atoms), length_concat atoms, sum_by-cons (λ (n : ℕ). n) (length atom) (map length atoms))
+
 -- the first piece, and the rest
 first_piece : (len : ℕ) (lens bytes : List ℕ) → sum (len ∷ lens) ≡ length bytes → (length (take len bytes) ≡ len) × (sum lens ≡ length (drop len bytes))
 first_piece len lens bytes whole =
@@ -107,13 +113,16 @@ piece_bytes [] bytes whole = sym (nil_from_length bytes (omega (arith, whole)))
 piece_bytes (len ∷ lens) bytes whole =
     ap (λ (rest : List ℕ). take len bytes ++ rest) (piece_bytes lens (drop len bytes) (first_piece len lens bytes whole).1) ∙ take-append-drop len bytes
 
--- atoms are the pieces of their lengths, cut from their bytes
+-- atoms are the pieces of their lengths, cut from their bytes, whatever stands behind these
+pub pieces_in_front : (atoms : List (List ℕ)) (rest : List ℕ) → pieces (map length atoms) (concat atoms ++ rest) ≡ atoms
+pieces_in_front [] rest = refl
+pieces_in_front (atom ∷ atoms) rest =
+    let first : take (length atom) ((atom ++ concat atoms) ++ rest) ≡ atom = rw append_assoc (take_at atom (concat atoms ++ rest) (length atom) refl) in
+    let others : drop (length atom) ((atom ++ concat atoms) ++ rest) ≡ concat atoms ++ rest = rw append_assoc (drop_at atom (concat atoms ++ rest) (length atom) refl) in
+    rw (first, others, pieces_in_front atoms rest) refl
+
 pub pieces_again : (atoms : List (List ℕ)) → pieces (map length atoms) (concat atoms) ≡ atoms
-pieces_again [] = refl
-pieces_again (atom ∷ atoms) =
-    let first : take (length atom) (atom ++ concat atoms) ≡ atom = take_at atom (concat atoms) (length atom) refl in
-    let rest : drop (length atom) (atom ++ concat atoms) ≡ concat atoms = drop_at atom (concat atoms) (length atom) refl in
-    rw (first, rest, pieces_again atoms) refl
+pieces_again atoms = ap (pieces (map length atoms)) (sym (append-nil (concat atoms))) ∙ pieces_in_front atoms []
 
 -- how the piece at a place is marked behind those before it
 pub record IsNextPiece (w : ℕ) (atoms : List (List ℕ)) (i len end ends : ℕ) : Type 0 where

@@ -1,11 +1,14 @@
 -- The definitions of vectors, place by place.
-use Rattle.std.proofs.Common.{◌≡◌, ◌≢◌, ◌<◌, ◌≤◌, ◌+◌, ◌-◌, ◌∷◌, [], ℕ, suc, zero, Bool, ◌&&◌, ◌||◌, nat_le, max, List, length, get_or, refl, sym, ap, ◌∙◌, sub-one, add-one, inl, inr, arith, take, drop, set, replicate, ◌++◌}
-use Rattle.std.proofs.lemmas.Bool.{leb-true, le-leb, and_parts, and_from, cases_eq}
+use Rattle.std.proofs.Common.{◌≡◌, ◌≢◌, ◌<◌, ◌≤◌, ◌+◌, ◌-◌, ◌^◌, ◌∷◌, [], ℕ, suc, zero, Bool, true, ◌&&◌, ◌||◌, ◌==◌, nat_le, nat_eq, max, List, length, get_or, refl, sym, ap, ◌∙◌, sub-one, add-one, inl, inr, arith, take, drop, set, replicate, ◌++◌}
+use Rattle.std.proofs.lemmas.Bool.{leb-true, le-leb, and_parts, and_from, cases_eq, eqb-true, eq-eqb}
 use Rattle.std.proofs.lemmas.Bool.Decides.{nat_tests}
+use Rattle.std.proofs.lemmas.Cmp.{nat_list_eq_equiv}
 use Rattle.std.proofs.lemmas.List.Sums.{sum_by-cons}
 use Rattle.std.specs.Prelude.{IsTrue, sum}
 use Rattle.std.specs.List.{zip, list_all}
-use Rattle.std.proofs.lemmas.List.{ext_get_or, take_at, drop_at, length-replicate, replicate-append-replicate}
+use Rattle.std.specs.Cmp.Lexicographic.{same_text}
+use lib.Pointwise.{pointwise}
+use Rattle.std.proofs.lemmas.List.{ext_get_or, take_at, drop_at, length-replicate, drop-replicate, replicate-append-replicate}
 use Rattle.std.proofs.lemmas.List.Elements.{All-replicate, All-from_get_or}
 use Rattle.td_base.specs.declared.site.TheConstants.{MAX_SITE}
 use Rattle.td_base.specs.declared.dot.TheConstants.{MAX_SEQ}
@@ -186,3 +189,30 @@ join_parts size own others now left right done =
     let zeros : drop size own ≡ replicate (MAX_SITE - length v) 0 = zeros_behind v own size left.size_again left.numbers_again in
     let rest : MAX_SITE - length v ≡ MAX_SITE - length (vector_join v w) = omega (arith, join_long v w) in
     parts_of (vector_join v w) now size (join_is_vector v w long left.vector right.vector) whole (rw (done, zeros, rest) refl)
+
+pub made_parts : (v front numbers : List ℕ) → 1 ≤ length v → length v ≤ MAX_SITE → ((k : ℕ) → get_or v k 0 < 2 ^ 16) → front ≡ v → numbers ≡ front ++ drop (length v) (replicate {A = ℕ} MAX_SITE 0)
+    → IsVectorParts (length v) numbers × (take (length v) numbers ≡ v)
+made_parts v front numbers some short small copied all =
+    let is : IsVector v = record {
+      some = some;
+      short = short;
+      small = All-from_get_or (λ n. n ≤ MAX_SEQ) v 0 (λ k l. omega (arith, small k));
+    } in
+    let zeros : drop (length v) (replicate {A = ℕ} MAX_SITE 0) ≡ replicate (MAX_SITE - length v) 0 = drop-replicate (length v) MAX_SITE 0 in
+    parts_of v numbers (length v) is refl (rw (all, copied, zeros) refl)
+
+-- ---- equality
+
+-- `==` compares the sizes and the arrays
+abbrev pub same_vector : List ℕ → List ℕ → Bool
+same_vector v w = length v == length w && pointwise nat_eq (numbers_of v) (numbers_of w)
+
+pub same_vector_true : (v w : List ℕ) → same_vector v w ≡ true → v ≡ w
+same_vector_true v w h =
+    let parts = and_parts (length v == length w) (pointwise nat_eq (numbers_of v) (numbers_of w)) h in
+    let long : length v ≡ length w = eqb-true (length v) (length w) parts.0 in
+    let arrays : numbers_of v ≡ numbers_of w = same_text (numbers_of v) (numbers_of w) (sym parts.1) in
+    sym (take_at v _ (length v) refl) ∙ ap (take (length v)) arrays ∙ take_at w _ (length v) (sym long)
+
+pub same_vector_refl : (v : List ℕ) → same_vector v v ≡ true
+same_vector_refl v = and_from (length v == length v) (pointwise nat_eq (numbers_of v) (numbers_of v)) (eq-eqb (length v) (length v) refl) (nat_list_eq_equiv.refl (numbers_of v))

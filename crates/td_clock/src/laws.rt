@@ -4,6 +4,8 @@ ghost use Rattle.td_base.specs.Value.{DotValue};
 ghost use Rattle.td_clock.specs.Vector.{vector_get, vector_has, vector_covers};
 ghost use Rattle.td_clock.specs.Vector.{vector_join, vector_bump};
 
+use crate::vector::Vector;
+
 /// A vector has the dots up to its number for their site, and none of a site past its size.
 pub fn has_is_up_to_the_number()
     ensures has { (v : List ℕ) (d : DotValue) → IsTrue (vector_has v d) ↔ (d.seq ≤ vector_get v d.site) }
@@ -56,4 +58,9 @@ pub fn bumps_raise_one_place()
 pub fn sums_grow()
     ensures { (v w : List ℕ)
         → length v ≡ length w → IsTrue (vector_covers v w) → v ≢ w → sum w < sum v }
+{}
+
+/// Vectors compare as equal exactly where their numbers are the same.
+pub fn vectors_are_compared_by_their_numbers()
+    ensures { (v w : List ℕ) → IsTrue (⟦<Vector as PartialEq>⟧.eq v w) ↔ (v ≡ w) }
 {}

@@ -9,7 +9,7 @@ mod vector;
 
 pub use laws::{
     bumps_raise_one_place, covers_is_an_order, covers_is_having_the_dots, has_is_up_to_the_number,
-    join_is_the_least_cover, sums_grow,
+    join_is_the_least_cover, sums_grow, vectors_are_compared_by_their_numbers,
 };
 pub use vector::Vector;
 

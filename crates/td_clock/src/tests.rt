@@ -23,6 +23,8 @@ fn two_sites_that_know_of_themselves_alone_are_joined(rt: HostRuntime) -> Result
     let mut w = Vector::new(2);
     v.set(first, 2);
     w.set(second, 3);
+    assert_eq!(rt; Vector::of(&[2, 0]), v);
+    assert_eq!(rt; w.numbers(), [0, 3].as_slice());
     assert!(rt; !v.covers(&w) && !w.covers(&v));
     let mut both = v;
     both.join(&w);

@@ -47,6 +47,28 @@ impl Vector {
         }
     }
 
+    /// The vector with these numbers, by site.
+    pub fn of(numbers: &[u16]) -> Vector
+        requires some { 1 ≤ length numbers.now }
+        requires short { length numbers.now ≤ MAX_SITE }
+        ensures { result ≡ numbers.now }
+    {
+        let mut all = [0; PLACES];
+        all[..numbers.len()].copy_from_slice(numbers);
+        Vector {
+            size: numbers.len() as u8,
+            numbers: all,
+        }
+    }
+
+    /// Its numbers, by site.
+    pub fn numbers(&self) -> &[u16]
+        ensures numbers { result.now ≡ self.now }
+        ensures short { length result.now ≤ PLACES }
+    {
+        &self.numbers[..self.size as usize]
+    }
+
     /// The number of sites.
     pub fn size(&self) -> u8
         ensures size { result ≡ length self.now }
@@ -78,9 +100,9 @@ impl Vector {
         requires { length self.now ≡ length other.now }
         ensures { result ≡ vector_covers self.now other.now }
     {
-        self.used()
+        self.numbers()
             .iter()
-            .zip(other.used())
+            .zip(other.numbers())
             .all(|(own, others)| others <= own)
     }
 
@@ -114,15 +136,7 @@ impl Vector {
     pub fn sum(&self) -> u32
         ensures { result ≡ sum self.now }
     {
-        self.used().iter().map(|n| u32::from(*n)).sum()
-    }
-
-    // the numbers of the sites
-    fn used(&self) -> &[u16]
-        ensures numbers { result.now ≡ self.now }
-        ensures short { length result.now ≤ PLACES }
-    {
-        &self.numbers[..self.size as usize]
+        self.numbers().iter().map(|n| u32::from(*n)).sum()
     }
 }
 
