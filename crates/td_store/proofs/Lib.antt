@@ -1,0 +1,3 @@
+pub mod StoredRuns
+pub mod StoredRows
+pub mod StoredOps

@@ -1,0 +1,5 @@
+pub mod Compact
+pub mod Lists
+pub mod RunsParts
+pub mod VectorsParts
+pub mod OpsParts

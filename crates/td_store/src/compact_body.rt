@@ -1,0 +1,75 @@
+ghost use Rattle.std.specs.Prelude.{◌≡◌, ◌≤◌, ◌+◌, length, take};
+ghost use Rattle.td_store.specs.OpsParts.{HasRun, body_of};
+
+use crate::compact_dot::CompactDot;
+use crate::compact_id::CompactId;
+use crate::compact_slot::CompactSlot;
+use crate::runs::Runs;
+use td_op::Body;
+
+// What an operation does, with the number of its run in a list of runs.
+#[derive(Clone, Copy, Debug, PartialEq, Eq)]
+pub(crate) enum CompactBody {
+    Insert { slot: CompactSlot, run: u32 },
+    Delete { target: CompactId },
+    Propose { slot: CompactSlot },
+    Commit { proposal: CompactDot },
+    Abort { proposal: CompactDot },
+}
+
+impl CompactBody {
+    // The body, made compact; its run is added to the list. Takes no memory.
+    pub(crate) fn of(body: &Body, runs: &mut Runs) -> CompactBody
+        requires { 1 ≤ runs.old.room }
+        ensures body { body_of runs.new.runs result ≡ body.now }
+        ensures run { HasRun runs.new.runs result }
+        ensures runs { take (length runs.old.runs) runs.new.runs ≡ runs.old.runs }
+        ensures room { runs.old.room ≤ runs.new.room + 1 }
+    {
+        match *body {
+            Body::Insert { slot, run } => {
+                let number = runs.len();
+                runs.push(&run);
+                CompactBody::Insert {
+                    slot: CompactSlot::of(&slot),
+                    run: number,
+                }
+            }
+            Body::Delete { target } => CompactBody::Delete {
+                target: CompactId::of(target),
+            },
+            Body::Propose { slot } => CompactBody::Propose {
+                slot: CompactSlot::of(&slot),
+            },
+            Body::Commit { proposal } => CompactBody::Commit {
+                proposal: CompactDot::of(proposal),
+            },
+            Body::Abort { proposal } => CompactBody::Abort {
+                proposal: CompactDot::of(proposal),
+            },
+        }
+    }
+
+    // The body that it stands for.
+    pub(crate) fn body(&self, runs: &Runs) -> Body
+        requires { HasRun runs.now.runs self.now }
+        ensures { result ≡ body_of runs.now.runs self.now }
+    {
+        match *self {
+            CompactBody::Insert { slot, run } => Body::Insert {
+                slot: slot.slot(),
+                run: runs.get(run).unwrap(),
+            },
+            CompactBody::Delete { target } => Body::Delete {
+                target: target.id(),
+            },
+            CompactBody::Propose { slot } => Body::Propose { slot: slot.slot() },
+            CompactBody::Commit { proposal } => Body::Commit {
+                proposal: proposal.dot(),
+            },
+            CompactBody::Abort { proposal } => Body::Abort {
+                proposal: proposal.dot(),
+            },
+        }
+    }
+}

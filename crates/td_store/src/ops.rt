@@ -1,0 +1,174 @@
+ghost use Rattle.std.specs.Prelude.{◌≡◌, ◌≤◌, ◌<◌, ◌+◌, ◌∷◌, ◌++◌, [], length, take, slice_get, slice_index_or, OnErr, OnOk};
+ghost use Rattle.std.specs.Option.{option_map};
+ghost use Rattle.td_op.specs.Op.{OpValue};
+ghost use Rattle.td_store.specs.OpsParts.{deps_of};
+
+use crate::compact_body::CompactBody;
+use crate::compact_dot::CompactDot;
+use crate::runs::Runs;
+use crate::vectors::Vectors;
+use std::alloc::Global;
+use std::marker::Model;
+use td_base::{Dot, MAX_SITE, Memory};
+use td_clock::Vector;
+use td_op::{Body, Op};
+
+#[cfg(test)]
+mod tests;
+
+const SITES: usize = MAX_SITE as usize;
+
+/// The operations of a replica for a buffer of so many sites, in the order in which they were pushed. One takes 20
+/// bytes and its run; operations that follow one another at a site with nothing taken between share the vector of
+/// their dependencies. Room for more is made by `reserve` and used up by `push`.
+#[derive(Debug, Drop)]
+pub struct Ops {
+    size: u8,
+    ops: Vec<CompactOp>,
+    runs: Runs,
+    rows: Vectors,
+    // by site, the number of the vector that was used last for an operation of the site: it may well serve the next
+    last_rows: [u32; SITES],
+    room: u32,
+}
+
+// An operation: its vector is that row but at the operation's own site.
+#[derive(Clone, Copy, Debug, PartialEq, Eq)]
+struct CompactOp {
+    dot: CompactDot,
+    row: u32,
+    body: CompactBody,
+}
+
+impl Model for Ops {
+    ghost use Rattle.std.specs.Prelude.{map, vec_capacity};
+    ghost use Rattle.td_store.specs.Lists.{OpsValue};
+
+    ghost Value = { OpsValue };
+
+    ghost use Rattle.td_store.specs.OpsParts.{AreOpsParts, op_of};
+
+    ghost view = { λ s. record {
+      size = s.size;
+      ops = map (op_of s.rows.rows s.runs.runs) s.ops.items;
+      room = s.room;
+    } };
+
+    ghost invariant = { λ s. AreOpsParts s.size s.room (vec_capacity s.ops) s.ops.items s.runs s.rows };
+}
+
+impl Ops {
+    /// No operation of a buffer of n sites, and no room. Takes no memory.
+    pub fn new(alloc: Global, n: u8) -> Ops
+        requires some { 1 ≤ n }
+        requires short { n ≤ MAX_SITE }
+        ensures { result ≡ record { size = n; ops = []; room = 0 } }
+    {
+        Ops {
+            size: n,
+            ops: Vec::new(alloc),
+            runs: Runs::new(alloc),
+            rows: Vectors::new(alloc, n),
+            last_rows: [0; SITES],
+            room: 0,
+        }
+    }
+
+    /// Makes room for so many more operations. `Memory` too where there would be more than `u32::MAX`, or where the
+    /// bytes of their runs could come to 4 GiB together.
+    pub fn reserve(&mut self, more: u32) -> Result<(), Memory>
+        ensures ok { OnOk result (more ≤ self.new.room) }
+        ensures ops { self.new ≡ record self.old { room = self.new.room } }
+        ensures room { self.old.room ≤ self.new.room }
+        ensures memory { OnErr result (self.new ≡ self.old) }
+    {
+        if more > u32::MAX - self.len() {
+            return Err(Memory);
+        }
+        self.ops.reserve(more as usize)?;
+        self.runs.reserve(more)?;
+        self.rows.reserve(more)?;
+        self.room = self.room.max(more);
+        Ok(())
+    }
+
+    /// Adds the operation at the end. Takes no memory.
+    pub fn push(&mut self, op: &Op)
+        requires size { length op.now.deps ≡ self.old.size }
+        requires room { 1 ≤ self.old.room }
+        ensures size { self.new.size ≡ self.old.size }
+        ensures ops { self.new.ops ≡ self.old.ops ++ op.now ∷ [] }
+        ensures room { self.new.room + 1 ≡ self.old.room }
+    {
+        let row = row_for(&mut self.rows, &mut self.last_rows, op);
+        let body = CompactBody::of(&op.body(), &mut self.runs);
+        let dot = CompactDot::of(op.dot());
+        self.ops.push(CompactOp { dot, row, body }).unwrap();
+        self.room -= 1;
+    }
+
+    /// The operation at a place from 0.
+    pub fn get(&self, k: u32) -> Option<Op>
+        ensures { result ≡ slice_get self.now.ops k }
+    {
+        let op = self.ops.get(k as usize)?;
+        let dot = op.dot.dot();
+        Op::new(
+            dot,
+            deps_at(&self.rows, op.row, dot)?,
+            op.body.body(&self.runs),
+        )
+    }
+
+    /// The dot of the operation at a place.
+    pub fn dot(&self, k: u32) -> Option<Dot>
+        ensures { result ≡ option_map (λ (op : OpValue). op.dot) (slice_get self.now.ops k) }
+    {
+        let op = self.ops.get(k as usize)?;
+        Some(op.dot.dot())
+    }
+
+    /// What the operation at a place does.
+    pub fn body(&self, k: u32) -> Option<Body>
+        ensures { result ≡ option_map (λ (op : OpValue). op.body) (slice_get self.now.ops k) }
+    {
+        let op = self.ops.get(k as usize)?;
+        Some(op.body.body(&self.runs))
+    }
+
+    /// How many operations there are.
+    pub fn len(&self) -> u32
+        ensures { result ≡ length self.now.ops }
+    {
+        self.ops.len() as u32
+    }
+}
+
+// The row with the dependencies of the operation: the last one of its site where that has them, and else a new one.
+fn row_for(rows: &mut Vectors, last_rows: &mut [u32; SITES], op: &Op) -> u32
+    requires size { length op.now.deps ≡ rows.old.size }
+    requires room { 1 ≤ rows.old.room }
+    ensures within { result < length rows.new.rows }
+    ensures deps { deps_of (slice_index_or rows.new.rows result []) op.now.dot ≡ op.now.deps }
+    ensures rows { take (length rows.old.rows) rows.new.rows ≡ rows.old.rows }
+    ensures size { rows.new.size ≡ rows.old.size }
+    ensures room { rows.old.room ≤ rows.new.room + 1 }
+{
+    let dot = op.dot();
+    let last = &mut last_rows[dot.site.number() as usize - 1];
+    if deps_at(rows, *last, dot) != Some(*op.deps()) {
+        *last = rows.len();
+        rows.push(op.deps());
+    }
+    *last
+}
+
+// The dependencies of an operation with this dot, from this row.
+fn deps_at(rows: &Vectors, row: u32, dot: Dot) -> Option<Vector>
+    requires { dot.site ≤ rows.now.size }
+    ensures { result ≡ option_map (λ row. deps_of row dot) (slice_get rows.now.rows row) }
+{
+    let mut deps = rows.get(row)?;
+    deps.set(dot.site, dot.seq - 1);
+    Some(deps)
+}
