@@ -9,7 +9,7 @@ use Rattle.std.specs.Int.{is_in_range}
 use Rattle.std.specs.Option.{SomeIff}
 use Rattle.std.specs.Result.{result_ok}
 use Rattle.td_base.specs.Run.{IsRun, pieces}
-use Rattle.td_base.proofs.RunPieces.{piece_lengths, piece_bytes, pieces_again}
+use Rattle.td_base.proofs.RunPieces.{piece_lengths, piece_bytes, pieces_again, length_concat}
 use Rattle.std.proofs.lemmas.List.Elements.{recursion_from_All}
 use Rattle.std.proofs.lemmas.List.{append-nil, length-append, length-take-le, length-drop, take_all, drop_all, take_at}
 use Rattle.std.proofs.lemmas.List.{take-append-drop}
@@ -27,7 +27,7 @@ use Rattle.td_wire.proofs.Bytes.{InRange, passing_sound, number_is, number_reads
 use Rattle.td_wire.proofs.Exact.{ok, ok_is}
 use Rattle.td_wire.proofs.Texts.{character_reads}
 use Rattle.td_wire.proofs.Runs.{AtomOf, atom_reads, Lengths, to_lengths, lengths_reads, AtomsFrom, atoms_reads}
-use Rattle.td_wire.proofs.Runs.{to_atoms, from_atoms, length_concat, run_from}
+use Rattle.td_wire.proofs.Runs.{to_atoms, from_atoms, run_from}
 
 -- the values that are read, changed
 abbrev pub mapped : {A B : Type 0} → (A → B) → Read A → Read B

@@ -16,6 +16,7 @@ use Rattle.td_wire.proofs.Exact.{ok, ok_is, ok_differs, Begins, Stops, IsFault, 
 use Rattle.td_wire.proofs.Exact.{nothing, bind_ok, bind_err}
 use Rattle.td_wire.proofs.Bytes.{InRange, one_byte, byte_reads}
 use Rattle.td_wire.proofs.Texts.{Text, text_reads}
+use Rattle.td_base.proofs.RunPieces.{length_concat}
 
 -- ---- atoms
 
@@ -217,11 +218,6 @@ from_atoms (a ∷ atoms) h = (record { len_is = refl; text = h.0 }, (from_atoms 
 abbrev pub RunIn : Format → List (List ℕ) → Type 0
 RunIn One atoms = IsRun atoms × (length atoms ≡ 1)
 RunIn Two atoms = IsRun atoms
-
-pub length_concat : (atoms : List (List ℕ)) → length (concat atoms) ≡ sum (map length atoms)
-length_concat [] = refl
-length_concat (a ∷ atoms) = let rest = length_concat atoms in
-    omega (arith, rest, length-append a (concat atoms), sum_cons (length a) (map length atoms))
 
 -- the atoms of a run have some bytes each, and as many together as a run may have
 abbrev texts : List (List ℕ) → Type 0
