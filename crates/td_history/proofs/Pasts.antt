@@ -1,0 +1,45 @@
+-- What was sent and the entries, once more operations are kept.
+use Rattle.std.proofs.Common.{◌≡◌, ◌≤◌, ◌+◌, ℕ, List, Option, sym, subst}
+use Rattle.std.specs.List.{filter_map}
+use Rattle.td_op.specs.Op.{OpValue}
+use Rattle.td_history.specs.declared.message.CompactMessage.{CompactMessage}
+use Rattle.td_history.specs.EntriesValue.{EntriesValue}
+use Rattle.td_history.specs.Standing.{StandFor, IsGrown}
+use Rattle.td_history.specs.Messages.{message_of}
+use Rattle.td_history.specs.Entries.{entry_of}
+use Rattle.td_history.specs.HistoryParts.{sent_of, entries_of, IsHistoryParts}
+use Rattle.td_history.specs.LogValue.{LogValue}
+use Rattle.td_history.proofs.Standing.{stand_on, stand_filter_map, grown_none}
+use Rattle.td_history.proofs.Grown.{message_grown, entry_grown}
+
+-- they stand for what is told of them
+pub told : {X Y : Type 0} (f : X → Option Y) (xs : List X) (ys : List Y) → StandFor f xs ys → StandFor f xs (filter_map f xs)
+told f xs ys h = subst (λ q. StandFor f xs q) (sym (stand_filter_map f xs ys h)) h
+
+pub sent_on : (ops more : List OpValue) (sent : List CompactMessage) → IsGrown ops more
+    → StandFor (message_of ops) sent (sent_of ops sent) → StandFor (message_of more) sent (sent_of ops sent)
+sent_on ops more sent grown h =
+    stand_on (message_of ops) (message_of more) (λ c m e. message_grown ops more c m grown e) sent (sent_of ops sent) h
+
+pub entries_on : (ops more : List OpValue) (e : EntriesValue) → IsGrown ops more
+    → StandFor (entry_of ops e) e.entries (entries_of ops e) → StandFor (entry_of more e) e.entries (entries_of ops e)
+entries_on ops more e grown h =
+    stand_on (entry_of ops e) (entry_of more e)
+    (λ c m is. entry_grown ops more e.texts e.texts e.offered e.offered c m grown (grown_none e.texts) (grown_none e.offered) is)
+    e.entries (entries_of ops e) h
+
+-- with more room
+pub reserved : (site : ℕ) (log log_new : LogValue) (sent sent_new : List CompactMessage) (e e_new : EntriesValue) (len capacity room : ℕ)
+    → site ≤ log.size → StandFor (message_of log.ops) sent (sent_of log.ops sent) → StandFor (entry_of log.ops e) e.entries (entries_of log.ops e)
+    → log_new.size ≡ log.size → log_new.ops ≡ log.ops → sent_new ≡ sent → e_new.entries ≡ e.entries → e_new.texts ≡ e.texts → e_new.offered ≡ e.offered
+    → room ≤ log_new.room → len + room ≤ capacity → room ≤ e_new.room
+    → IsHistoryParts site log_new sent_new len capacity e_new room
+reserved site log log_new sent sent_new e e_new len capacity room own sending entering size ops same entries texts offered log_room sent_room entries_room =
+    record {
+      own = rw size own;
+      sending = rw (ops, same) sending;
+      entering = rw (ops, entries, texts, offered) entering;
+      log_room = log_room;
+      sent_room = sent_room;
+      entries_room = entries_room;
+    }

@@ -1,0 +1,38 @@
+use Rattle.std.proofs.Common.{◌∙◌, sym, ap, subst, ◌-◌, ◌∷◌, arith}
+use Rattle.td_history.specs.Past.{IsNextIn}
+use Rattle.td_history.specs.Logs.{IsLog, log_of}
+use Rattle.td_history.proofs.Standing.{grown_push, push_get}
+use Rattle.td_history.proofs.Logs.{log_after, log_is, as_told}
+use Rattle.td_history.proofs.log.Log.add.Goals as goal
+
+after : (c : goal.After-self-1)
+    → IsLog c.self.inside.size c.push.new.self.ops c.note.new.numbers.items c.note.new.index.lists (c.args.op.now ∷ log_of c.self.inside.ops.ops c.self.inside.numbers.items)
+after c =
+    let l = c.self.inside in
+    let next = subst (λ v. IsNextIn v.size v.room_site v.log c.args.op.now) (sym c.self.view_is) c.requires.next in
+    log_after _ l.ops.ops _ _ _ _ _ _ c.args.op.now c.len-number.result l.index.room_site c.self.invariant.log
+    (rw c.push.ensures.ops (grown_push l.ops.ops c.args.op.now))
+    (rw (c.push.ensures.ops, c.len-number.ensures) (push_get l.ops.ops c.args.op.now))
+    next c.note.ensures.some c.self.invariant.site c.note.ensures.dot c.note.ensures.numbers c.note.ensures.lists
+
+pub invariant_of-self : goal.invariant_of-self
+invariant_of-self c =
+    record {
+      log = as_told _ _ _ _ _ (after c);
+      size = c.push.ensures.size ∙ c.self.invariant.size;
+      site = omega (arith, c.note.ensures.site, c.self.invariant.site);
+      ops_room = omega (arith, c.push.ensures.room, c.self.invariant.ops_room);
+      numbers_room = omega (arith, c.note.ensures.len, c.note.ensures.capacity, c.self.invariant.numbers_room, c.requires.room, ap (λ v. v.room) c.self.view_is);
+      index_room = omega (arith, c.note.ensures.room, c.self.invariant.index_room);
+    }
+
+pub returns-clause-log : goal.returns-clause-log
+returns-clause-log c =
+    rw (← c.self.view_is)
+    (λ i. record {
+      size = c.self.inside.size;
+      ops = c.push.ensures.ops i;
+      log = log_is _ _ _ _ _ (after c) i;
+      room = c.self.inside.room - 1;
+      room_site = c.note.ensures.site i;
+    })

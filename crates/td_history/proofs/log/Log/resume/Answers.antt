@@ -1,0 +1,42 @@
+use Rattle.std.proofs.Common.{◌≡◌, ◌∙◌, sym, ap, subst, ◌-◌, ◌∷◌, Some, arith}
+use Rattle.std.specs.Prelude.{IsSomeAnd}
+use Rattle.std.specs.List.{slice_get}
+use Rattle.td_history.specs.Past.{IsNextIn}
+use Rattle.td_history.specs.Logs.{IsLog, log_of}
+use Rattle.td_history.proofs.Standing.{grown_none}
+use Rattle.td_history.proofs.Logs.{log_after, log_is, as_told}
+use Rattle.td_history.proofs.log.Log.resume.Goals as goal
+
+after : (c : goal.After-self-1)
+    → IsLog c.self.inside.size c.self.inside.ops.ops c.note.new.numbers.items c.note.new.index.lists (c.unwrap-op.result ∷ log_of c.self.inside.ops.ops c.self.inside.numbers.items)
+after c =
+    let l = c.self.inside in
+    let kept : slice_get l.ops.ops c.args.number ≡ Some c.unwrap-op.result = sym c.get.ensures ∙ c.unwrap-op.ensures in
+    let may = subst (λ v. IsSomeAnd (slice_get v.ops c.args.number) (IsNextIn v.size v.room_site v.log)) (sym c.self.view_is) c.requires.next in
+    let next = subst (λ o. IsSomeAnd o (IsNextIn l.size l.index.room_site (log_of l.ops.ops l.numbers.items))) kept may in
+    log_after _ l.ops.ops _ _ _ _ _ _ c.unwrap-op.result c.args.number l.index.room_site c.self.invariant.log
+    (grown_none l.ops.ops) kept
+    next c.note.ensures.some c.self.invariant.site c.note.ensures.dot c.note.ensures.numbers c.note.ensures.lists
+
+pub invariant_of-self : goal.invariant_of-self
+invariant_of-self c =
+    record {
+      log = as_told _ _ _ _ _ (after c);
+      size = c.self.invariant.size;
+      site = omega (arith, c.note.ensures.site, c.self.invariant.site);
+      ops_room = omega (arith, c.self.invariant.ops_room);
+      numbers_room = omega (arith, c.note.ensures.len, c.note.ensures.capacity, c.self.invariant.numbers_room, c.requires.room, ap (λ v. v.room) c.self.view_is);
+      index_room = omega (arith, c.note.ensures.room, c.self.invariant.index_room);
+    }
+
+pub returns-clause-log : goal.returns-clause-log
+returns-clause-log c =
+    let kept : slice_get c.self.inside.ops.ops c.args.number ≡ Some c.unwrap-op.result = sym c.get.ensures ∙ c.unwrap-op.ensures in
+    rw (← c.self.view_is, kept)
+    (λ i. record {
+      size = c.self.inside.size;
+      ops = c.self.inside.ops.ops;
+      log = log_is _ _ _ _ _ (after c) i;
+      room = c.self.inside.room - 1;
+      room_site = c.note.ensures.site i;
+    })

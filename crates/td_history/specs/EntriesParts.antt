@@ -1,0 +1,8 @@
+-- The room that entries have in what keeps them.
+use Rattle.std.specs.Prelude.{◌<◌, ◌≤◌, ◌+◌, ◌^◌, ℕ}
+
+pub record AreEntriesParts (len capacity texts_room offered_len offered_capacity room : ℕ) : Type 0 where
+  pub entries_room : len + room ≤ capacity
+  pub texts : room ≤ texts_room
+  pub offered_room : offered_len + room ≤ offered_capacity
+  pub offered_few : offered_len + room < 2 ^ 32

@@ -1,0 +1,13 @@
+-- What contracts see of the entries as they are kept.
+use Rattle.std.specs.Prelude.{ℕ, List}
+use Rattle.td_op.specs.Op.{OpValue}
+use Rattle.td_history.specs.declared.entries.CompactEntry.{CompactEntry}
+
+pub record EntriesValue : Type 0 where
+  -- the oldest first
+  pub entries : List CompactEntry
+  -- the texts that no operation has, and the operations that were offered alone, by their numbers from 0
+  pub texts : List (List (List ℕ))
+  pub offered : List OpValue
+  -- for how many more there is room
+  pub room : ℕ

@@ -1,0 +1,51 @@
+-- The input that a compact one stands for.
+use Rattle.std.specs.Prelude.{ℕ, List, Option, Some, None}
+use Rattle.std.specs.List.{slice_get}
+use Rattle.std.specs.Option.{option_map, option_and_then}
+use Rattle.td_op.specs.declared.body.Body.{Body}
+use Rattle.td_op.specs.declared.body.Body.TheVariants.{Insert, Delete, Propose, Commit, Abort}
+use Rattle.td_op.specs.declared.request.Request.TheVariants.{Delete as AskDelete, DeleteAtom as AskDeleteAtom, Propose as AskPropose, ProposeAt as AskProposeAt, Cancel as AskCancel}
+use Rattle.td_op.specs.declared.input.Input.{Input}
+use Rattle.td_op.specs.declared.input.Input.TheVariants.{Local, Take, Next}
+use Rattle.td_op.specs.declared.message.Message.TheVariants.{Op as AnOp, Vote as AVote}
+use Rattle.td_op.specs.Op.{OpValue}
+use Rattle.td_store.specs.Compact.{slot_of}
+use Rattle.td_history.specs.declared.put.CompactPut.{CompactPut}
+use Rattle.td_history.specs.declared.input.CompactInput.{CompactInput}
+use Rattle.td_history.specs.declared.input.CompactInput.TheVariants.{Done, Refused, Delete as CompactDelete, DeleteAtom as CompactDeleteAtom, Propose as CompactPropose, ProposeAt as CompactProposeAt, Cancel as CompactCancel, Taken, Offered, Vote as CompactVote, Next as CompactNext}
+use Rattle.td_history.specs.Puts.{put_of}
+use Rattle.td_history.specs.Votes.{vote_of}
+
+-- the text of an insert
+abbrev pub run_of : Body → Option (List (List ℕ))
+run_of (Insert slot run) = Some run
+run_of (Delete target) = None
+run_of (Propose slot) = None
+run_of (Commit proposal) = None
+run_of (Abort proposal) = None
+
+-- the text of the operation of a number
+abbrev pub run_at : List OpValue → ℕ → Option (List (List ℕ))
+run_at ops number = option_and_then (λ (x : OpValue). run_of x.body) (slice_get ops number)
+
+-- a text, put where a compact request says
+abbrev pub put_input : CompactPut → Option (List (List ℕ)) → Option Input
+put_input put text = option_and_then (λ (t : List (List ℕ)). option_map Local (put_of t put)) text
+
+-- an operation, taken
+abbrev pub taken_input : Option OpValue → Option Input
+taken_input op = option_map (λ (x : OpValue). Take (AnOp x)) op
+
+-- among the operations by their numbers, the texts that no operation has, and the operations that were offered alone
+abbrev pub input_of : List OpValue → List (List (List ℕ)) → List OpValue → CompactInput → Option Input
+input_of ops texts offered (Done put number) = put_input put (run_at ops number)
+input_of ops texts offered (Refused put text) = put_input put (slice_get texts text)
+input_of ops texts offered (CompactDelete index) = Some (Local (AskDelete index))
+input_of ops texts offered (CompactDeleteAtom id) = Some (Local (AskDeleteAtom id))
+input_of ops texts offered (CompactPropose slot) = Some (Local (AskPropose (slot_of slot)))
+input_of ops texts offered (CompactProposeAt bit index) = Some (Local (AskProposeAt index bit))
+input_of ops texts offered (CompactCancel proposal) = Some (Local (AskCancel proposal))
+input_of ops texts offered (Taken number) = taken_input (slice_get ops number)
+input_of ops texts offered (Offered number) = taken_input (slice_get offered number)
+input_of ops texts offered (CompactVote vote) = Some (Take (AVote (vote_of vote)))
+input_of ops texts offered CompactNext = Some Next

@@ -1,0 +1,15 @@
+pub mod Past
+pub mod Standing
+pub mod Votes
+pub mod Replies
+pub mod Puts
+pub mod Inputs
+pub mod Messages
+pub mod IndexValue
+pub mod Index
+pub mod LogValue
+pub mod Logs
+pub mod EntriesValue
+pub mod Entries
+pub mod EntriesParts
+pub mod HistoryParts

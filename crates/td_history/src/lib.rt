@@ -1,0 +1,22 @@
+//! What a replica keeps of its past: the operations by number, those of them that were made or taken in their order,
+//! the messages that it sent and the entries of its history. Each operation is stored once; all else has its number.
+//!
+//! Contracts see the whole past as plain lists. Begin at `history` and at `specs/Past.antt`. How each kind of thing is
+//! kept, and what it stands for, is told beside it: requests for text (`put`), inputs, replies, votes and messages as
+//! compact values, the operations of each site in their order (`index`), the log (`log`) and the entries (`entries`).
+#![tactic(auto)]
+
+mod entries;
+mod history;
+mod index;
+mod input;
+mod log;
+mod message;
+mod put;
+mod reply;
+mod vote;
+
+pub use history::History;
+
+#[cfg(test)]
+mod tests;
