@@ -6,6 +6,7 @@ pub mod Reversed
 pub mod AtomLemmas
 pub mod RunLemmas
 pub mod RunPieces
+pub mod SameRuns
 pub mod FirstAtom
 pub mod RunIds
 pub mod Orders

@@ -103,7 +103,7 @@ pub ruleset joining = (join_covers_first, join_covers_second, join_is_least, joi
 
 -- ---- sum
 
-covered_sum : (v w : List ℕ) → IsTrue (vector_covers v w) → sum w ≤ sum v
+pub covered_sum : (v w : List ℕ) → IsTrue (vector_covers v w) → sum w ≤ sum v
 covered_sum v [] covers = omega arith
 covered_sum [] (n ∷ w) covers = absurd cc
 covered_sum (m ∷ v) (n ∷ w) covers =

@@ -62,7 +62,7 @@ some_dot_at d e dots more true c = refl
 some_dot_at d e dots more false true = refl
 some_dot_at d e dots more false false = refl
 
-some_dot : (d : DotValue) (dots : List DotValue) → is_empty_list (add_dot d dots) ≡ false
+pub some_dot : (d : DotValue) (dots : List DotValue) → is_empty_list (add_dot d dots) ≡ false
 some_dot d [] = refl
 some_dot d (e ∷ dots) = some_dot_at d e dots (add_dot d dots) (is_lt (dot_cmp d e)) (is_eq (dot_cmp d e))
 

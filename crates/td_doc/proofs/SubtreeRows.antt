@@ -119,7 +119,7 @@ begins_alike (g ∷ front) bit (c ∷ node) (x ∷ p) (y ∷ q) h k n =
     at true e ih = ap (λ o. same_pair c g && o) (ih (inner e))
     at false e ih = and_left (same_pair c g) (begins node p) e ∙ sym (and_left (same_pair c g) (begins node q) e)
 
-slot_alike : (slot : SlotPath) (node p q : Pairs) → slot_contains slot p ≡ true → slot_contains slot q ≡ true → slot_contains slot node ≡ false → begins node p ≡ begins node q
+pub slot_alike : (slot : SlotPath) (node p q : Pairs) → slot_contains slot p ≡ true → slot_contains slot q ≡ true → slot_contains slot node ≡ false → begins node p ≡ begins node q
 slot_alike Whole node p q h k n = absurd (true≢false n)
 slot_alike (Below front bit) node p q h k n = begins_alike front bit node p q h k n
 

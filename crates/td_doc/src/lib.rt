@@ -23,6 +23,7 @@ mod text;
 pub use alloc::alloc_slot;
 pub use containment::contains;
 pub use doc::{Doc, DocFault, Row};
+pub use dots::add_dot;
 pub use laws::{
     a_delete_cuts_one_atom_shown, a_delete_keeps_the_rules, a_delete_marks_one_row,
     a_flatten_changes_no_atom_shown, a_live_row_is_found_at_its_index,

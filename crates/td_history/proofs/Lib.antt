@@ -2,5 +2,4 @@ pub mod Standing
 pub mod Places
 pub mod Logs
 pub mod Grown
-pub mod Texts
 pub mod Pasts

@@ -53,7 +53,7 @@ pub record Found (d : DotValue) (log : List OpValue) : Type 0 where
 newer : (d : DotValue) (x : OpValue) (log : List OpValue) → Found d log → Found d (x ∷ log)
 newer d x log f = record { op = f.op; inside = inr f.inside; is = f.is }
 
-found : (n s k : ℕ) (log : List OpValue) → 0 < k → IsInTurn n log → k ≤ length (ops_of s log)
+pub found : (n s k : ℕ) (log : List OpValue) → 0 < k → IsInTurn n log → k ≤ length (ops_of s log)
     → Found (record { site = s; seq = k }) log
 found n s k [] some c few = absurd (omega (arith, some, few))
 found n s k (x ∷ log) some c few = at (nat_eq x.dot.site s) refl few (λ less. found n s k log some c.1 less)

@@ -97,7 +97,7 @@ found_document : (o : Option Slot) (rows : List DocRow) → IsDocument rows → 
 found_document None rows d = d
 found_document (Some slot) rows d = flatten_document rows slot d
 
-effect_document : (log : List OpValue) (dot : DotValue) (body : Body) (rows : List DocRow) → IsDocument rows
+pub effect_document : (log : List OpValue) (dot : DotValue) (body : Body) (rows : List DocRow) → IsDocument rows
     → IsFresh rows dot
     → IsDocument (effect log dot body rows)
 effect_document log dot (Insert slot run) rows d fresh = insert_document slot dot run rows d fresh
@@ -114,7 +114,7 @@ Had have z = IsTrue (vector_has have z.dot)
 abbrev pub Obeys : List ℕ → List DocRow → Type 0
 Obeys have rows = IsDocument rows × EachRow (Had have) rows
 
-no_rows : IsDocument []
+pub no_rows : IsDocument []
 no_rows =
     record {
       ascending = tt;

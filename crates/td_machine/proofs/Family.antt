@@ -100,7 +100,7 @@ module _ {Came : Message → Type 0} {site size : ℕ} where
       comes m b x (Own body may) e = (counted m b).0
       comes m b x (Other y fit) e = absurd (fit.offered.other e)
 
-  sent_ops : (m : Machine) → IsBuilt Came site size m → (x : OpValue) → In (AnOp x) m.sent
+  pub sent_ops : (m : Machine) → IsBuilt Came site size m → (x : OpValue) → In (AnOp x) m.sent
       → In x m.log × (x.dot.site ≡ m.site)
   sent_ops =
       by_parts (λ (m : Machine). (x : OpValue) → In (AnOp x) m.sent → In x m.log × (x.dot.site ≡ m.site))
@@ -202,13 +202,13 @@ module _ (family : Family) (c : IsConsistent family) where
   made_there x o = made_then (end o.site (o.some, o.within)) x o.inside
 
   -- where it stands in the log of its site
-  record Place (x : OpValue) : Type 0 where
-    newer : List OpValue
-    older : List OpValue
-    is : log_of family x.dot.site ≡ newer ++ x ∷ older
-    deps : x.deps ≡ counts n older
-    next : IsNext (counts n older) x
-    turn : IsInTurn n older
+  pub record Place (x : OpValue) : Type 0 where
+    pub newer : List OpValue
+    pub older : List OpValue
+    pub is : log_of family x.dot.site ≡ newer ++ x ∷ older
+    pub deps : x.deps ≡ counts n older
+    pub next : IsNext (counts n older) x
+    pub turn : IsInTurn n older
 
   deps_there : (x : OpValue) (l : Legal x.dot.site) (newer older : List OpValue)
       → log_of family x.dot.site ≡ newer ++ x ∷ older → x.deps ≡ counts n older
@@ -218,7 +218,7 @@ module _ (family : Family) (c : IsConsistent family) where
       let p = placed m b in
       own_deps m b newer x older is (sym p.2) ∙ ap (λ (k : ℕ). counts k older) p.3
 
-  place : (x : OpValue) → IsOpOf family x → Place x
+  pub place : (x : OpValue) → IsOpOf family x → Place x
   place x o =
       let m : Made x = made_there x o in
       let s : CutAt x (log_of family x.dot.site) = cut_at x (log_of family x.dot.site) m.1 in

@@ -45,7 +45,7 @@ use Rattle.td_machine.proofs.Stays.{SlotStays, insert_stays, delete_stays, roote
 -- ---- holds by a test
 
 -- no hold passes where no least one is found
-held_none : (test : Slot → Bool) (holds : List Hold) → held_by test holds ≡ None → (h : Hold) → In h holds
+pub held_none : (test : Slot → Bool) (holds : List Hold) → held_by test holds ≡ None → (h : Hold) → In h holds
     → test h.slot ≡ false
 held_none test holds e h i = at (test h.slot) refl
   where
@@ -66,7 +66,7 @@ held_none test holds e h i = at (test h.slot) refl
 abbrev Apart : List DocRow → Hold → Hold → Type 0
 Apart rows g h = overlaps rows g.slot h.slot ≡ false
 
-apart_pair : (rows : List DocRow) (g h : Hold) (holds : List Hold) → Successive (Apart rows) holds → In g holds
+pub apart_pair : (rows : List DocRow) (g h : Hold) (holds : List Hold) → Successive (Apart rows) holds → In g holds
     → In h holds → g ≢ h → Apart rows g h
 apart_pair rows g h (k ∷ holds) s (inl i) (inl j) n = absurd (n (i ∙ sym j))
 apart_pair rows g h (k ∷ holds) s (inl i) (inr j) n =
@@ -129,7 +129,7 @@ kept_holding x m after some ballots d e next s up apart stays open_held =
 released : (p : DotValue) (holds : List Hold) (h : Hold) → In h (release p holds) → In h holds × (is_of p h ≡ false)
 released p holds h i = let k = In-filter (λ (g : Hold). not (is_of p g)) h holds i in (k.0, not-true (is_of p h) k.1)
 
-release_keeps : (p q : DotValue) (holds : List Hold) → is_held q holds ≡ true → same_dot q p ≡ false
+pub release_keeps : (p q : DotValue) (holds : List Hold) → is_held q holds ≡ true → same_dot q p ≡ false
     → is_held q (release p holds) ≡ true
 release_keeps p q holds h n =
     let g = any_found (is_of q) holds h in
@@ -238,7 +238,7 @@ had_now x have next =
 newest_slot : (x : OpValue) (log : List OpValue) → proposed_slot x.dot (x ∷ log) ≡ proposed x.body
 newest_slot x log = ap (λ (b : Bool). if b then proposed x.body else proposed_slot x.dot log) (same_dot_refl x.dot)
 
-open_held : (p : DotValue) (m : Machine) → IsHolding m → IsOpenAt p m → is_held p m.holds ≡ true
+pub open_held : (p : DotValue) (m : Machine) → IsHolding m → IsOpenAt p m → is_held p m.holds ≡ true
 open_held p m s b =
     let f = find_ballot p m.ballots b.ballot b.found in
     ap (λ (q : DotValue). is_held q m.holds) (sym f.1) ∙ s.held b.ballot f.0 b.open_
@@ -266,7 +266,7 @@ fit_may site (Commit p) m e = at (is_undecided_of site p m.log) (is_held p m.hol
     at false b k f = absurd cc
 
 -- the body of a proposal
-proposal_is : (slot : Slot) (body : Body) → proposed body ≡ Some slot → body ≡ Propose slot
+pub proposal_is : (slot : Slot) (body : Body) → proposed body ≡ Some slot → body ≡ Propose slot
 proposal_is slot (Propose s) e = ap (λ (t : Slot). Propose t) (same_Some s slot e)
 proposal_is slot (Insert s run) e = absurd cc
 proposal_is slot (Delete target) e = absurd cc

@@ -79,7 +79,8 @@ undecided_parts site p log h =
     let a = and_parts (nat_eq p.site site && is_some (proposed_slot p log)) (is_none (decision p log)) h in
     ((and_parts (nat_eq p.site site) (is_some (proposed_slot p log)) a.0).1, a.1)
 
-commit_fits : (site : ℕ) (p : DotValue) (m : Machine) → body_misfit site (Commit p) m ≡ None
+-- a decision that fits is of a proposal of its site that is undecided
+pub commit_fits : (site : ℕ) (p : DotValue) (m : Machine) → body_misfit site (Commit p) m ≡ None
     → is_undecided_of site p m.log ≡ true
 commit_fits site p m h = at (is_undecided_of site p m.log) refl h
   where
@@ -89,7 +90,7 @@ commit_fits site p m h = at (is_undecided_of site p m.log) refl h
     at true e k = e
     at false e k = absurd cc
 
-abort_fits : (site : ℕ) (p : DotValue) (m : Machine) → body_misfit site (Abort p) m ≡ None
+pub abort_fits : (site : ℕ) (p : DotValue) (m : Machine) → body_misfit site (Abort p) m ≡ None
     → is_undecided_of site p m.log ≡ true
 abort_fits site p m h = at (is_undecided_of site p m.log) refl h
   where

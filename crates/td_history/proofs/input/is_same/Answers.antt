@@ -1,5 +1,5 @@
 use Rattle.std.proofs.Common.{◌∙◌, sym}
-use Rattle.td_history.proofs.Texts.{same_run}
+use Rattle.td_base.proofs.SameRuns.{same_run}
 use Rattle.td_history.proofs.input.is_same.Goals as goal
 
 pub returns : goal.returns
