@@ -1,0 +1,9 @@
+pub mod Atoms
+pub mod Noting
+pub mod Stepping
+pub mod Deciding
+pub mod Proposing
+pub mod Taking
+pub mod Verdicts
+pub mod Waiters
+pub mod Legal

@@ -1,0 +1,284 @@
+-- What an operation that comes into the log leaves of the parts.
+use Rattle.std.proofs.Common.{◌≡◌, ◌≢◌, ◌<◌, ◌≤◌, ◌+◌, ◌-◌, ◌++◌, ℕ, List, [], ◌∷◌, Bool, true, false, length, if◌then◌else◌, Option, Some, None, refl, sym, ap, ◌∙◌, subst, inl, inr, true≢false, arith}
+use Rattle.std.proofs.lemmas.Bool.{leb-true}
+use Rattle.std.specs.Prelude.{IsTrue, IfSome, IsSome, slice_get}
+use Rattle.std.specs.List.{AllByRecursion, filter_map, cons_option}
+use Rattle.std.proofs.lemmas.List.{length-set}
+use Rattle.std.proofs.lemmas.Option.{slice_get_within}
+use Rattle.td_base.proofs.Elements.{get_front}
+use Rattle.std.specs.Option.{option_map, option_and_then, is_some}
+use Rattle.td_base.specs.Value.{DotValue}
+use Rattle.td_base.specs.Equality.{same_dot}
+use Rattle.td_base.specs.Lists.{In}
+use Rattle.td_base.proofs.Equals.{same_dot_true, same_dot_other}
+use Rattle.td_clock.specs.Vector.{vector_get, vector_has, vector_bump}
+use Rattle.td_path.specs.declared.slot.Slot.{Slot}
+use Rattle.td_op.specs.declared.body.Body.{Body}
+use Rattle.td_op.specs.declared.body.Body.TheVariants.{Insert, Delete, Propose, Commit, Abort}
+use Rattle.td_op.specs.Op.{OpValue}
+use Rattle.td_machine.specs.Counts.{counts, ops_of, IsNext, IsInTurn}
+use Rattle.td_machine.specs.Log.{Committed, commit_at, commit_in, commits, committed, proposed, proposed_slot}
+use Rattle.td_machine.proofs.Counting.{numbered}
+use Rattle.td_machine.proofs.OwnProposals.{had_counts, proposal_in}
+use Rattle.td_causal.specs.declared.waiting.Waiting.{Waiting}
+use Rattle.td_causal.specs.Waiting.{ops_waiting, others_than, put_in_order, AreOfSize}
+use Rattle.td_causal.proofs.Kept.{All-others_than, All-put_in_order, ops-others_than, ops-put_in_order}
+use Rattle.td_machine.specs.Ready.{without}
+use Rattle.td_doc.specs.Document.{DocRow}
+use Rattle.td_base.proofs.Lists.{all_in}
+use Rattle.td_vote.specs.Commits.{in_order}
+use Rattle.td_vote.specs.Holds.{HoldsValue}
+use Rattle.td_coord.specs.Tally.{TallyValue}
+use Rattle.td_history.specs.Past.{Past, IsUndecided, IsNextIn, decided_by, made, taken, resumed, kept}
+use Rattle.td_replica.specs.declared.state.Origin.{Origin}
+use Rattle.td_replica.specs.declared.state.Origin.TheVariants.{Here, There, Waiting as Waited}
+use Rattle.td_replica.specs.Parts.{machine_of, state_of, waiting_too, ComesFrom, IsFromOutside, number_from, ops_with, IsState, CommitsNamed, logged, commits_with, commits_after, commits_after_body}
+
+-- the operation may be the next of its site in the log
+pub next_in : (have : List ℕ) (log : List OpValue) (x : OpValue) → have ≡ counts (length have) log
+    → IsInTurn (length have) log → IsNext have x → IfSome (decided_by x.body) (IsUndecided log)
+    → IsNextIn (length have) x.dot.site log x
+next_in have log x count turn next decides =
+    record {
+      deps = next.size;
+      own = refl;
+      next = numbered (length have) x log (subst (λ (v : List ℕ). IsNext v x) count next) turn;
+      decides = decides;
+    }
+
+-- ---- commits
+
+-- the operation is new in the log
+abbrev pub IsNewIn : List OpValue → OpValue → Type 0
+IsNewIn log x = (p : DotValue) → is_some (proposed_slot p log) ≡ true → x.dot ≢ p
+
+pub new_in : (n : ℕ) (log : List OpValue) (x : OpValue) → IsInTurn n log → IsNext (counts n log) x → IsNewIn log x
+new_in n log x turn next p h e =
+    let q = proposal_in p log h in
+    let had : IsTrue (vector_has (counts n log) q.0.dot) = had_counts n log turn q.0 q.1 in
+    let le : x.dot.seq ≤ vector_get (counts n log) x.dot.site =
+    leb-true x.dot.seq (vector_get (counts n log) x.dot.site)
+    (subst (λ (d : DotValue). IsTrue (vector_has (counts n log) d)) (q.2 ∙ sym e) had) in
+    let number : x.dot.seq ≡ vector_get (counts n log) x.dot.site + 1 = next.next in
+    absurd (omega (arith, le, number))
+
+module _ (log : List OpValue) (x : OpValue) (new : IsNewIn log x) where
+  same_slot : (p : DotValue) → is_some (proposed_slot p log) ≡ true → proposed_slot p (x ∷ log) ≡ proposed_slot p log
+  same_slot p h =
+      ap (λ (b : Bool). if b then proposed x.body else proposed_slot p log) (same_dot_other x.dot p (new p h))
+
+  abbrev NamedIn : List OpValue → Option DotValue → Type 0
+  NamedIn ops p = IfSome p (λ q. IsSome (proposed_slot q ops))
+
+  same_commit : (dot : DotValue) (p : Option DotValue) → NamedIn log p
+      → option_map (commit_at dot) (option_and_then (λ (q : DotValue). proposed_slot q (x ∷ log)) p)
+      ≡ option_map (commit_at dot) (option_and_then (λ (q : DotValue). proposed_slot q log) p)
+  same_commit dot None h = refl
+  same_commit dot (Some q) h = ap (option_map (commit_at dot)) (same_slot q h)
+
+  abbrev known_commit : OpValue → Option Committed
+  known_commit y = commit_in log y
+
+  -- the commits of the older ones are as they were
+  same_commits : (ops : List OpValue) → ((y : OpValue) → In y ops → NamedIn log (committed y.body))
+      → filter_map (commit_in (x ∷ log)) ops ≡ filter_map (commit_in log) ops
+  same_commits [] named = refl
+  same_commits (y ∷ ops) named =
+      ap (λ (c : Option Committed). cons_option c (filter_map (commit_in (x ∷ log)) ops))
+      (same_commit y.dot (committed y.body) (named y (inl refl)))
+      ∙ ap (λ (cs : List Committed). cons_option (commit_in log y) cs) (same_commits ops (λ z i. named z (inr i)))
+
+  -- the newest is none
+  none : (body : Body) → x.body ≡ body → committed body ≡ None
+      → in_order (cons_option (commit_in (x ∷ log) x) (commits log)) ≡ in_order (commits log)
+  none body e c =
+      ap (λ (p : Option DotValue). in_order (cons_option
+      (option_map (commit_at x.dot) (option_and_then (λ (q : DotValue). proposed_slot q (x ∷ log)) p)) (commits log)))
+      (ap committed e ∙ c)
+
+  -- the commit of the newest, if it is one
+  newest : (body : Body) → x.body ≡ body → IfSome (decided_by body) (IsUndecided log)
+      → in_order (cons_option (commit_in (x ∷ log) x) (commits log))
+      ≡ commits_after_body x.dot body log (in_order (commits log))
+  newest (Commit p) e u =
+      ap (λ (c : Option Committed). in_order (cons_option c (commits log)))
+      (ap (λ (b : Body). option_map (commit_at x.dot)
+      (option_and_then (λ (q : DotValue). proposed_slot q (x ∷ log)) (committed b))) e
+      ∙ ap (option_map (commit_at x.dot)) (same_slot p u.proposed))
+      ∙ told (proposed_slot p log)
+    where
+      told : (slot : Option Slot)
+          → in_order (cons_option (option_map (commit_at x.dot) slot) (commits log))
+          ≡ commits_with x.dot slot (in_order (commits log))
+      told None = refl
+      told (Some s) = refl
+  newest (Insert slot run) e u = none (Insert slot run) e refl
+  newest (Delete z) e u = none (Delete z) e refl
+  newest (Propose slot) e u = none (Propose slot) e refl
+  newest (Abort p) e u = none (Abort p) e refl
+
+  pub commits_noted : CommitsNamed log → IfSome (decided_by x.body) (IsUndecided log)
+      → in_order (commits (x ∷ log)) ≡ commits_after x log (in_order (commits log))
+  commits_noted named u =
+      ap (λ (cs : List Committed). in_order (cons_option (commit_in (x ∷ log) x) cs)) (same_commits log named)
+      ∙ newest x.body refl u
+
+  still_named : (p : Option DotValue) → NamedIn log p → NamedIn (x ∷ log) p
+  still_named None h = tt
+  still_named (Some q) h = subst (λ (slot : Option Slot). IsSome slot) (sym (same_slot q h)) h
+
+  own_named : (body : Body) → IfSome (decided_by body) (IsUndecided log) → NamedIn log (committed body)
+  own_named (Commit p) u = u.proposed
+  own_named (Abort p) u = tt
+  own_named (Insert slot run) u = tt
+  own_named (Delete z) u = tt
+  own_named (Propose slot) u = tt
+
+  pub named_more : CommitsNamed log → IfSome (decided_by x.body) (IsUndecided log) → CommitsNamed (x ∷ log)
+  named_more named u y (inl e) =
+      subst (λ (z : OpValue). NamedIn (x ∷ log) (committed z.body)) (sym e)
+      (still_named (committed x.body) (own_named x.body u))
+  named_more named u y (inr i) = still_named (committed y.body) (named y i)
+
+-- ---- what waits stays stored
+
+get_more : (ops more : List OpValue) (k : ℕ) (x : OpValue) → slice_get ops k ≡ Some x
+    → slice_get (ops ++ more) k ≡ Some x
+get_more ops more k x e = get_front ops more k (slice_get_within ops k x e) ∙ e
+
+pub stored_more : (ops more : List OpValue) (waiting : List Waiting)
+    → AllByRecursion (λ (w : Waiting). slice_get ops w.number ≡ Some w.op) waiting
+    → AllByRecursion (λ (w : Waiting). slice_get (ops ++ more) w.number ≡ Some w.op) waiting
+stored_more ops more [] h = tt
+stored_more ops more (w ∷ waiting) h = (get_more ops more w.number w.op h.0, stored_more ops more waiting h.1)
+
+-- ---- the state
+
+pub noted : (site : ℕ) (have : List ℕ) (waiting : List Waiting) (holds holds2 : HoldsValue) (tally : TallyValue)
+    (past : Past) (origin : Origin) (x : OpValue) → IsState site have waiting holds tally past → IsNext have x
+    → IfSome (decided_by x.body) (IsUndecided past.log) → holds2.commits ≡ commits_after x past.log holds.commits
+    → IsState site (vector_bump have x.dot.site) waiting holds2 tally (logged origin x past)
+noted site have waiting holds holds2 tally past origin x s next u cs = at origin
+  where
+    n : ℕ
+    n = length have
+
+    first : IsNext (counts n past.log) x
+    first = subst (λ (v : List ℕ). IsNext v x) s.counted next
+
+    fresh : IsNewIn past.log x
+    fresh = new_in n past.log x s.in_turn first
+
+    long : length (vector_bump have x.dot.site) ≡ n
+    long = length-set have (x.dot.site - 1) (vector_get have x.dot.site + 1)
+
+    -- whatever else the past is, where it has this log and these operations
+    with_past : (after : Past) → after.site ≡ past.site → after.size ≡ past.size → after.log ≡ x ∷ past.log
+        → AllByRecursion (λ (w : Waiting). slice_get after.ops w.number ≡ Some w.op) waiting
+        → IsState site (vector_bump have x.dot.site) waiting holds2 tally after
+    with_past after a b c d =
+        record {
+          some = s.some;
+          within = subst (λ (k : ℕ). site ≤ k) (sym long) s.within;
+          past_site = a ∙ s.past_site;
+          past_size = b ∙ s.past_size ∙ sym long;
+          own = s.own;
+          tally_size = s.tally_size ∙ sym long;
+          counted = ap (λ (v : List ℕ). vector_bump v x.dot.site) s.counted
+              ∙ ap (λ (k : ℕ). counts k (x ∷ past.log)) (sym long)
+              ∙ ap (counts (length (vector_bump have x.dot.site))) (sym c);
+          in_turn = subst (λ (k : ℕ). IsInTurn k after.log) (sym long)
+              (subst (IsInTurn n) (sym c) (first, s.in_turn));
+          commits = cs ∙ ap (commits_after x past.log) s.commits ∙ sym (commits_noted past.log x fresh s.named u)
+              ∙ ap (λ (log : List OpValue). in_order (commits log)) (sym c);
+          named = subst CommitsNamed (sym c) (named_more past.log x fresh s.named u);
+          alike = subst (λ (k : ℕ). AreOfSize k waiting) (sym long) s.alike;
+          stored = d;
+        }
+
+    at : (from : Origin) → IsState site (vector_bump have x.dot.site) waiting holds2 tally (logged from x past)
+    at Here = with_past (made x past) refl refl refl (stored_more past.ops (x ∷ []) waiting s.stored)
+    at There = with_past (taken x past) refl refl refl (stored_more past.ops (x ∷ []) waiting s.stored)
+    at (Waited number) = with_past (resumed x past) refl refl refl s.stored
+
+-- ---- what waits
+
+pub number_of_new : (ops : List OpValue) (x : OpValue) → slice_get (ops ++ x ∷ []) (length ops) ≡ Some x
+number_of_new [] x = refl
+number_of_new (y ∷ ops) x = number_of_new ops x
+
+-- an operation that comes from outside has its number afterwards
+pub found_from : (origin : Origin) (x : OpValue) (site : ℕ) (ops : List OpValue) → IsFromOutside origin
+    → ComesFrom origin x site ops → slice_get (ops_with origin x ops) (number_from origin ops) ≡ Some x
+found_from Here x site ops out comes = absurd out
+found_from There x site ops out comes = number_of_new ops x
+found_from (Waited number) x site ops out comes = comes
+
+module _ (site : ℕ) (have : List ℕ) (waiting : List Waiting) (holds : HoldsValue) (tally : TallyValue) (past : Past)
+    (s : IsState site have waiting holds tally past) where
+  pub forgotten : (d : DotValue) → IsState site have (others_than d waiting) holds tally past
+  forgotten d =
+      record {
+        some = s.some;
+        within = s.within;
+        past_site = s.past_site;
+        past_size = s.past_size;
+        own = s.own;
+        tally_size = s.tally_size;
+        counted = s.counted;
+        in_turn = s.in_turn;
+        commits = s.commits;
+        named = s.named;
+        alike = All-others_than (λ (w : Waiting). length w.op.deps ≡ length have) d waiting s.alike;
+        stored = All-others_than (λ (w : Waiting). slice_get past.ops w.number ≡ Some w.op) d waiting s.stored;
+      }
+
+  pub waits_too : (x : OpValue) → length x.deps ≡ length have
+      → IsState site have (put_in_order (record { op = x; number = length past.ops }) waiting)
+      holds tally (kept x past)
+  waits_too x sized =
+      record {
+        some = s.some;
+        within = s.within;
+        past_site = s.past_site;
+        past_size = s.past_size;
+        own = s.own;
+        tally_size = s.tally_size;
+        counted = s.counted;
+        in_turn = s.in_turn;
+        commits = s.commits;
+        named = s.named;
+        alike = All-put_in_order (λ (w : Waiting). length w.op.deps ≡ length have)
+            (record { op = x; number = length past.ops }) waiting sized s.alike;
+        stored = All-put_in_order (λ (w : Waiting). slice_get (past.ops ++ x ∷ []) w.number ≡ Some w.op)
+            (record { op = x; number = length past.ops }) waiting (number_of_new past.ops x)
+            (stored_more past.ops (x ∷ []) waiting s.stored);
+      }
+
+  pub stored_of : (o : Option Waiting) → IfSome o (λ w. In w waiting)
+      → IfSome o (λ w. slice_get past.ops w.number ≡ Some w.op)
+  stored_of None h = tt
+  stored_of (Some w) h = all_in (λ (v : Waiting). slice_get past.ops v.number ≡ Some v.op) waiting s.stored w h
+
+  module _ (rows : List DocRow) where
+    pub forget_state : (d : DotValue)
+        → state_of site rows have (others_than d waiting) holds tally past
+        ≡ record (state_of site rows have waiting holds tally past) {
+          machine = record (machine_of site rows have waiting holds tally past)
+              { waiting = without d (ops_waiting waiting) };
+          waiting = others_than d waiting;
+        }
+    forget_state d = λ i.
+        record (state_of site rows have (others_than d waiting) holds tally past) {
+          machine = record (machine_of site rows have waiting holds tally past)
+              { waiting = ops-others_than d waiting i };
+        }
+
+    pub wait_state : (x : OpValue) (number : ℕ)
+        → state_of site rows have (put_in_order (record { op = x; number = number }) waiting) holds tally (kept x past)
+        ≡ waiting_too x number (state_of site rows have waiting holds tally past)
+    wait_state x number = λ i.
+        record (waiting_too x number (state_of site rows have waiting holds tally past)) {
+          machine = record (machine_of site rows have waiting holds tally past)
+              { waiting = ops-put_in_order (record { op = x; number = number }) waiting i };
+        }

@@ -1,0 +1,47 @@
+use Rattle.std.proofs.Common.{◌≡◌, ◌++◌, List, [], ◌∷◌, Option, sym, ap, ◌∙◌, subst}
+use Rattle.td_op.specs.declared.change.Change.{Change}
+use Rattle.td_op.specs.declared.entry.Entry.{Entry}
+use Rattle.td_machine.specs.History.{History}
+use Rattle.td_machine.specs.Machine.{Machine}
+use Rattle.td_machine.specs.Shown.{change_between}
+use Rattle.td_machine.specs.Step.{step}
+use Rattle.td_replica.specs.Parts.{StateValue}
+use Rattle.td_replica.specs.Replica.{ReplicaValue, IsReplica, after_step}
+use Rattle.td_replica.proofs.Legal.{built, goes_on}
+use Rattle.td_replica.proofs.replica.Replica.step.Goals as goal
+
+pub answer_input-requires-clause-built : goal.answer_input-requires-clause-built
+answer_input-requires-clause-built g c =
+    built
+    (record {
+      machine = c.self.inside.state.machine;
+      entries = c.self.inside.state.entries;
+      change = c.self.inside.change;
+    })
+    c.self.invariant
+
+pub invariant_of-self-2 : goal.invariant_of-self-2
+invariant_of-self-2 g c =
+    let r : ReplicaValue = record {
+      machine = c.self.inside.state.machine;
+      entries = c.self.inside.state.entries;
+      change = c.self.inside.change;
+    } in
+    let m : c.enter.new.self.machine ≡ (step r.machine c.args.input).machine =
+    ap (λ (s : StateValue). s.machine) c.enter.ensures ∙ c.in_ok-done.ensures.ok.machine in
+    let entry : ◌≡◌ {A = Entry} (record { input = c.args.input; reply = c.in_ok-done.done.reply })
+    (record { input = c.args.input; reply = (step r.machine c.args.input).reply }) =
+    λ i. record { input = c.args.input; reply = c.in_ok-done.ensures.ok.reply i } in
+    let entries : c.enter.new.self.entries
+    ≡ r.entries ++ record { input = c.args.input; reply = (step r.machine c.args.input).reply } ∷ [] =
+    ap (λ (s : StateValue). s.entries) c.enter.ensures
+    ∙ (λ i. c.in_ok-done.ensures.ok.entries i ++ entry i ∷ []) in
+    let same : ◌≡◌ {A = ReplicaValue}
+    (record {
+      machine = c.enter.new.self.machine;
+      entries = c.enter.new.self.entries;
+      change = c.in_ok-done.done.change;
+    })
+    (after_step c.args.input r) =
+    λ i. record { machine = m i; entries = entries i; change = c.in_ok-done.ensures.ok.change i } in
+    subst IsReplica (sym same) (goes_on r c.self.invariant c.args.input c.is_in_range.ensures)

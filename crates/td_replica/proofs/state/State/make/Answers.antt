@@ -1,0 +1,17 @@
+use Rattle.td_replica.proofs.Stepping.{next_made, fresh_made, named_made}
+use Rattle.td_replica.proofs.state.State.make.Goals as goal
+
+pub next_op-op-requires-clause-named : goal.next_op-op-requires-clause-named
+next_op-op-requires-clause-named g c =
+    rw c.in_ok-reserve.ensures.same.machine
+    (named_made c.args.self.now.machine c.requires.built c.args.body.now c.requires.may)
+
+pub change_document-requires : goal.change_document-requires
+change_document-requires g c =
+    rw (c.next_op-op.ensures, c.in_ok-reserve.ensures.same.machine)
+    (fresh_made c.args.self.now.machine c.requires.built c.args.body.now c.requires.may)
+
+pub note-requires-clause-next : goal.note-requires-clause-next
+note-requires-clause-next g c =
+    rw (c.in_ok-change.ensures.ok, c.next_op-op.ensures, c.in_ok-reserve.ensures.same.machine)
+    (next_made c.args.self.now.machine c.requires.built c.args.body.now c.requires.may)

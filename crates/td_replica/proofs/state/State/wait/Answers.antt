@@ -1,0 +1,37 @@
+use Rattle.std.proofs.Common.{◌≡◌, ◌∙◌, length, sym, ap}
+use Rattle.td_causal.specs.declared.offer.Offer.{Offer}
+use Rattle.td_causal.specs.declared.offer.Offer.TheVariants.{Later}
+use Rattle.td_causal.specs.declared.waiting.Waiting.{Waiting}
+use Rattle.td_causal.specs.Offering.{offer_answer, kept_after}
+use Rattle.td_causal.specs.Waiting.{put_in_order}
+use Rattle.td_replica.specs.Parts.{StateValue}
+use Rattle.td_replica.proofs.Noting.{waits_too, wait_state}
+use Rattle.td_replica.proofs.state.State.wait.Goals as goal
+
+pub invariant_of-self-2 : goal.invariant_of-self-2
+invariant_of-self-2 g c =
+    let w : Waiting = record { op = c.args.op.now; number = c.kept-number.result } in
+    let later : c.in_ok-offer.field-0 ≡ Later =
+    c.in_ok-offer.ensures.answer
+    ∙ ap (λ (s : StateValue). offer_answer s.machine.have c.args.op.now s.machine.waiting) c.self.view_is
+    ∙ c.requires.late in
+    let waiting : c.offer.new.self ≡ put_in_order w c.self.inside.waiting =
+    c.in_ok-offer.ensures.kept ∙ ap (λ (a : Offer). kept_after a w c.self.inside.waiting) later in
+    let sized : length c.args.op.now.deps ≡ length c.self.inside.have =
+    c.requires.sized ∙ sym (ap (λ (s : StateValue). s.machine.size) c.self.view_is) in
+    rw (waiting, c.keep.ensures.past, c.kept-number.ensures)
+    (waits_too c.self.inside.site c.self.inside.have c.self.inside.waiting c.self.inside.holds c.self.inside.tally
+    c.self.inside.past c.self.invariant c.args.op.now sized)
+
+pub returns-clause-ok : goal.returns-clause-ok
+returns-clause-ok g c =
+    let w : Waiting = record { op = c.args.op.now; number = c.kept-number.result } in
+    let later : c.in_ok-offer.field-0 ≡ Later =
+    c.in_ok-offer.ensures.answer
+    ∙ ap (λ (s : StateValue). offer_answer s.machine.have c.args.op.now s.machine.waiting) c.self.view_is
+    ∙ c.requires.late in
+    let waiting : c.offer.new.self ≡ put_in_order w c.self.inside.waiting =
+    c.in_ok-offer.ensures.kept ∙ ap (λ (a : Offer). kept_after a w c.self.inside.waiting) later in
+    rw (waiting, c.keep.ensures.past, ← c.self.view_is)
+    (wait_state c.self.inside.site c.self.inside.have c.self.inside.waiting c.self.inside.holds c.self.inside.tally
+    c.self.inside.past c.self.invariant (g.D.Doc.rows c.self.inside.doc) c.args.op.now c.kept-number.result)

@@ -1,0 +1,5 @@
+pub mod Verdict
+pub mod Parts
+pub mod Steps
+pub mod Judging
+pub mod Replica

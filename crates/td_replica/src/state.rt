@@ -1,0 +1,347 @@
+// The parts of a replica, and what an operation does to them.
+ghost use Rattle.std.specs.Prelude.{◌≡◌, ◌<◌, ◌≤◌, ◌+◌, ◌++◌, ◌∷◌, [], length, slice_get, Some, None, IfOk, OnOk, OnErr, IfSome, IsNone, IsSome, IsTrue, find, option_map, ◌-◌, false, if◌then◌else◌};
+ghost use Rattle.td_base.specs.declared.site.TheConstants.{MAX_SITE};
+ghost use Rattle.td_base.specs.declared.dot.TheConstants.{MAX_SEQ};
+ghost use Rattle.td_op.specs.Op.{OpValue, body_site};
+ghost use Rattle.td_op.specs.declared.change.Change.TheVariants.{Cut};
+ghost use Rattle.td_doc.specs.Answers.{IsFresh, is_live_id, live_before};
+ghost use Rattle.td_machine.specs.Counts.{IsNext};
+ghost use Rattle.td_machine.specs.Log.{committed};
+ghost use Rattle.td_machine.specs.Machine.{Machine, made, next_op, start};
+ghost use Rattle.td_machine.specs.Making.{effect};
+ghost use Rattle.td_machine.specs.Shown.{change_by, put_at_index};
+ghost use Rattle.td_machine.specs.Making.{holds_after};
+ghost use Rattle.td_machine.specs.Making.{hold, send};
+ghost use Rattle.td_machine.specs.Ready.{without, next_ready};
+ghost use Rattle.td_machine.specs.Decision.{is_on, revise, close};
+ghost use Rattle.td_coord.specs.Tally.{put_ballot, started, voted, is_open_found};
+ghost use Rattle.td_causal.specs.Offering.{offer_answer};
+ghost use Rattle.td_causal.specs.declared.offer.Offer.TheVariants.{Later};
+ghost use Rattle.td_causal.specs.declared.waiting.Waiting.{Waiting as WaitingOp};
+ghost use Rattle.td_causal.specs.Waiting.{others_than};
+ghost use Rattle.td_op.specs.declared.message.Message.TheVariants.{Vote as AVote};
+ghost use Rattle.td_doc.specs.Flatten.{flatten};
+ghost use Rattle.std.specs.Option.{ForSome};
+ghost use Rattle.td_history.specs.Past.{IsUndecided, IsNextIn, decided_by};
+ghost use Rattle.td_replica.specs.Parts.{StateValue, IsAsBefore, HasRoomFor, ComesFrom, with_effect, with_note, with_machine, with_ballots, waiting_too, ops_with, commits_after, logged};
+
+use std::alloc::Global;
+use std::marker::Model;
+use td_base::{AtomId, Dot, Memory, Run, Site};
+use td_causal::{Buffer, Waiting};
+use td_clock::Vector;
+use td_coord::Tally;
+use td_doc::{Doc, DocFault};
+use td_history::History;
+use td_op::{Body, Change, Op, Vote};
+use td_path::Slot;
+use td_vote::Holds;
+
+/// The parts of a replica: one for each part of its machine.
+#[derive(Drop)]
+pub struct State<D: Doc> {
+    pub(crate) site: Site,
+    pub(crate) doc: D,
+    // how many operations of each site were made or taken
+    pub(crate) have: Vector,
+    pub(crate) waiting: Buffer,
+    pub(crate) holds: Holds,
+    pub(crate) tally: Tally,
+    // the log, what was sent, and the entries
+    pub(crate) past: History,
+}
+
+impl<D: Doc> Model for State<D> {
+    ghost use Rattle.td_replica.specs.Parts.{StateValue, IsState, state_of};
+
+    ghost Value = { StateValue };
+
+    ghost view = { λ s. state_of s.site (D.rows s.doc) s.have s.waiting s.holds s.tally s.past };
+
+    ghost invariant = { λ s. IsState s.site s.have s.waiting s.holds s.tally s.past };
+}
+
+/// Whence an operation comes that is made or taken.
+#[derive(Clone, Copy, Debug, PartialEq, Eq)]
+pub enum Origin {
+    /// It is made here.
+    Here,
+    /// Another site sent it.
+    There,
+    /// It waited, stored by this number.
+    Waiting { number: u32 },
+}
+
+impl<D: Doc> State<D> {
+    pub(crate) fn new(alloc: Global, site: Site, n: u8) -> Result<State<D>, Memory>
+        requires small { n ≤ MAX_SITE }
+        requires within { site ≤ n }
+        ensures { IfOk result (λ s. (s.machine ≡ start site n) × (s.entries ≡ [])) }
+    {
+        Ok(State {
+            site,
+            doc: D::empty(alloc)?,
+            have: Vector::new(n),
+            waiting: Buffer::new(alloc),
+            holds: Holds::new(alloc),
+            tally: Tally::new(alloc, n, site),
+            past: History::new(alloc, site, n)?,
+        })
+    }
+
+    pub(crate) fn made(&self) -> u32
+        ensures made { result ≡ made self.now.machine }
+        ensures small { result ≤ MAX_SEQ }
+    {
+        self.have.get(self.site)
+    }
+
+    // Makes room for all that one step may note, of operations of the site.
+    pub(crate) fn reserve(&mut self, of: Site) -> Result<(), Memory>
+        requires { of ≤ self.old.machine.size }
+        ensures same { IsAsBefore self.old self.new }
+        ensures ok { OnOk result (HasRoomFor of self.new.room) }
+    {
+        self.past.reserve(of)?;
+        self.holds.reserve()?;
+        self.tally.reserve()
+    }
+
+    // The next operation of this site, with this body.
+    pub(crate) fn next_op(&self, body: &Body) -> Op
+        requires room { made self.now.machine < MAX_SEQ }
+        requires named { IfSome (body_site body.now) (λ site. site ≤ self.now.machine.size) }
+        ensures { result ≡ next_op self.now.machine body.now }
+    {
+        let dot = Dot::new(self.site, self.made() + 1).unwrap();
+        Op::new(dot, self.have, *body).unwrap()
+    }
+
+    // Does to the document what the operation does to it, and tells what that does to the atoms shown. Where it finds
+    // no memory, the document is as before.
+    pub(crate) fn change_document(&mut self, op: &Op) -> Result<Option<Change>, Memory>
+        requires { IsFresh self.old.machine.doc op.now.dot }
+        ensures ok { OnOk result (self.new ≡ record self.old { machine = with_effect op.now self.old.machine }) }
+        ensures change { IfOk result (λ change.
+            change ≡ change_by op.now.dot op.now.body self.old.machine.doc) }
+        ensures err { OnErr result (self.new ≡ self.old) }
+    {
+        let dot = op.dot();
+        match op.body() {
+            Body::Insert { slot, run } => {
+                self.doc.insert_run(slot, dot, run).map_err(memory)?;
+                let index = live_before(&self.doc, AtomId::of(dot));
+                Ok(Some(put_at(index, &run)))
+            }
+            Body::Delete { target } => {
+                let cut = cut_of(&self.doc, target);
+                self.doc.delete(target, dot).map_err(memory)?;
+                Ok(cut)
+            }
+            Body::Commit { proposal } => {
+                if let Some(slot) = self.past.proposed_slot(proposal) {
+                    self.doc.flatten(slot).map_err(memory)?;
+                }
+                Ok(None)
+            }
+            Body::Propose { .. } | Body::Abort { .. } => Ok(None),
+        }
+    }
+
+    // Notes an operation that is made or taken: all that it does but to the document and to the ballots.
+    pub(crate) fn note(&mut self, op: &Op, origin: Origin)
+        requires next { IsNext self.old.machine.have op.now }
+        requires decides { IfSome (decided_by op.now.body) (IsUndecided self.old.machine.log) }
+        requires comes { ComesFrom origin op.now self.old.machine.site self.old.ops }
+        requires things { 1 ≤ self.old.room.things }
+        requires site { self.old.room.site ≡ op.now.dot.site }
+        requires commit { 1 ≤ self.old.room.commits }
+        ensures machine { self.new.machine ≡ with_note origin op.now self.old.machine }
+        ensures entries { self.new.entries ≡ self.old.entries }
+        ensures ops { self.new.ops ≡ ops_with origin op.now self.old.ops }
+        ensures waiting { self.new.waiting ≡ self.old.waiting }
+        ensures things { self.new.room.things + 1 ≡ self.old.room.things }
+        ensures site { self.new.room.site ≡ self.old.room.site }
+        ensures holds { self.old.room.holds ≤ self.new.room.holds }
+        ensures commits { self.old.room.commits ≤ self.new.room.commits + 1 }
+        ensures same_commits { IsNone (committed op.now.body) → self.old.room.commits ≤ self.new.room.commits }
+        ensures ballots { self.new.room.ballots ≡ self.old.room.ballots }
+    {
+        end_hold(&mut self.holds, &self.past, op);
+        self.have.bump(op.dot().site);
+        log(&mut self.past, op, origin);
+    }
+
+    // Flattens the slot of the document.
+    pub(crate) fn flatten(&mut self, slot: &Slot) -> Result<(), Memory>
+        ensures ok { OnOk result (self.new ≡ with_machine
+            (record self.old.machine { doc = flatten slot.now self.old.machine.doc }) self.old) }
+        ensures err { OnErr result (self.new ≡ self.old) }
+    {
+        self.doc.flatten(*slot).map_err(memory)
+    }
+
+    // Holds the slot for the proposal.
+    pub(crate) fn hold(&mut self, proposal: Dot, slot: &Slot)
+        requires { 1 ≤ self.old.room.holds }
+        ensures { self.new ≡ record self.old {
+          machine = hold proposal slot.now self.old.machine;
+          room = record self.old.room { holds = self.new.room.holds };
+        } }
+    {
+        self.holds.hold(proposal, *slot).unwrap();
+    }
+
+    // Opens the ballot on an own proposal.
+    pub(crate) fn open(&mut self, proposal: Dot)
+        requires new { IsNone (find (is_on proposal) self.old.machine.ballots) }
+        requires room { 1 ≤ self.old.room.ballots }
+        ensures { self.new ≡ record self.old {
+          machine = with_ballots
+              (put_ballot (started self.old.machine.size self.old.machine.site proposal) self.old.machine.ballots)
+              self.old.machine;
+          room = record self.old.room { ballots = self.new.room.ballots };
+        } }
+    {
+        self.tally.start(proposal).unwrap();
+    }
+
+    // Counts the vote on an own proposal.
+    pub(crate) fn count(&mut self, vote: &Vote)
+        requires started { IsSome (find (is_on vote.now.proposal) self.old.machine.ballots) }
+        requires voter { vote.now.voter ≤ self.old.machine.size }
+        ensures { ForSome (find (is_on vote.now.proposal) self.old.machine.ballots) (λ b. self.new ≡ with_machine
+            (with_ballots (voted self.old.machine.size vote.now b self.old.machine.ballots) self.old.machine)
+            self.old) }
+    {
+        self.tally.count(*vote);
+    }
+
+    // Closes the ballot on an own open proposal, as an abort.
+    pub(crate) fn close(&mut self, proposal: Dot)
+        requires { IsTrue (is_open_found (find (is_on proposal) self.old.machine.ballots)) }
+        ensures { self.new ≡ with_machine
+            (with_ballots (revise proposal (close false) self.old.machine.ballots) self.old.machine) self.old }
+    {
+        self.tally.cancel(proposal);
+    }
+
+    // Sends the vote on another site's proposal.
+    pub(crate) fn send_vote(&mut self, proposal: Dot, yes: bool)
+        requires { 1 ≤ self.old.room.things }
+        ensures { self.new ≡ record self.old {
+          machine = send (AVote (record { proposal = proposal; voter = self.old.machine.site; yes = yes }))
+              self.old.machine;
+          room = record self.old.room { things = self.old.room.things - 1 };
+        } }
+    {
+        self.past.vote(proposal, yes);
+    }
+
+    // The least ready operation of those that wait, with the number by which it is stored.
+    pub(crate) fn next_waiting(&self) -> Option<Waiting>
+        ensures least { option_map (λ (w : WaitingOp). w.op) result
+            ≡ next_ready self.now.machine.have self.now.machine.waiting }
+        ensures stored { IfSome result (λ w. slice_get self.now.ops w.number ≡ Some w.op) }
+    {
+        self.waiting.next_ready(&self.have)
+    }
+
+    // The operation waits until those come that it depends on. Its number is answered.
+    pub(crate) fn wait(&mut self, op: &Op) -> Result<u32, Memory>
+        requires sized { length op.now.deps ≡ self.old.machine.size }
+        requires late { offer_answer self.old.machine.have op.now self.old.machine.waiting ≡ Later }
+        requires room { 1 ≤ self.old.room.things }
+        ensures ok { IfOk result (λ number. self.new ≡ waiting_too op.now number self.old) }
+        ensures number { IfOk result (λ number. number ≡ length self.old.ops) }
+        ensures err { OnErr result (self.new ≡ self.old) }
+    {
+        let number = self.past.kept();
+        self.waiting.offer(&self.have, *op, number)?;
+        self.past.keep(op);
+        Ok(number)
+    }
+
+    // The operation with the dot no longer waits.
+    pub(crate) fn forget(&mut self, dot: Dot)
+        ensures { self.new ≡ record self.old {
+          machine = record self.old.machine { waiting = without dot self.old.machine.waiting };
+          waiting = others_than dot self.old.waiting;
+        } }
+    {
+        self.waiting.remove(dot);
+    }
+}
+
+// A decision ends the hold of its proposal, and a commit is known from then on.
+fn end_hold(holds: &mut Holds, past: &History, op: &Op)
+    requires place { 1 ≤ holds.old.commit_places }
+    ensures holds { holds.new.holds ≡ holds_after op.now.body holds.old.holds }
+    ensures commits { holds.new.commits ≡ commits_after op.now past.now.log holds.old.commits }
+    ensures hold_places { holds.old.hold_places ≤ holds.new.hold_places }
+    ensures commit_places { holds.old.commit_places ≤ holds.new.commit_places + 1 }
+    ensures same_places { IsNone (committed op.now.body) → holds.old.commit_places ≤ holds.new.commit_places }
+{
+    match op.body() {
+        Body::Commit { proposal } => {
+            holds.release(proposal);
+            if let Some(slot) = past.proposed_slot(proposal) {
+                holds.committed(op.dot(), slot).unwrap();
+            }
+        }
+        Body::Abort { proposal } => holds.release(proposal),
+        Body::Insert { .. } | Body::Delete { .. } | Body::Propose { .. } => {}
+    }
+}
+
+// The operation comes into the log.
+fn log(past: &mut History, op: &Op, origin: Origin)
+    requires room { 1 ≤ past.old.room }
+    requires next { IsNextIn past.old.size past.old.room_site past.old.log op.now }
+    requires comes { ComesFrom origin op.now past.old.site past.old.ops }
+    ensures { past.new ≡ logged origin op.now past.old }
+{
+    match origin {
+        Origin::Here => past.make(op),
+        Origin::There => past.take(op),
+        Origin::Waiting { number } => past.resume(number),
+    }
+}
+
+// How many live atoms stand before the atom, or all of them where it is no row.
+fn live_before<D: Doc>(doc: &D, id: AtomId) -> u32
+    ensures { result ≡ live_before id (D.rows doc.now) }
+{
+    match doc.find(id) {
+        Some(row) => row.index,
+        None => doc.live(),
+    }
+}
+
+// What a delete of the row does to the atoms shown.
+fn cut_of<D: Doc>(doc: &D, target: AtomId) -> Option<Change>
+    ensures { result ≡ (if is_live_id (D.rows doc.now) target
+        then Some (Cut (live_before target (D.rows doc.now))) else None) }
+{
+    if !doc.is_live(target) {
+        return None;
+    }
+    Some(Change::Cut {
+        index: live_before(doc, target),
+    })
+}
+
+// The run put at the index: one atom is put alone.
+fn put_at(index: u32, run: &Run) -> Change
+    ensures { result ≡ put_at_index index run.now }
+{
+    match run.atom(0) {
+        Some(atom) if run.len() == 1 => Change::Put { index, atom },
+        _ => Change::PutRun { index, run: *run },
+    }
+}
+
+// A document finds no atom gone that an operation names which fits it, so want of memory is what is left.
+pub(crate) fn memory(_fault: DocFault) -> Memory {
+    Memory
+}

@@ -1,0 +1,5 @@
+mod bad_messages;
+mod flattens;
+mod merges;
+mod refusals;
+mod steps;
