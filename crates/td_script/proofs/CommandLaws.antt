@@ -1,5 +1,5 @@
 -- The commands behind a site: what is read is the line of the command.
-use Rattle.std.proofs.Common.{◌≡◌, ◌≢◌, ◌<◌, ◌≤◌, ◌^◌, ℕ, Bool, true, false, cond, List, [], ◌∷◌, ◌++◌, get_or, codes}
+use Rattle.std.proofs.Common.{◌≡◌, ◌≢◌, ◌<◌, ◌^◌, ℕ, Bool, true, false, cond, List, [], ◌∷◌, ◌++◌, get_or, codes}
 use Rattle.std.proofs.Common.{Ok, refl, sym, ap, subst, ◌∙◌, append-nil, bytes_eq, IsUtf8, arith}
 use Rattle.std.specs.Fmt.{decimal}
 use Rattle.std.specs.Int.{IsInRange}
@@ -10,19 +10,19 @@ use Rattle.std.proofs.lemmas.Str.{IsUtf8-append, IsUtf8-from_ascii}
 use Rattle.std.proofs.lemmas.Str.Ascii.{IsAscii-cons, IsAscii-from_all, IsAscii-nil}
 use Rattle.unicode_segmentation.proofs.TextLemmas.{IsUtf8-after}
 use Rattle.td_script.specs.declared.command.Command.{Command}
-use Rattle.td_script.specs.declared.command.Command.TheVariants.{Ins, Paste, Del, Flat, FlatAuto, Cancel, Give, GiveAll}
-use Rattle.td_script.specs.declared.command.Command.TheVariants.{Show, Tree, Count, Mark, Meet, Marks}
+use Rattle.td_script.specs.declared.command.Command.TheVariants.{Ins, Paste, Del, Flat, Cancel, Give, GiveAll}
+use Rattle.td_script.specs.declared.command.Command.TheVariants.{Show, Tree, Count}
 use Rattle.td_script.specs.declared.command.Place.TheVariants.{Whole, Beside}
 use Rattle.td_script.specs.declared.word.Word.TheVariants.{AtSite}
 use Rattle.td_script.specs.declared.word.SiteWord.{SiteWord}
 use Rattle.td_script.specs.declared.word.SiteWord.TheVariants as At
-use Rattle.td_script.specs.Arguments.{behind, by_word, with_rest, last, number_of, site_of, dot_of, name_of, bit_of}
+use Rattle.td_script.specs.Arguments.{behind, by_word, with_rest, last, number_of, dot_of, bit_of}
 use Rattle.td_script.specs.Arguments.{text_at, word_at}
-use Rattle.td_script.specs.Faults.{site_command, flat_beside, mark_at}
-use Rattle.td_script.specs.Script.{IsNumber, IsSiteOf, IsCommand}
+use Rattle.td_script.specs.Faults.{site_command, flat_beside}
+use Rattle.td_script.specs.Script.{IsSiteOf, IsCommand}
 use Rattle.td_script.specs.Spelling.{line_of, spaced, spaced_bit, spaced_dot, spaced_text}
 use Rattle.td_script.specs.Words.{spelling}
-use Rattle.td_script.proofs.ArgumentLaws.{number_at_back, site_at_back, dot_at_back, name_at_back, bit_at_back}
+use Rattle.td_script.proofs.ArgumentLaws.{number_at_back, dot_at_back, bit_at_back}
 use Rattle.td_script.proofs.Numbers.{form_of_decimal}
 use Rattle.td_script.proofs.NumberWords.{number_back}
 use Rattle.td_script.proofs.Splitting.{Lacks}
@@ -121,34 +121,25 @@ beside_back sites site rest word left c begins e =
     subst (IsSaid sites site At.Flat rest) end.0
     ((λ s. (s, index.0)), ap (λ (xs : List ℕ). codes "flat" ++ (spaced site ++ xs)) whole)
 
-flat_word_back : (sites site : ℕ) (rest word left : List ℕ) (c : Command) (x y : Bool) → rest ≡ 32 ∷ (word ++ left)
-    → bytes_eq word (codes "root") ≡ x → bytes_eq word (codes "auto") ≡ y
-    → cond x (last (Flat site Whole) left) (cond y (last (FlatAuto site) left) (flat_beside site word left)) ≡ Ok c
-    → IsSaid sites site At.Flat rest c
-flat_word_back sites site rest word left c true y begins is is' e =
+flat_word_back : (sites site : ℕ) (rest word left : List ℕ) (c : Command) (x : Bool) → rest ≡ 32 ∷ (word ++ left)
+    → bytes_eq word (codes "root") ≡ x
+    → cond x (last (Flat site Whole) left) (flat_beside site word left) ≡ Ok c → IsSaid sites site At.Flat rest c
+flat_word_back sites site rest word left c true begins is e =
     let end = last_back (Flat site Whole) c left e in
     subst (IsSaid sites site At.Flat rest) end.0 (
       (λ s. s),
       ap (λ (xs : List ℕ). codes "flat" ++ (spaced site ++ xs))
           (fixed_word rest word left (codes "root") begins is end.1),
     )
-flat_word_back sites site rest word left c false true begins is is' e =
-    let end = last_back (FlatAuto site) c left e in
-    subst (IsSaid sites site At.Flat rest) end.0 (
-      (λ s. s),
-      ap (λ (xs : List ℕ). codes "flat" ++ (spaced site ++ xs))
-          (fixed_word rest word left (codes "auto") begins is' end.1),
-    )
-flat_word_back sites site rest word left c false false begins is is' e =
-    beside_back sites site rest word left c begins e
+flat_word_back sites site rest word left c false begins is e = beside_back sites site rest word left c begins e
 
 flat_back : (sites site : ℕ) (rest : List ℕ) (c : Command) → site_command sites site At.Flat rest ≡ Ok c
     → IsSaid sites site At.Flat rest c
 flat_back sites site rest c e =
     let first = behind_back (word_at rest) _ c e in
     let spaced_word = word_at_back rest first.value first.rest first.is in
-    flat_word_back sites site rest first.value first.rest c (bytes_eq first.value (codes "root"))
-    (bytes_eq first.value (codes "auto")) spaced_word.whole refl refl first.then_is
+    flat_word_back sites site rest first.value first.rest c
+    (bytes_eq first.value (codes "root")) spaced_word.whole refl first.then_is
 
 give_number_back : (sites site : ℕ) (rest word left : List ℕ) (c : Command) → rest ≡ 32 ∷ (word ++ left)
     → behind (with_rest left (number_of word)) (λ number rest. last (Give site number) rest) ≡ Ok c
@@ -194,70 +185,6 @@ cancel_back sites site rest c e =
     subst (IsSaid sites site At.Cancel rest) end.0
     ((λ s. (s, dot.fits)), ap (λ (xs : List ℕ). codes "cancel" ++ (spaced site ++ xs)) whole)
 
-meet_back : (sites site : ℕ) (rest : List ℕ) (c : Command) → site_command sites site At.Meet rest ≡ Ok c
-    → IsSaid sites site At.Meet rest c
-meet_back sites site rest c e =
-    let first = behind_back (by_word (site_of sites) rest) _ c e in
-    let other = site_at_back sites rest first.value first.rest first.is in
-    let end = last_back (Meet site first.value) c first.rest first.then_is in
-    let whole : rest ≡ spaced first.value = other.whole ∙ ended (spaced first.value) first.rest end.1 in
-    subst (IsSaid sites site At.Meet rest) end.0
-    ((λ s. (s, other.fits)), ap (λ (xs : List ℕ). codes "meet" ++ (spaced site ++ xs)) whole)
-
--- a name, an index and a count
-record IsMarked (site : ℕ) (add : Bool) (rest : List ℕ) (c : Command) : Type 0 where
-  name : ℕ
-  index : ℕ
-  count : ℕ
-  fits_name : name ≤ 31
-  fits_index : IsNumber index
-  fits_count : IsNumber count
-  whole : rest ≡ spaced name ++ (spaced index ++ spaced count)
-  is : Mark site add name index count ≡ c
-
-mark_back : (site : ℕ) (add : Bool) (rest : List ℕ) (c : Command) → mark_at site add rest ≡ Ok c
-    → IsMarked site add rest c
-mark_back site add rest c e =
-    let first = behind_back (by_word name_of rest) _ c e in
-    let name = name_at_back rest first.value first.rest first.is in
-    let second = behind_back (by_word number_of first.rest) _ c first.then_is in
-    let index = number_at_back first.rest second.value second.rest second.is in
-    let third = behind_back (by_word number_of second.rest) _ c second.then_is in
-    let count = number_at_back second.rest third.value third.rest third.is in
-    let end = last_back (Mark site add first.value second.value third.value) c third.rest third.then_is in
-    record {
-      name = first.value;
-      index = second.value;
-      count = third.value;
-      fits_name = name.fits;
-      fits_index = index.fits;
-      fits_count = count.fits;
-      whole = name.whole ∙ ap (λ (xs : List ℕ). spaced first.value ++ xs)
-          (index.whole ∙ ap (λ (xs : List ℕ). spaced second.value ++ xs)
-          (count.whole ∙ ended (spaced third.value) third.rest end.1));
-      is = end.0;
-    }
-
-marked_back : (sites site : ℕ) (rest : List ℕ) (c : Command) → mark_at site true rest ≡ Ok c
-    → IsSaid sites site At.Mark rest c
-marked_back sites site rest c e =
-    let is = mark_back site true rest c e in
-    subst (IsSaid sites site At.Mark rest) is.is (
-      (λ s. (s, is.fits_name, is.fits_index, is.fits_count)),
-      ap
-          (λ (xs : List ℕ). codes "mark" ++ (spaced site ++ xs)) is.whole,
-    )
-
-unmarked_back : (sites site : ℕ) (rest : List ℕ) (c : Command) → mark_at site false rest ≡ Ok c
-    → IsSaid sites site At.Unmark rest c
-unmarked_back sites site rest c e =
-    let is = mark_back site false rest c e in
-    subst (IsSaid sites site At.Unmark rest) is.is (
-      (λ s. (s, is.fits_name, is.fits_index, is.fits_count)),
-      ap
-          (λ (xs : List ℕ). codes "unmark" ++ (spaced site ++ xs)) is.whole,
-    )
-
 -- a command that has nothing behind its site
 alone_back : (sites site : ℕ) (word : SiteWord) (made : Command) (rest : List ℕ) (c : Command)
     → (IsSiteOf sites site → IsCommand sites made) → line_of made ≡ spelling (AtSite word) ++ spaced site
@@ -279,8 +206,3 @@ site_command_back sites site At.Show rest c u lacks e = alone_back sites site At
 site_command_back sites site At.Tree rest c u lacks e = alone_back sites site At.Tree (Tree site) rest c (λ s. s) refl e
 site_command_back sites site At.Count rest c u lacks e =
     alone_back sites site At.Count (Count site) rest c (λ s. s) refl e
-site_command_back sites site At.Mark rest c u lacks e = marked_back sites site rest c e
-site_command_back sites site At.Unmark rest c u lacks e = unmarked_back sites site rest c e
-site_command_back sites site At.Meet rest c u lacks e = meet_back sites site rest c e
-site_command_back sites site At.Marks rest c u lacks e =
-    alone_back sites site At.Marks (Marks site) rest c (λ s. s) refl e

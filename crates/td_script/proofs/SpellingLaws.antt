@@ -10,8 +10,8 @@ use Rattle.td_base.specs.declared.bit.Bit.TheVariants.{Left, Right}
 use Rattle.td_base.specs.declared.site.TheConstants.{MAX_SITE}
 use Rattle.td_script.specs.declared.before.Before.{Before}
 use Rattle.td_script.specs.declared.command.Command.{Command}
-use Rattle.td_script.specs.declared.command.Command.TheVariants.{Sites, Ins, Paste, Del, Flat, FlatAuto, Cancel, Give}
-use Rattle.td_script.specs.declared.command.Command.TheVariants.{GiveAll, Settle, Show, Tree, Count, Mark, Meet, Marks}
+use Rattle.td_script.specs.declared.command.Command.TheVariants.{Sites, Ins, Paste, Del, Flat, Cancel, Give}
+use Rattle.td_script.specs.declared.command.Command.TheVariants.{GiveAll, Settle, Show, Tree, Count}
 use Rattle.td_script.specs.declared.command.Place.TheVariants.{Whole, Beside}
 use Rattle.td_script.specs.declared.kind.Kind.{Kind}
 use Rattle.td_script.specs.declared.kind.Kind.TheVariants as Fault
@@ -19,15 +19,15 @@ use Rattle.td_script.specs.declared.word.Word.{Word}
 use Rattle.td_script.specs.declared.word.Word.TheVariants as First
 use Rattle.td_script.specs.declared.word.SiteWord.{SiteWord}
 use Rattle.td_script.specs.declared.word.SiteWord.TheVariants as At
-use Rattle.td_script.specs.Arguments.{behind, by_word, bit_of, dot_of, number_of, site_of, text_at, with_rest, last}
+use Rattle.td_script.specs.Arguments.{behind, by_word, bit_of, dot_of, number_of, text_at, with_rest, last}
 use Rattle.td_script.specs.Arguments.{cut_word}
-use Rattle.td_script.specs.Faults.{command, flat_at, flat_beside, give_at, is_misplaced, is_too_wide, mark_at}
+use Rattle.td_script.specs.Faults.{command, flat_at, flat_beside, give_at, is_misplaced, is_too_wide}
 use Rattle.td_script.specs.Faults.{site_command, sites_at}
 use Rattle.td_script.specs.Script.{IsNumber, IsSiteOf, IsDotOf, IsClusters, IsCommand}
 use Rattle.td_script.specs.Spelling.{line_of, spaced, spaced_bit, spaced_dot, spaced_text}
 use Rattle.td_script.specs.Words.{spelling}
 use Rattle.td_script.proofs.ArgumentLaws.{decimal_lacks, number_of_decimal, number_at_there, site_at_there}
-use Rattle.td_script.proofs.ArgumentLaws.{sites_at_there, name_at_there, dot_at_there, bit_at_there}
+use Rattle.td_script.proofs.ArgumentLaws.{sites_at_there, dot_at_there, bit_at_there}
 use Rattle.td_script.proofs.Numbers.{form_of_decimal}
 use Rattle.td_script.proofs.Results.{err_is_no_ok}
 use Rattle.td_script.proofs.TextLaws.{text_at_there}
@@ -36,9 +36,6 @@ use Rattle.td_script.proofs.WordLaws.{IsOpen, behind_there, word_at_there}
 -- an argument that stands last
 number_end : (n : ℕ) → IsNumber n → by_word number_of (spaced n) ≡ Ok (n, [])
 number_end n h = ap (by_word number_of) (sym (append-nil (spaced n))) ∙ number_at_there n [] h tt
-
-site_end : (sites n : ℕ) → sites ≤ MAX_SITE → IsSiteOf sites n → by_word (site_of sites) (spaced n) ≡ Ok (n, [])
-site_end sites n few h = ap (by_word (site_of sites)) (sym (append-nil (spaced n))) ∙ site_at_there sites n [] few h tt
 
 dot_end : (sites : ℕ) (d : DotValue) → sites ≤ MAX_SITE → IsDotOf sites d
     → by_word (dot_of sites) (spaced_dot d) ≡ Ok (d, [])
@@ -90,10 +87,7 @@ flat_there sites site index bit h free =
     (word_at_there (decimal index) (spaced_bit bit) (form_of_decimal index h).some
     (decimal_lacks 32 index h (omega arith)) free)
     ∙ cond-false (bytes_eq (decimal index) (codes "root")) (last (Flat site Whole) (spaced_bit bit))
-    (cond (bytes_eq (decimal index) (codes "auto")) (last (FlatAuto site) (spaced_bit bit))
-    (flat_beside site (decimal index) (spaced_bit bit))) (not_name index (codes "root") h refl)
-    ∙ cond-false (bytes_eq (decimal index) (codes "auto")) (last (FlatAuto site) (spaced_bit bit))
-    (flat_beside site (decimal index) (spaced_bit bit)) (not_name index (codes "auto") h refl)
+    (flat_beside site (decimal index) (spaced_bit bit)) (not_name index (codes "root") h refl)
     ∙ beside_there site index bit h
 
 give_there : (sites site number : ℕ) → IsNumber number
@@ -111,17 +105,6 @@ give_there sites site number h =
 cancel_there : (sites site : ℕ) (d : DotValue) → sites ≤ MAX_SITE → IsDotOf sites d
     → site_command sites site At.Cancel (spaced_dot d) ≡ Ok (Cancel site d)
 cancel_there sites site d few h = behind_there _ _ d [] (dot_end sites d few h)
-
-meet_there : (sites site other : ℕ) → sites ≤ MAX_SITE → IsSiteOf sites other
-    → site_command sites site At.Meet (spaced other) ≡ Ok (Meet site other)
-meet_there sites site other few h = behind_there _ _ other [] (site_end sites other few h)
-
-mark_there : (site : ℕ) (add : Bool) (name index count : ℕ) → name ≤ 31 → IsNumber index → IsNumber count
-    → mark_at site add (spaced name ++ (spaced index ++ spaced count)) ≡ Ok (Mark site add name index count)
-mark_there site add name index count h i k =
-    behind_there _ _ name (spaced index ++ spaced count) (name_at_there name (spaced index ++ spaced count) h refl)
-    ∙ behind_there _ _ index (spaced count) (number_at_there index (spaced count) i refl)
-    ∙ behind_there _ _ count [] (number_end count k)
 
 -- a command behind its word
 at_site : (size : ℕ) (before : Before) (word : SiteWord) (site : ℕ) (rest : List ℕ) (c : Command)
@@ -175,9 +158,6 @@ line_there size before (Flat site (Beside index bit)) few h =
     line_at_site size before At.Flat (spaced site ++ (spaced index ++ spaced_bit bit)) _ _ refl
     (at_site size before At.Flat site (spaced index ++ spaced_bit bit) (Flat site (Beside index bit)) few h.0 refl
     (flat_there before.sites site index bit h.1 (bit_open bit)))
-line_there size before (FlatAuto site) few h =
-    line_at_site size before At.Flat (spaced site ++ codes " auto") _ _ refl
-    (at_site size before At.Flat site (codes " auto") (FlatAuto site) few h refl refl)
 line_there size before (Cancel site proposal) few h =
     line_at_site size before At.Cancel (spaced site ++ spaced_dot proposal) _ _ refl
     (at_site size before At.Cancel site (spaced_dot proposal) (Cancel site proposal) few h.0 refl
@@ -199,21 +179,6 @@ line_there size before (Tree site) few h =
 line_there size before (Count site) few h =
     line_at_site size before At.Count (spaced site) _ _ refl
     (at_site_alone size before At.Count site (Count site) few h refl)
-line_there size before (Mark site true name index count) few h =
-    line_at_site size before At.Mark (spaced site ++ (spaced name ++ (spaced index ++ spaced count))) _ _ refl
-    (at_site size before At.Mark site (spaced name ++ (spaced index ++ spaced count))
-    (Mark site true name index count) few h.0 refl (mark_there site true name index count h.1 h.2 h.3))
-line_there size before (Mark site false name index count) few h =
-    line_at_site size before At.Unmark (spaced site ++ (spaced name ++ (spaced index ++ spaced count))) _ _ refl
-    (at_site size before At.Unmark site (spaced name ++ (spaced index ++ spaced count))
-    (Mark site false name index count) few h.0 refl (mark_there site false name index count h.1 h.2 h.3))
-line_there size before (Meet site other) few h =
-    line_at_site size before At.Meet (spaced site ++ spaced other) _ _ refl
-    (at_site size before At.Meet site (spaced other) (Meet site other) few h.0 refl
-    (meet_there before.sites site other few h.1))
-line_there size before (Marks site) few h =
-    line_at_site size before At.Marks (spaced site) _ _ refl
-    (at_site_alone size before At.Marks site (Marks site) few h refl)
 
 pub sites_line_there : (size : ℕ) (before : Before) (n : ℕ) → IsSiteOf MAX_SITE n → is_too_wide size n ≡ false
     → IsLineOf size before (line_of (Sites n)) (Sites n) (ltb 0 before.sites)

@@ -1,9 +1,9 @@
 -- The order in which a line is judged, and the first fault of a script.
-use Rattle.std.specs.Prelude.{ℕ, Bool, true, false, ◌+◌, ◌==◌, ◌&&◌, ◌||◌, not, nat_lt, if◌then◌else◌}
+use Rattle.std.specs.Prelude.{ℕ, Bool, ◌+◌, ◌==◌, ◌&&◌, ◌||◌, not, nat_lt, if◌then◌else◌}
 use Rattle.std.specs.Prelude.{List, [], ◌∷◌, Option, Some, None, Result, Ok, Err, codes, length, bytes_eq}
 use Rattle.td_script.specs.declared.command.Command.{Command}
-use Rattle.td_script.specs.declared.command.Command.TheVariants.{Sites, Ins, Paste, Del, Flat, FlatAuto, Cancel, Give}
-use Rattle.td_script.specs.declared.command.Command.TheVariants.{GiveAll, Settle, Show, Tree, Count, Mark, Meet, Marks}
+use Rattle.td_script.specs.declared.command.Command.TheVariants.{Sites, Ins, Paste, Del, Flat, Cancel, Give}
+use Rattle.td_script.specs.declared.command.Command.TheVariants.{GiveAll, Settle, Show, Tree, Count}
 use Rattle.td_script.specs.declared.command.Place.TheVariants.{Whole, Beside}
 use Rattle.td_script.specs.declared.before.Before.{Before}
 use Rattle.td_script.specs.declared.before.TheConstants.{MAX_NARROW, MAX_FREE}
@@ -16,7 +16,7 @@ use Rattle.td_script.specs.declared.word.Word.TheVariants as First
 use Rattle.td_script.specs.declared.word.SiteWord.{SiteWord}
 use Rattle.td_script.specs.declared.word.SiteWord.TheVariants as AtSite
 use Rattle.td_script.specs.Arguments.{behind, last, with_rest, by_word, word_at, cut_word}
-use Rattle.td_script.specs.Arguments.{number_of, sites_of, site_of, name_of, dot_of, bit_of, text_at}
+use Rattle.td_script.specs.Arguments.{number_of, sites_of, site_of, dot_of, bit_of, text_at}
 use Rattle.td_script.specs.Lines.{lines_of, is_text_line, is_skipped}
 use Rattle.td_script.specs.Script.{requests}
 use Rattle.td_script.specs.Words.{word_named}
@@ -27,11 +27,10 @@ flat_beside site word rest =
     behind (with_rest rest (number_of word)) (λ index rest. behind (by_word bit_of rest) (λ bit rest.
     last (Flat site (Beside index bit)) rest))
 
--- behind the site of a `flat`: `root`, `auto`, or an index and a bit
+-- behind the site of a `flat`: `root`, or an index and a bit
 abbrev pub flat_at : ℕ → List ℕ → List ℕ → Result Command Kind
 flat_at site word rest =
     if bytes_eq word (codes "root") then last (Flat site Whole) rest else
-    if bytes_eq word (codes "auto") then last (FlatAuto site) rest else
     flat_beside site word rest
 
 -- behind the site of a `give`: `all`, or a number
@@ -39,12 +38,6 @@ abbrev pub give_at : ℕ → List ℕ → List ℕ → Result Command Kind
 give_at site word rest =
     if bytes_eq word (codes "all") then last (GiveAll site) rest else
     behind (with_rest rest (number_of word)) (λ number rest. last (Give site number) rest)
-
--- behind the site of a `mark` or an `unmark`
-abbrev pub mark_at : ℕ → Bool → List ℕ → Result Command Kind
-mark_at site add rest =
-    behind (by_word name_of rest) (λ name rest. behind (by_word number_of rest) (λ index rest.
-    behind (by_word number_of rest) (λ count rest. last (Mark site add name index count) rest)))
 
 -- what each command asks for behind its site, from left to right, among so many sites
 abbrev pub site_command : ℕ → ℕ → SiteWord → List ℕ → Result Command Kind
@@ -64,11 +57,6 @@ site_command sites site AtSite.Give rest = behind (word_at rest) (give_at site)
 site_command sites site AtSite.Show rest = last (Show site) rest
 site_command sites site AtSite.Tree rest = last (Tree site) rest
 site_command sites site AtSite.Count rest = last (Count site) rest
-site_command sites site AtSite.Mark rest = mark_at site true rest
-site_command sites site AtSite.Unmark rest = mark_at site false rest
-site_command sites site AtSite.Meet rest =
-    behind (by_word (site_of sites) rest) (λ other rest. last (Meet site other) rest)
-site_command sites site AtSite.Marks rest = last (Marks site) rest
 
 -- many sites in a script that is too large for them
 abbrev pub is_too_wide : ℕ → ℕ → Bool

@@ -1,13 +1,13 @@
 -- The line of each command, without its LF.
-use Rattle.std.specs.Prelude.{ℕ, true, false, List, ◌∷◌, ◌++◌, codes}
+use Rattle.std.specs.Prelude.{ℕ, List, ◌∷◌, ◌++◌, codes}
 use Rattle.std.specs.Fmt.{decimal}
 use Rattle.std.specs.List.{concat}
 use Rattle.td_base.specs.Value.{DotValue}
 use Rattle.td_base.specs.declared.bit.Bit.{Bit}
 use Rattle.td_base.specs.declared.bit.Bit.TheVariants.{Left, Right}
 use Rattle.td_script.specs.declared.command.Command.{Command}
-use Rattle.td_script.specs.declared.command.Command.TheVariants.{Sites, Ins, Paste, Del, Flat, FlatAuto, Cancel, Give}
-use Rattle.td_script.specs.declared.command.Command.TheVariants.{GiveAll, Settle, Show, Tree, Count, Mark, Meet, Marks}
+use Rattle.td_script.specs.declared.command.Command.TheVariants.{Sites, Ins, Paste, Del, Flat, Cancel, Give}
+use Rattle.td_script.specs.declared.command.Command.TheVariants.{GiveAll, Settle, Show, Tree, Count}
 use Rattle.td_script.specs.declared.command.Place.TheVariants.{Whole, Beside}
 use Rattle.td_script.specs.Characters.{space, point}
 use Rattle.td_script.specs.Texts.{quoted}
@@ -16,9 +16,13 @@ use Rattle.td_script.specs.Texts.{quoted}
 abbrev pub spaced : ℕ → List ℕ
 spaced n = space ∷ decimal n
 
+-- a dot: its two numbers with a point between them
+abbrev pub dotted : DotValue → List ℕ
+dotted d = decimal d.site ++ point ∷ decimal d.seq
+
 -- a dot behind a space
 abbrev pub spaced_dot : DotValue → List ℕ
-spaced_dot d = spaced d.site ++ point ∷ decimal d.seq
+spaced_dot d = space ∷ dotted d
 
 -- the text of the atoms, in quotes, behind a space
 abbrev pub spaced_text : List (List ℕ) → List ℕ
@@ -35,7 +39,6 @@ line_of (Paste site index atoms) = codes "paste" ++ (spaced site ++ (spaced inde
 line_of (Del site index count) = codes "del" ++ (spaced site ++ (spaced index ++ spaced count))
 line_of (Flat site Whole) = codes "flat" ++ (spaced site ++ codes " root")
 line_of (Flat site (Beside index bit)) = codes "flat" ++ (spaced site ++ (spaced index ++ spaced_bit bit))
-line_of (FlatAuto site) = codes "flat" ++ (spaced site ++ codes " auto")
 line_of (Cancel site proposal) = codes "cancel" ++ (spaced site ++ spaced_dot proposal)
 line_of (Give site number) = codes "give" ++ (spaced site ++ spaced number)
 line_of (GiveAll site) = codes "give" ++ (spaced site ++ codes " all")
@@ -43,9 +46,3 @@ line_of Settle = codes "settle"
 line_of (Show site) = codes "show" ++ spaced site
 line_of (Tree site) = codes "tree" ++ spaced site
 line_of (Count site) = codes "count" ++ spaced site
-line_of (Mark site true name index count) =
-    codes "mark" ++ (spaced site ++ (spaced name ++ (spaced index ++ spaced count)))
-line_of (Mark site false name index count) =
-    codes "unmark" ++ (spaced site ++ (spaced name ++ (spaced index ++ spaced count)))
-line_of (Meet site other) = codes "meet" ++ (spaced site ++ spaced other)
-line_of (Marks site) = codes "marks" ++ spaced site

@@ -1,14 +1,11 @@
 // Arguments of one word: each is read from what is left of a line, and leaves what stands behind it.
 ghost use Rattle.std.specs.Prelude.{◌≡◌, ◌≤◌, MatchResult, Ok, Err};
 ghost use Rattle.td_script.specs.Arguments.{argument, by_word, cut_word, last, word_at};
-ghost use Rattle.td_script.specs.Arguments.{bit_of, dot_of, name_of, number_of, site_of};
+ghost use Rattle.td_script.specs.Arguments.{bit_of, dot_of, number_of, site_of};
 
 use crate::kind::Kind;
 use crate::number::number_of;
 use td_base::{Bit, Dot, MAX_SITE, Site};
-
-/// The greatest name of a mark.
-pub(crate) const MAX_NAME: u32 = 31;
 
 /// What stands up to the next space or to the end, and what stands from there on.
 pub(crate) fn split_word(text: &str) -> (&str, &str)
@@ -52,18 +49,6 @@ pub(crate) fn number(rest: &str) -> Result<(u32, &str), Kind>
     let (text, rest) = next_word(rest)?;
     let number = number_word(text)?;
     Ok((number, rest))
-}
-
-/// A name of a mark.
-pub(crate) fn mark_name(rest: &str) -> Result<(u8, &str), Kind>
-    ensures { let read = by_word name_of rest.now in
-        MatchResult result (λ found. read ≡ Ok (found.0, found.1.now)) (λ kind. read ≡ Err kind) }
-{
-    let (name, rest) = number(rest)?;
-    if name > MAX_NAME {
-        return Err(Kind::Number);
-    }
-    Ok((name as u8, rest))
 }
 
 /// The site that the word is, among so many.

@@ -31,10 +31,6 @@ pub enum Command {
         site: Site,
         place: Place,
     },
-    /// `flat R auto`: proposes a flatten of a slot that no site edits.
-    FlatAuto {
-        site: Site,
-    },
     /// `cancel R S.Q`: aborts the proposal.
     Cancel {
         site: Site,
@@ -61,24 +57,6 @@ pub enum Command {
     },
     /// `count R`: prints how many atoms, rows, waiting operations and holds there are.
     Count {
-        site: Site,
-    },
-    /// `mark R M I K` and `unmark R M I K`: adds the name to so many atoms from the index on, or removes it. A name is
-    /// 0 to 31.
-    Mark {
-        site: Site,
-        add: bool,
-        name: u8,
-        index: u32,
-        count: u32,
-    },
-    /// `meet R Q`: gives the site the marks of the other.
-    Meet {
-        site: Site,
-        other: Site,
-    },
-    /// `marks R`: prints the text in pieces, each with its names.
-    Marks {
         site: Site,
     },
 }

@@ -1,12 +1,10 @@
 // The commands of the language, and what each asks for behind its first word.
 ghost use Rattle.std.specs.Prelude.{◌≡◌, ◌≤◌};
 ghost use Rattle.td_script.specs.Answers.{IsLineAnswer};
-ghost use Rattle.td_script.specs.Faults.{command, flat_beside, mark_at, site_command, sites_at};
+ghost use Rattle.td_script.specs.Faults.{command, flat_beside, site_command, sites_at};
 ghost use Rattle.td_script.specs.declared.word.SiteWord.TheVariants as At;
 
-use crate::argument::{
-    bit_word, dot_word, last, mark_name, next_word, number, number_word, site_word,
-};
+use crate::argument::{bit_word, dot_word, last, next_word, number, number_word, site_word};
 use crate::before::{Before, MAX_NARROW};
 use crate::command::{Command, Place};
 use crate::kind::{Kind, LineFault};
@@ -73,10 +71,6 @@ fn site_command(
         SiteWord::Show => Ok(last(Command::Show { site }, rest)?),
         SiteWord::Tree => Ok(last(Command::Tree { site }, rest)?),
         SiteWord::Count => Ok(last(Command::Count { site }, rest)?),
-        SiteWord::Mark => Ok(mark(site, true, rest)?),
-        SiteWord::Unmark => Ok(mark(site, false, rest)?),
-        SiteWord::Meet => Ok(meet(sites, site, rest)?),
-        SiteWord::Marks => Ok(last(Command::Marks { site }, rest)?),
     }
 }
 
@@ -113,7 +107,6 @@ fn flat(site: Site, rest: &str) -> Result<Command, Kind>
             let place = Place::Whole;
             last(Command::Flat { site, place }, rest)
         }
-        "auto" => last(Command::FlatAuto { site }, rest),
         _ => flat_beside(site, place, rest),
     }
 }
@@ -147,29 +140,4 @@ fn give(site: Site, rest: &str) -> Result<Command, Kind>
     }
     let number = u64::from(number_word(message)?);
     last(Command::Give { site, number }, rest)
-}
-
-fn mark(site: Site, add: bool, rest: &str) -> Result<Command, Kind>
-    ensures { result ≡ mark_at site add rest.now }
-{
-    let (name, rest) = mark_name(rest)?;
-    let (index, rest) = number(rest)?;
-    let (count, rest) = number(rest)?;
-    let command = Command::Mark {
-        site,
-        add,
-        name,
-        index,
-        count,
-    };
-    last(command, rest)
-}
-
-fn meet(sites: u8, site: Site, rest: &str) -> Result<Command, Kind>
-    requires { sites ≤ MAX_SITE }
-    ensures { result ≡ site_command sites site At.Meet rest.now }
-{
-    let (other, rest) = next_word(rest)?;
-    let other = site_word(other, sites)?;
-    last(Command::Meet { site, other }, rest)
 }

@@ -38,8 +38,11 @@ fn the_first_faulty_line_is_named_with_its_first_fault(rt: HostRuntime) -> Resul
         ("sites 2\ncancel 1 1.65536\n", "fault 2 dot"),
         ("sites 2\ncancel 1 1.01\n", "fault 2 dot"),
         ("sites 2\ncancel 1 1\n", "fault 2 dot"),
-        ("sites 2\nmark 1 32 0 1\n", "fault 2 number"),
-        ("sites 2\nmeet 1 3\n", "fault 2 site"),
+        ("sites 2\nflat 1 auto\n", "fault 2 number"),
+        ("sites 2\nmark 1 31 2 3\n", "fault 2 word"),
+        ("sites 2\nunmark 1 0 2 3\n", "fault 2 word"),
+        ("sites 2\nmeet 1 2\n", "fault 2 word"),
+        ("sites 2\nmarks 1\n", "fault 2 word"),
         (
             "sites 17\nins 1 0 \"ab\"\nsettle\ndel 2 0 65534\n",
             "fault 4 size",
@@ -51,6 +54,7 @@ fn the_first_faulty_line_is_named_with_its_first_fault(rt: HostRuntime) -> Resul
         ("#\u{7f}\n", "fault 1 bytes"),
         ("move\u{1}\n", "fault 1 bytes"),
         ("move 1\n", "fault 1 word"),
+        ("mark 1 32\n", "fault 1 word"),
         ("show\n", "fault 1 sites"),
         ("sites 1\nsites 0\n", "fault 2 sites"),
         ("sites 0 1\n", "fault 1 sites"),
@@ -60,6 +64,9 @@ fn the_first_faulty_line_is_named_with_its_first_fault(rt: HostRuntime) -> Resul
         ("sites 2\nins 1 0 \n", "fault 2 end"),
         ("sites 2\nins 1 0 x y\n", "fault 2 quote"),
         ("sites 2\nins 1 0 \"a\" \n", "fault 2 end"),
+        ("flat 1 auto\n", "fault 1 sites"),
+        ("sites 2\nflat 3 auto\n", "fault 2 site"),
+        ("sites 2\nflat 1 auto 0\n", "fault 2 number"),
         ("sites 17\ndel 1 0 65536 \n", "fault 2 end"),
         // none
         ("", "0 commands"),
@@ -131,7 +138,6 @@ fn each_command_is_read(rt: HostRuntime) -> Result<(), Fail> {
             "flat 1 2 right",
             "Flat { site: Site { number: 1 }, place: Beside { index: 2, bit: Right } }",
         ),
-        ("flat 1 auto", "FlatAuto { site: Site { number: 1 } }"),
         (
             "cancel 1 2.3",
             "Cancel { site: Site { number: 1 }, proposal: Dot { site: Site { number: 2 }, seq: 3 } }",
@@ -142,19 +148,6 @@ fn each_command_is_read(rt: HostRuntime) -> Result<(), Fail> {
         ("show 1", "Show { site: Site { number: 1 } }"),
         ("tree 1", "Tree { site: Site { number: 1 } }"),
         ("count 1", "Count { site: Site { number: 1 } }"),
-        (
-            "mark 1 31 2 3",
-            "Mark { site: Site { number: 1 }, add: true, name: 31, index: 2, count: 3 }",
-        ),
-        (
-            "unmark 1 0 2 3",
-            "Mark { site: Site { number: 1 }, add: false, name: 0, index: 2, count: 3 }",
-        ),
-        (
-            "meet 1 2",
-            "Meet { site: Site { number: 1 }, other: Site { number: 2 } }",
-        ),
-        ("marks 1", "Marks { site: Site { number: 1 } }"),
     ] {
         let script = format!(in rt.alloc(); "sites 2\n{line}\n")?;
         let script = read(rt.alloc(), &script)?;
