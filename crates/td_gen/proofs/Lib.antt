@@ -1,0 +1,3 @@
+mod Alphabet
+mod Growing
+mod Making
