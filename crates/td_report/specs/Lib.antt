@@ -1,0 +1,5 @@
+pub mod Parts
+pub mod Replies
+pub mod Given
+pub mod Tree
+pub mod Numbers
