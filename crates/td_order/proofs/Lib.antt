@@ -20,3 +20,4 @@ pub mod Differ
 pub mod ShowLemmas
 pub mod Conditions
 pub mod ExampleHolds
+pub mod StandTogether

@@ -95,11 +95,11 @@ module _ (all : List OpValue) (F : IsWellRooted all) where
   whole_is_closed = record { apart = F.apart; rooted = λ o a i e. F.rooted a (record { op = o; inside = i; is = e }); full = λ o a i e. some_of_full a.run (F.full a (record { op = o; inside = i; is = e })); rising = rises }
 
   -- between operations in place of their insertions
-  past_of : (o p : OpValue) (c a : Insertion) → insertion_of o ≡ Some c → insertion_of p ≡ Some a → precedes c a ≡ true → vector_has p.deps o.dot ≡ true
+  pub past_of : (o p : OpValue) (c a : Insertion) → insertion_of o ≡ Some c → insertion_of p ≡ Some a → precedes c a ≡ true → vector_has p.deps o.dot ≡ true
   past_of o p c a e g h =
       subst (λ x. vector_has x o.dot ≡ true) (from_op p a g).deps (subst (λ x. vector_has a.deps x ≡ true) (from_op o c e).dot h)
 
-  past_to : (o p : OpValue) (c a : Insertion) → insertion_of o ≡ Some c → insertion_of p ≡ Some a → vector_has p.deps o.dot ≡ true → precedes c a ≡ true
+  pub past_to : (o p : OpValue) (c a : Insertion) → insertion_of o ≡ Some c → insertion_of p ≡ Some a → vector_has p.deps o.dot ≡ true → precedes c a ≡ true
   past_to o p c a e g h =
       subst (λ x. vector_has x c.dot ≡ true) (sym (from_op p a g).deps) (subst (λ x. vector_has p.deps x ≡ true) (sym (from_op o c e).dot) h)
 

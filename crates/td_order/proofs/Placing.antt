@@ -5,9 +5,8 @@ use Rattle.td_order.proofs.Lex.{lex_append}
 use Rattle.td_order.proofs.ListLemmas.{In-put_after_last, In-put_before_first, put_after_last-In, put_before_first-In}
 use Rattle.td_order.proofs.Keys.{Key, StepLt, KeyLt, key_strict, step_strict, step, id_of}
 use Rattle.td_path.proofs.SlotEquals.{same_slot_true, same_slot_refl}
-use Rattle.td_base.proofs.Orders.{dot_lt_true}
 use Rattle.td_order.proofs.Fits.{slot_key, OlderRank, Names, Fits, ids_dot}
-use Rattle.td_base.specs.Value.{DotValue, AtomIdValue}
+use Rattle.td_base.specs.Value.{AtomIdValue}
 use Rattle.td_base.specs.declared.bit.Bit.TheVariants.{Left, Right}
 use Rattle.td_base.specs.Lists.{In, Successive}
 use Rattle.td_base.proofs.Lists.{In-filter, filter_In, In-append, In-front, In-back, all_of}

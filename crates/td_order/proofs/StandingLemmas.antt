@@ -70,13 +70,13 @@ module _ (ops : List OpValue) (W : IsWellRooted ops) (E : HasEpochs ops) where
   named b x h = (h.insertion, in_line h.insertion h.inside, h.among)
 
   -- the key of what hangs on an insertion begins with that of its slot and a step of it
-  record HangingKey (b : Insertion) (x : AtomIdValue) : Type 0 where
-    offset : ℕ
-    side : ℕ
-    rest : Key
-    key : K x 1 ≡ slot_key K b.slot ++ (step (rank b) b.dot offset side ∷ rest)
+  pub record HangingKey (b : Insertion) (x : AtomIdValue) : Type 0 where
+    pub offset : ℕ
+    pub side : ℕ
+    pub rest : Key
+    pub key : K x 1 ≡ slot_key K b.slot ++ (step (rank b) b.dot offset side ∷ rest)
 
-  hanging : (b : Insertion) (x : AtomIdValue) → IsInsertionOf ops b → HangsOn ops b x → HangingKey b x
+  pub hanging : (b : Insertion) (x : AtomIdValue) → IsInsertionOf ops b → HangsOn ops b x → HangingKey b x
   hanging b x i h =
       let d = h.insertion in
       let dots : x.dot ≡ d.dot = ap (λ (y : AtomIdValue). y.dot) (ids_dot d.dot 0 d.run x h.among).1 in
@@ -159,11 +159,11 @@ module _ (ops : List OpValue) (W : IsWellRooted ops) (E : HasEpochs ops) where
   on_side b i x h = side_at b b.slot refl i (rooted_at K rank line fits b (in_line b i)) x h
 
   -- the key of what hangs at an atom of an insertion begins with that of its slot and a step of the atom
-  record AtomKey (a : Insertion) (offset : ℕ) (x : AtomIdValue) : Type 0 where
-    side : ℕ
-    rest : Key
-    key : K x 1 ≡ slot_key K a.slot ++ (step (rank a) a.dot offset side ∷ rest)
-    among : Names line x
+  pub record AtomKey (a : Insertion) (offset : ℕ) (x : AtomIdValue) : Type 0 where
+    pub side : ℕ
+    pub rest : Key
+    pub key : K x 1 ≡ slot_key K a.slot ++ (step (rank a) a.dot offset side ∷ rest)
+    pub among : Names line x
 
   on_side_key : (a b : Insertion) (offset : ℕ) (bit : Bit) → IsInsertionOf ops a → IsInsertionOf ops b → b.slot ≡ At (id_of a.dot offset) bit → (x : AtomIdValue) → HangsOn ops b x → AtomKey a offset x
   on_side_key a b offset Left i j e x h =
@@ -185,7 +185,7 @@ module _ (ops : List OpValue) (W : IsWellRooted ops) (E : HasEpochs ops) where
         among = named b x h;
       }
 
-  atom_key_of : (a : Insertion) (offset : ℕ) → IsInsertionOf ops a → In (id_of a.dot offset) (ids_of a) → (x : AtomIdValue) → HangsAt ops (id_of a.dot offset) x → AtomKey a offset x
+  pub atom_key_of : (a : Insertion) (offset : ℕ) → IsInsertionOf ops a → In (id_of a.dot offset) (ids_of a) → (x : AtomIdValue) → HangsAt ops (id_of a.dot offset) x → AtomKey a offset x
   atom_key_of a offset i n x (the_atom e) = record {
     side = 1;
     rest = [];

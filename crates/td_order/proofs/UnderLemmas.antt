@@ -23,7 +23,7 @@ use Rattle.td_order.proofs.OrderOfPart.{line_up_causal, whole_is_closed}
 use Rattle.td_order.proofs.SetOfOps.{one_op}
 use Rattle.std.proofs.lemmas.Option.{same_Some}
 
-dot_in : (a : Insertion) (x : AtomIdValue) → In x (ids_of a) → x.dot ≡ a.dot
+pub dot_in : (a : Insertion) (x : AtomIdValue) → In x (ids_of a) → x.dot ≡ a.dot
 dot_in a x i = ap (λ (y : AtomIdValue). y.dot) (ids_dot a.dot 0 a.run x i).1
 
 -- the insertion in front is passed by where an atom is of one behind it
@@ -70,10 +70,10 @@ module _ (ops : List OpValue) (W : IsWellRooted ops) where
   in_line : (a : Insertion) → IsInsertionOf ops a → In a (insertions (line_up ops))
   in_line a i = insertions-In (line_up ops) i.op a (line_up-In ops i.op i.inside) i.is
 
-  of_line : (a : Insertion) → In a (insertions (line_up ops)) → IsInsertionOf ops a
+  pub of_line : (a : Insertion) → In a (insertions (line_up ops)) → IsInsertionOf ops a
   of_line a i = let o = In-insertions (line_up ops) a i in record { op = o.0; inside = In-line_up ops o.0 o.1; is = o.2 }
 
-  one_insertion : (a c : Insertion) → IsInsertionOf ops a → IsInsertionOf ops c → a.dot ≡ c.dot → a ≡ c
+  pub one_insertion : (a c : Insertion) → IsInsertionOf ops a → IsInsertionOf ops c → a.dot ≡ c.dot → a ≡ c
   one_insertion a c i j e =
       let o = one_op ops W.apart i.op j.op i.inside j.inside (sym (from_op i.op a i.is).dot ∙ (e ∙ (from_op j.op c j.is).dot)) in
       same_Some a c (sym i.is ∙ (ap insertion_of o ∙ j.is))

@@ -5,7 +5,7 @@
 //! placed among those of the insertions before it (`specs/Place.antt`, `specs/Under.antt`). `order_of` and `show_of`
 //! compute both as they are written, slowly. `laws` says what the definitions come to; `standing`, that the order is
 //! the only list that obeys a few rules on two atoms (`specs/Standing.antt`); `part`, that a part of the operations
-//! has the order of the whole.
+//! has the order of the whole; `together`, that what hangs together stands together.
 #![tactic(auto)]
 
 mod atom_ids;
@@ -19,6 +19,7 @@ mod place;
 mod show;
 mod siblings;
 mod standing;
+mod together;
 mod under;
 
 pub use atom_ids::AtomIds;
@@ -33,6 +34,7 @@ pub use part::{
 };
 pub use show::show_of;
 pub use standing::{order_is_fixed_by_rules, under_goes_by_slots};
+pub use together::what_hangs_together_stands_together;
 
 #[cfg(test)]
 mod tests;
