@@ -1,0 +1,11 @@
+pub mod Words
+pub mod World
+pub mod Agree
+pub mod Renamed
+pub mod OwnSlots
+pub mod FamilyRecord
+pub mod SlotsRecord
+pub mod Meeting
+pub mod Epochs
+pub mod Unfit
+pub mod EveryFamily

@@ -1,0 +1,10 @@
+pub mod BelowMiddle
+pub mod EveryFamily
+pub mod RowsOrder
+pub mod Sublists
+pub mod Subtree
+pub mod Texts
+pub mod UsedAgain
+pub mod Arrays
+pub mod Under
+pub mod Beside

@@ -1,0 +1,11 @@
+pub mod SiteWords
+pub mod Ballots
+pub mod VotesSent
+pub mod Traces
+pub mod Decided
+pub mod InTurn
+pub mod SiteFacts
+pub mod SiteRecord
+pub mod Voted
+pub mod KeptText
+pub mod Beside

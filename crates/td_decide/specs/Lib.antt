@@ -1,0 +1,2 @@
+pub mod Voted
+pub mod Promises
