@@ -1,0 +1,4 @@
+pub mod NextRow
+pub mod Strangers
+pub mod Behind
+pub mod InFront
