@@ -1,0 +1,102 @@
+-- All that a site does not know is given: so many messages are looked at, and the others are still to come.
+use Rattle.std.proofs.Common.{◌≡◌, ◌<◌, ◌≤◌, ◌+◌, ◌++◌, ℕ, zero, suc, List, [], ◌∷◌, length, drop, Some, refl, sym, ap, ◌∙◌, subst, append-nil, append_assoc, arith}
+use Rattle.std.specs.List.{slice_get}
+use Rattle.td_op.specs.declared.message.Message.{Message}
+use Rattle.td_replica.specs.declared.given.Given.{Given}
+use Rattle.td_world.specs.World.{WorldValue, Move, size, moved_all}
+use Rattle.td_world.specs.Calls.{wanted_moves, wanted_given, moves_of, given_of, give_all_moves, give_all_given, IsCutShort}
+use Rattle.td_world.specs.Parts.{ArePassed}
+use Rattle.td_world.proofs.Cuts.{cut_before}
+use Rattle.td_world.proofs.Going.{IsDoing, doing_more, doing_done, doing_cut, doing_none, doing_size}
+use Rattle.td_world.proofs.Passed.{skip_moves, skip_given}
+use Rattle.td_world.proofs.Posts.{still_at}
+
+pub record IsGiving (to k : ℕ) (old now : WorldValue) (given : List (ℕ × Given)) : Type 0 where
+  pub doing : IsDoing (give_all_moves to old) (moves_of to (drop k old.sent) now) old now
+  pub told : give_all_given to old ≡ given ++ given_of to (k + 1) (drop k old.sent) now
+
+pub giving_none : (to k : ℕ) (w : WorldValue) → ArePassed to w k → IsGiving to k w w []
+giving_none to k w p =
+    let few : k ≤ length w.sent = p.0 in
+    let same : 1 + k ≡ k + 1 = omega arith in
+    record {
+      doing = subst (λ (l : List Move). IsDoing (give_all_moves to w) l w w) (skip_moves to w k w.sent (λ j less. p.1 j less))
+          (doing_none (give_all_moves to w) w);
+      told = skip_given to w k 1 w.sent (λ j less. p.1 j less) few
+          ∙ ap (λ (n : ℕ). given_of to n (drop k w.sent) w) same;
+    }
+
+drop_next : (k : ℕ) (messages : List Message) (m : Message) → slice_get messages k ≡ Some m
+    → drop k messages ≡ m ∷ drop (suc k) messages
+drop_next k [] m e = absurd cc
+drop_next zero (x ∷ messages) m e = ap (λ (y : Message). y ∷ messages) (same x m e)
+  where
+    same : (a b : Message) → Some a ≡ Some b → a ≡ b
+    same a b f = cc
+drop_next (suc k) (x ∷ messages) m e = drop_next k messages m e
+
+pub some_at : (messages : List Message) (k : ℕ) → k < length messages → (m : Message) × (slice_get messages k ≡ Some m)
+some_at [] k less = absurd (omega (arith, less))
+some_at (m ∷ messages) zero less = (m, refl)
+some_at (m ∷ messages) (suc k) less = some_at messages k (omega (arith, less))
+
+-- what was sent when it began has its number still
+pub still_numbered : (to k : ℕ) (old now : WorldValue) (given : List (ℕ × Given)) → IsGiving to k old now given
+    → (j : ℕ) (m : Message) → slice_get old.sent j ≡ Some m → slice_get now.sent j ≡ Some m
+still_numbered to k old now given g j m e =
+    ap (λ (w : WorldValue). slice_get w.sent j) g.doing.after ∙ still_at g.doing.front old j m e
+
+pub giving_size : (to k : ℕ) (old now : WorldValue) (given : List (ℕ × Given)) → IsGiving to k old now given
+    → size now ≡ size old
+giving_size to k old now given g = doing_size (give_all_moves to old) (moves_of to (drop k old.sent) now) old now g.doing
+
+module _ (to k : ℕ) (old now new : WorldValue) (given more : List (ℕ × Given)) (g : IsGiving to k old now given)
+    (m : Message) (e : slice_get old.sent k ≡ Some m) where
+  next_is : drop k old.sent ≡ m ∷ drop (k + 1) old.sent
+  next_is =
+      let one : suc k ≡ k + 1 = omega arith in
+      drop_next k old.sent m e ∙ ap (λ (n : ℕ). m ∷ drop n old.sent) one
+
+  doing_now : IsDoing (give_all_moves to old)
+      (wanted_moves to m now ++ moves_of to (drop (k + 1) old.sent) (moved_all (wanted_moves to m now) now)) old now
+  doing_now =
+      subst (λ (l : List Message). IsDoing (give_all_moves to old) (moves_of to l now) old now) next_is g.doing
+
+  pub giving_more : new ≡ moved_all (wanted_moves to m now) now → more ≡ given ++ wanted_given to (k + 1) m now
+      → IsGiving to (k + 1) old new more
+  giving_more is told =
+      let one : suc (k + 1) ≡ k + 1 + 1 = omega arith in
+      subst (λ (w : WorldValue). IsGiving to (k + 1) old w more) (sym is)
+      (record {
+        doing = doing_more (give_all_moves to old) (wanted_moves to m now)
+            (moves_of to (drop (k + 1) old.sent) (moved_all (wanted_moves to m now) now)) old now
+            (moved_all (wanted_moves to m now) now) doing_now refl;
+        told = g.told ∙ ap (λ (l : List Message). given ++ given_of to (k + 1) l now) next_is
+            ∙ sym (append_assoc given (wanted_given to (k + 1) m now)
+            (given_of to (suc (k + 1)) (drop (k + 1) old.sent) (moved_all (wanted_moves to m now) now)))
+            ∙ ap (λ (l : List (ℕ × Given)). l ++ given_of to (suc (k + 1)) (drop (k + 1) old.sent) (moved_all (wanted_moves to m now) now)) (sym told)
+            ∙ ap (λ (n : ℕ). more ++ given_of to n (drop (k + 1) old.sent) (moved_all (wanted_moves to m now) now)) one;
+      })
+
+  pub giving_cut : IsCutShort (wanted_moves to m now) now new → IsCutShort (give_all_moves to old) old new
+  giving_cut c =
+      doing_cut (give_all_moves to old)
+      (wanted_moves to m now ++ moves_of to (drop (k + 1) old.sent) (moved_all (wanted_moves to m now) now)) old now new
+      doing_now
+      (cut_before (wanted_moves to m now) (moves_of to (drop (k + 1) old.sent) (moved_all (wanted_moves to m now) now)) now new c)
+
+drop_all : (k : ℕ) (messages : List Message) → length messages ≤ k → drop k messages ≡ []
+drop_all zero [] h = refl
+drop_all zero (x ∷ messages) h = absurd (omega (arith, h))
+drop_all (suc k) [] h = refl
+drop_all (suc k) (x ∷ messages) h = drop_all k messages (omega (arith, h))
+
+pub giving_all : (to k : ℕ) (old now : WorldValue) (given : List (ℕ × Given)) → IsGiving to k old now given
+    → length old.sent ≤ k
+    → (now ≡ moved_all (give_all_moves to old) old) × (given ≡ give_all_given to old)
+giving_all to k old now given g past =
+    let none : drop k old.sent ≡ [] = drop_all k old.sent past in (
+      doing_done (give_all_moves to old) (moves_of to (drop k old.sent) now) old now g.doing
+          (ap (λ (l : List Message). moves_of to l now) none),
+      sym (g.told ∙ ap (λ (l : List Message). given ++ given_of to (k + 1) l now) none ∙ append-nil given),
+    )

@@ -1,0 +1,134 @@
+-- How many messages need not be looked at again.
+use Rattle.std.proofs.Common.{◌≡◌, ◌<◌, ◌≤◌, ◌+◌, ◌-◌, ◌++◌, ℕ, zero, suc, List, [], ◌∷◌, Bool, true, false, not, ◌&&◌, if◌then◌else◌, nat_eq, length, set, get_or, drop, Some, refl, sym, ap, ◌∙◌, subst, true≢false, arith}
+use Rattle.std.proofs.lemmas.Bool.{eqb-true, eqb-false, and_from}
+use Rattle.std.proofs.lemmas.List.{length-set}
+use Rattle.std.specs.List.{slice_get}
+use Rattle.td_op.specs.declared.message.Message.{Message}
+use Rattle.td_replica.specs.Replica.{ReplicaValue}
+use Rattle.td_world.specs.declared.post.Post.{Post}
+use Rattle.td_world.specs.World.{WorldValue, machine_of, moved_all, is_for}
+use Rattle.td_world.specs.Calls.{is_known, is_wanted, give_moves, took, moves_of, given_of}
+use Rattle.td_world.specs.Parts.{IsPassed, ArePassed, IsWorldParts, world_value}
+use Rattle.td_world.proofs.Kept.{get_found, set_there, set_value}
+
+pub passed_at : (replicas : List ReplicaValue) (posts : List Post) (passed : List ℕ) → IsWorldParts replicas posts passed
+    → (w : WorldValue) → world_value replicas posts ≡ w
+    → (site place count : ℕ) → place ≡ site - 1 → 1 ≤ site → site ≤ length replicas → count ≡ get_or passed place count
+    → ArePassed site w count
+passed_at replicas posts passed p w is site place count e some within k =
+    let long : length passed ≡ length replicas = p.sites in
+    let here : place + 1 ≡ site = omega (arith, e, some) in
+    subst (λ (v : WorldValue). ArePassed site v count) is
+    (subst (λ (s : ℕ). ArePassed s (world_value replicas posts) count) here
+    (p.known place count (get_found passed place count (omega (arith, e, some, within, long)) k)))
+
+-- where a message is not wanted, it may be passed
+unwanted_passed : (site : ℕ) (message : Message) (w : WorldValue) → is_wanted site message w ≡ false
+    → is_for site message ≡ true → is_known message (machine_of w site) ≡ true
+unwanted_passed site message w e to = at (is_known message (machine_of w site)) refl
+  where
+    at : (b : Bool) → is_known message (machine_of w site) ≡ b → is_known message (machine_of w site) ≡ true
+    at true f = f
+    at false f =
+        absurd (true≢false (sym (and_from (is_for site message) (not (is_known message (machine_of w site))) to
+        (ap (λ (b : Bool). not b) f)) ∙ e))
+
+same_some : {X : Type 0} (x y : X) → Some x ≡ Some y → x ≡ y
+same_some x y e = cc
+
+pub get_less : {X : Type 0} (xs : List X) (k : ℕ) (x : X) → slice_get xs k ≡ Some x → k < length xs
+get_less [] k x e = absurd cc
+get_less (y ∷ xs) zero x e = omega arith
+get_less (y ∷ xs) (suc k) x e = let h : k < length xs = get_less xs k x e in omega (arith, h)
+
+-- one more is passed
+pub parts_passed : (replicas : List ReplicaValue) (posts : List Post) (passed : List ℕ)
+    → IsWorldParts replicas posts passed → (w : WorldValue) → world_value replicas posts ≡ w
+    → (site place k : ℕ) → place ≡ site - 1 → 1 ≤ site → site ≤ length replicas → k ≡ get_or passed place k
+    → (message : Message) → slice_get w.sent k ≡ Some message → is_wanted site message w ≡ false
+    → IsWorldParts replicas posts (set passed place (k + 1))
+parts_passed replicas posts passed p w is site place k e some within at message sent unwanted =
+    record {
+      world = p.world;
+      standing = p.standing;
+      sites = length-set passed place (k + 1) ∙ p.sites;
+      known = λ other count f. cases other count (nat_eq place other) refl f;
+    }
+  where
+    old : ArePassed site (world_value replicas posts) k
+    old = passed_at replicas posts passed p (world_value replicas posts) refl site place k e some within at
+
+    sent_here : slice_get (world_value replicas posts).sent k ≡ Some message
+    sent_here = ap (λ (v : WorldValue). slice_get v.sent k) is ∙ sent
+
+    unwanted_here : is_wanted site message (world_value replicas posts) ≡ false
+    unwanted_here = ap (λ (v : WorldValue). is_wanted site message v) is ∙ unwanted
+
+    more : ArePassed site (world_value replicas posts) (k + 1)
+    more =
+        let less : k < length (world_value replicas posts).sent = get_less (world_value replicas posts).sent k message sent_here in
+        (omega (arith, less), (λ j below. each j below (nat_eq j k) refl))
+      where
+        each : (j : ℕ) → j < k + 1 → (b : Bool) → nat_eq j k ≡ b → IsPassed site (world_value replicas posts) j
+        each j below true h =
+            subst (λ (i : ℕ). IsPassed site (world_value replicas posts) i) (sym (eqb-true j k h))
+            (λ m f to.
+            let same : message ≡ m = same_some message m (sym sent_here ∙ f) in
+            subst (λ (z : Message). is_known z (machine_of (world_value replicas posts) site) ≡ true) same
+            (unwanted_passed site message (world_value replicas posts) unwanted_here
+            (subst (λ (z : Message). is_for site z ≡ true) (sym same) to)))
+        each j below false h = let other = eqb-false j k h in old.1 j (omega (arith, below, other))
+
+    cases : (other count : ℕ) → (b : Bool) → nat_eq place other ≡ b → slice_get (set passed place (k + 1)) other ≡ Some count
+        → ArePassed (other + 1) (world_value replicas posts) count
+    cases other count true h f =
+        let same : place ≡ other = eqb-true place other h in
+        let value : k + 1 ≡ count =
+        set_value passed place (k + 1) count (subst (λ (j : ℕ). slice_get (set passed place (k + 1)) j ≡ Some count) (sym same) f) in
+        let here : site ≡ other + 1 = omega (arith, e, some, same) in
+        subst (λ (s : ℕ). ArePassed s (world_value replicas posts) count) here
+        (subst (λ (n : ℕ). ArePassed site (world_value replicas posts) n) value more)
+    cases other count false h f =
+        p.known other count (sym (set_there passed place other (k + 1) (eqb-false place other h)) ∙ f)
+
+-- ---- what is passed is not wanted
+
+not_wanted : (site : ℕ) (message : Message) (w : WorldValue)
+    → (is_for site message ≡ true → is_known message (machine_of w site) ≡ true) → is_wanted site message w ≡ false
+not_wanted site message w h = at (is_for site message) refl
+  where
+    at : (b : Bool) → is_for site message ≡ b → is_wanted site message w ≡ false
+    at true e =
+        ap (λ (b : Bool). b && not (is_known message (machine_of w site))) e
+        ∙ ap (λ (b : Bool). not b) (h e)
+    at false e = ap (λ (b : Bool). b && not (is_known message (machine_of w site))) e
+
+-- the moves for messages of which some need not be looked at
+module _ (site : ℕ) (w : WorldValue) where
+  pub skip_moves : (k : ℕ) (messages : List Message)
+      → ((j : ℕ) → j < k → (message : Message) → slice_get messages j ≡ Some message → is_for site message ≡ true
+      → is_known message (machine_of w site) ≡ true)
+      → moves_of site messages w ≡ moves_of site (drop k messages) w
+  skip_moves zero messages h = refl
+  skip_moves (suc k) [] h = refl
+  skip_moves (suc k) (message ∷ messages) h =
+      let off : is_wanted site message w ≡ false = not_wanted site message w (h zero (omega arith) message refl) in
+      ap (λ (b : Bool). (if b then give_moves site message w else [])
+      ++ moves_of site messages (moved_all (if b then give_moves site message w else []) w)) off
+      ∙ skip_moves k messages (λ j less. h (suc j) (omega (arith, less)))
+
+  pub skip_given : (k number : ℕ) (messages : List Message)
+      → ((j : ℕ) → j < k → (message : Message) → slice_get messages j ≡ Some message → is_for site message ≡ true
+      → is_known message (machine_of w site) ≡ true)
+      → k ≤ length messages
+      → given_of site number messages w ≡ given_of site (number + k) (drop k messages) w
+  skip_given zero number messages h few =
+      let same : number ≡ number + 0 = omega arith in ap (λ (n : ℕ). given_of site n messages w) same
+  skip_given (suc k) number [] h few = absurd (omega (arith, few))
+  skip_given (suc k) number (message ∷ messages) h few =
+      let off : is_wanted site message w ≡ false = not_wanted site message w (h zero (omega arith) message refl) in
+      let same : suc number + k ≡ number + suc k = omega arith in
+      ap (λ (b : Bool). (if b then (number, took site message w) ∷ [] else [])
+      ++ given_of site (suc number) messages (moved_all (if b then give_moves site message w else []) w)) off
+      ∙ (skip_given k (suc number) messages (λ j less. h (suc j) (omega (arith, less))) (omega (arith, few))
+      ∙ ap (λ (n : ℕ). given_of site n (drop k messages) w) same)

@@ -1,0 +1,37 @@
+use Rattle.std.proofs.Common.{◌≡◌, ℕ, true, false, sym, ap, ◌∙◌, arith}
+use Rattle.td_replica.specs.Replica.{ReplicaValue}
+use Rattle.td_world.specs.World.{size, machine_of, moved_all}
+use Rattle.td_world.specs.Calls.{is_ready, nexts}
+use Rattle.td_world.proofs.Going.{doing_size, going_more, going_off}
+use Rattle.td_world.proofs.world.World.go_on.Goals as goal
+
+pub replica-requires-in-loop-k : goal.replica-requires-in-loop-k
+replica-requires-in-loop-k g c =
+    let same : size c.loop-k.self ≡ size c.args.self.now =
+    doing_size _ _ c.args.self.now c.loop-k.self c.loop-k.invariant.0.doing in
+    omega (arith, same, c.requires)
+
+pub step-requires-clause-within : goal.step-requires-clause-within
+step-requires-clause-within g c =
+    let same : size c.loop-k.self ≡ size c.args.self.now =
+    doing_size _ _ c.args.self.now c.loop-k.self c.loop-k.invariant.0.doing in
+    omega (arith, same, c.requires)
+
+pub returns-then-not-ready-clause-ok : goal.returns-then-not-ready-clause-ok
+returns-then-not-ready-clause-ok g c =
+    let none : is_ready (machine_of c.loop-k.self c.args.site) ≡ false =
+    ap (λ (r : ReplicaValue). is_ready r.machine) (sym c.replica-in-loop-k.ensures.replica) ∙ sym c.ready.ensures
+    ∙ c.if-not-ready.true in
+    (going_off c.args.site c.waiting-waiting.result c.loop-k.k c.args.self.now c.loop-k.self c.loop-k.invariant.0 none).0
+    ∙ ap (λ (k : ℕ). moved_all (nexts k c.args.site c.args.self.now) c.args.self.now) c.loop-k.invariant.2
+
+pub loop-k-preserved : goal.loop-k-preserved
+loop-k-preserved g c =
+    let on : is_ready (machine_of c.loop-k.self c.args.site) ≡ true =
+    ap (λ (r : ReplicaValue). is_ready r.machine) (sym c.replica-in-loop-k.ensures.replica) ∙ sym c.ready.ensures
+    ∙ c.if-not-ready.false in (
+      going_more c.args.site c.waiting-waiting.result c.loop-k.k c.args.self.now c.loop-k.self c.step.new.self
+          c.loop-k-test.true c.loop-k.invariant.0 on c.in_ok-step.ensures.ok,
+      c.in_ok-step.ensures.world,
+      c.loop-k.invariant.2,
+    )

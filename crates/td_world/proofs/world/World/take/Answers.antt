@@ -1,0 +1,10 @@
+use Rattle.td_world.specs.Calls.{take, nexts_after}
+use Rattle.td_world.proofs.Cuts.{cut_same, err_always}
+use Rattle.td_world.proofs.world.World.take.Goals as goal
+
+pub returns-in_err-next-clause-err : goal.returns-in_err-next-clause-err
+returns-in_err-next-clause-err g c =
+    err_always c.from_residual-in_err-next.result
+    (cut_same (take c.args.to c.args.message.now)
+    (λ w. nexts_after c.args.to w) c.args.self.now c.step.new.self c.go_on.new.self
+    c.in_ok-reply.ensures.ok c.in_err-next.ensures.err)

@@ -1,0 +1,5 @@
+pub mod World
+pub mod Calls
+pub mod Promises
+pub mod Parts
+pub mod Sending

@@ -1,0 +1,190 @@
+// What is given to a site: a message by its number, or all that it does not know.
+ghost use Rattle.std.specs.Prelude.{◌≡◌, ◌<◌, ◌≤◌, ◌+◌, ◌-◌, ◌++◌, ℕ, length, true, Some, IfOk, OnOk, OnErr};
+ghost use Rattle.std.specs.List.{slice_get};
+ghost use Rattle.td_base.specs.Lists.{In};
+ghost use Rattle.td_op.specs.declared.message.Message.{Message};
+ghost use Rattle.td_world.specs.World.{IsWorld, size, moved_all, is_for};
+ghost use Rattle.td_world.specs.Calls.{is_wanted, nexts_after, give_moves, took, found_moves, found_given, numbered_moves, numbered_given, wanted_moves, wanted_given, give_all_moves, give_all_given, IsCutShort};
+ghost use Rattle.td_world.specs.Parts.{ArePassed};
+ghost use Rattle.td_world.specs.Promises.{NobodyReady};
+
+use crate::sites::place_of;
+use crate::world::World;
+use std::alloc::Global;
+use td_base::{Memory, Site};
+use td_doc::Doc;
+use td_op::{Input, Message};
+use td_replica::Given;
+
+impl<D: Doc> World<D> {
+    /// Gives a site the message with the number, where there is one and it is for the site, and then takes what waits
+    /// there and is ready.
+    pub fn give(&mut self, to: Site, number: u64) -> Result<Given, Memory>
+        requires { to ≤ size self.old }
+        ensures given { IfOk result (λ given. given ≡ numbered_given to number self.old) }
+        ensures ok { OnOk result (self.new ≡ moved_all (numbered_moves to number self.old) self.old) }
+        ensures err { OnErr result (IsCutShort (numbered_moves to number self.old) self.old self.new) }
+        ensures world { IsWorld self.new }
+        ensures nobody { OnOk result (NobodyReady self.old → NobodyReady self.new) }
+    {
+        match self.message(number) {
+            Some((_, message)) => self.give_to(to, &message),
+            None => Ok(Given::NoSuch),
+        }
+    }
+
+    /// Gives a site each message that was sent before, is for the site, and is not known there when its turn comes;
+    /// with the numbers.
+    pub fn give_all(&mut self, alloc: Global, to: Site) -> Result<Vec<(u64, Given)>, Memory>
+        requires { to ≤ size self.old }
+        ensures given { IfOk result (λ given. given.items ≡ give_all_given to self.old) }
+        ensures ok { OnOk result (self.new ≡ moved_all (give_all_moves to self.old) self.old) }
+        ensures err { OnErr result (IsCutShort (give_all_moves to self.old) self.old self.new) }
+        ensures world { IsWorld self.new }
+        ensures nobody { OnOk result (NobodyReady self.old → NobodyReady self.new) }
+    {
+        let mut given = Vec::new(alloc);
+        for k in self.passed_by(to)..self.posts.len() {
+            self.offer(to, k, &mut given)?;
+        }
+        Ok(given)
+    }
+
+    // Gives the message, where it is for the site.
+    fn give_to(&mut self, to: Site, message: &Message) -> Result<Given, Memory>
+        requires within { to ≤ size self.old }
+        requires sent { In message.now self.old.sent }
+        requires world { IsWorld self.old }
+        ensures given { IfOk result (λ given. given ≡ found_given to (Some message.now) self.old) }
+        ensures ok { OnOk result (self.new ≡ moved_all (found_moves to (Some message.now) self.old) self.old) }
+        ensures err { OnErr result (IsCutShort (found_moves to (Some message.now) self.old) self.old self.new) }
+        ensures world { IsWorld self.new }
+        ensures some { 1 ≤ to }
+    {
+        if !is_for(to, message) {
+            return Ok(Given::Stray);
+        }
+        self.take(to, message)
+    }
+
+    // The site takes the message, and then what waits and is ready.
+    fn take(&mut self, to: Site, message: &Message) -> Result<Given, Memory>
+        requires within { to ≤ size self.old }
+        requires sent { In message.now self.old.sent }
+        requires addressed { is_for to message.now ≡ true }
+        ensures given { IfOk result (λ given. given ≡ took to message.now self.old) }
+        ensures ok { OnOk result (self.new ≡ moved_all (give_moves to message.now self.old) self.old) }
+        ensures err { OnErr result (IsCutShort (give_moves to message.now self.old) self.old self.new) }
+        ensures world { IsWorld self.new }
+        ensures some { 1 ≤ to }
+    {
+        let reply = self.step(to, Input::Take(*message))?;
+        let next = self.go_on(to)?;
+        Ok(Given::Took { reply, next })
+    }
+
+    // The site takes what waits, as long as something is ready; how often is answered.
+    fn go_on(&mut self, site: Site) -> Result<u32, Memory>
+        requires { site ≤ size self.old }
+        ensures count { IfOk result (λ count. count ≡ length (nexts_after site self.old)) }
+        ensures ok { OnOk result (self.new ≡ moved_all (nexts_after site self.old) self.old) }
+        ensures err { OnErr result (IsCutShort (nexts_after site self.old) self.old self.new) }
+        ensures world { IsWorld self.new }
+    {
+        let waiting = self.replica(site).waiting();
+        for k in 0..waiting {
+            if !self.replica(site).ready() {
+                return Ok(k);
+            }
+            self.step(site, Input::Next)?;
+        }
+        Ok(waiting)
+    }
+
+    // Gives the message at the place, where it is wanted.
+    fn offer(&mut self, to: Site, k: usize, given: &mut Vec<(u64, Given)>) -> Result<(), Memory>
+        requires within { to ≤ size self.old }
+        requires sent { k < length self.old.sent }
+        requires fits { k < usize.MAX }
+        requires world { IsWorld self.old }
+        ensures given { OnOk result ((m : Message) → slice_get self.old.sent k ≡ Some m
+            → given.new.items ≡ given.old.items ++ wanted_given to (k + 1) m self.old) }
+        ensures ok { OnOk result ((m : Message) → slice_get self.old.sent k ≡ Some m
+            → self.new ≡ moved_all (wanted_moves to m self.old) self.old) }
+        ensures err { OnErr result ((m : Message) → slice_get self.old.sent k ≡ Some m
+            → IsCutShort (wanted_moves to m self.old) self.old self.new) }
+        ensures world { IsWorld self.new }
+    {
+        if let Some((_, message)) = self.at(k) {
+            self.give_wanted(to, k as u64 + 1, &message, given)?;
+            self.pass_by(to, k, &message);
+        }
+        Ok(())
+    }
+
+    fn give_wanted(
+        &mut self,
+        to: Site,
+        number: u64,
+        message: &Message,
+        given: &mut Vec<(u64, Given)>,
+    ) -> Result<(), Memory>
+        requires within { to ≤ size self.old }
+        requires sent { In message.now self.old.sent }
+        requires world { IsWorld self.old }
+        ensures given { OnOk result
+            (given.new.items ≡ given.old.items ++ wanted_given to number message.now self.old) }
+        ensures ok { OnOk result (self.new ≡ moved_all (wanted_moves to message.now self.old) self.old) }
+        ensures err { OnErr result (IsCutShort (wanted_moves to message.now self.old) self.old self.new) }
+        ensures world { IsWorld self.new }
+    {
+        if !self.is_wanted(to, message) {
+            return Ok(());
+        }
+        given.reserve(1)?;
+        let took = self.take(to, message)?;
+        given.push_reserved((number, took));
+        Ok(())
+    }
+
+    // Whether the message is for the site and not known there.
+    fn is_wanted(&self, to: Site, message: &Message) -> bool
+        requires { to ≤ size self.now }
+        ensures { result ≡ is_wanted to message.now self.now }
+    {
+        is_for(to, message) && !self.replica(to).known(message)
+    }
+
+    // How many messages, from the first on, are known to the site or not for it.
+    fn passed_by(&self, site: Site) -> usize
+        requires { site ≤ size self.now }
+        ensures passed { ArePassed site self.now result }
+        ensures some { 1 ≤ site }
+    {
+        self.passed[place_of(site)]
+    }
+
+    // Where all messages before this one need not be looked at again, and this one neither, that is noted.
+    fn pass_by(&mut self, to: Site, k: usize, message: &Message)
+        requires within { to ≤ size self.old }
+        requires sent { slice_get self.old.sent k ≡ Some message.now }
+        ensures world { IsWorld self.new }
+        ensures same { self.new ≡ self.old }
+    {
+        let place = place_of(to);
+        let known = !self.is_wanted(to, message);
+        if known && self.passed[place] == k {
+            self.passed[place] = k + 1;
+        }
+    }
+}
+
+// Whether another site sent the message, and it is an operation or a vote on a proposal of this site.
+fn is_for(site: Site, message: &Message) -> bool
+    ensures { result ≡ is_for site message.now }
+{
+    match message {
+        Message::Op(op) => op.dot().site != site,
+        Message::Vote(vote) => vote.voter != site && vote.proposal.site == site,
+    }
+}

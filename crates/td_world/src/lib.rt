@@ -1,0 +1,28 @@
+//! Many sites: their replicas, the messages that they sent, and what becomes of these.
+//!
+//! Whatever is called of a `World`, the histories of its sites are a consistent family with the messages that they
+//! sent (`IsWorld` in `specs/World.antt`), so what holds of every consistent family holds of it. Each call is a list
+//! of moves, each one step of one site's machine: `specs/Calls.antt` says which. Where a call finds no memory, a front
+//! of them is done. After `settle` all sites have the same operations and each proposal is decided
+//! (`specs/Promises.antt`), where nobody was ready before it.
+//!
+//! Begin at `specs/World.antt` and `world`; how a world begins is in `opening`, what is given to a site in `give`, and
+//! until when in `settle`. What the definitions come to is in `laws`.
+#![tactic(auto)]
+
+mod give;
+mod laws;
+mod opening;
+mod post;
+mod settle;
+mod sites;
+mod world;
+
+pub use laws::{
+    causes_of_give, messages_are_for_others, nothing_ready_is_left, settled_worlds_agree,
+    settled_worlds_are_one, worlds_go_on,
+};
+pub use world::World;
+
+#[cfg(test)]
+mod tests;
