@@ -1,0 +1,29 @@
+use Rattle.std.proofs.Common.{sym, subst}
+use Rattle.td_view.specs.Publishes.{IsLegal, publish, changed_all}
+use Rattle.td_view.proofs.Standing.{may_follow}
+use Rattle.td_view.proofs.writer.begin.Goals as goal
+
+pub enter-requires-clause-legal : goal.enter-requires-clause-legal
+enter-requires-clause-legal c =
+    let r = c.requires in
+    let p = r.parts in
+    may_follow c.args.press.now.desk.shown.value c.args.past.now _ p.shown p.rested p.stands r.rises
+
+pub returns-in-Some-clause-owes : goal.returns-in-Some-clause-owes
+returns-in-Some-clause-owes c = c.requires.owed c.in-Some.next c.in-Some.is
+
+pub returns-in-Some-clause-legal : goal.returns-in-Some-clause-legal
+returns-in-Some-clause-legal c =
+    let r = c.requires in
+    let p = r.parts in
+    let x = c.args.press.now.desk.shown.value in
+    let owes = r.owed c.in-Some.next c.in-Some.is in
+    subst IsLegal (sym owes.0)
+    (may_follow x c.args.past.now (publish c.args.upto (changed_all c.args.changes.now x.atoms.items) 0) p.shown p.rested p.stands r.rises)
+
+pub returns-in_ok-next-in-None-clause-legal : goal.returns-in_ok-next-in-None-clause-legal
+returns-in_ok-next-in-None-clause-legal c =
+    let r = c.requires in
+    let p = r.parts in
+    subst IsLegal (sym c.in_ok-next-in-None.ensures.log)
+    (may_follow c.args.press.now.desk.shown.value c.args.past.now (publish c.args.upto (changed_all c.args.changes.now c.published.result.now.atoms.items) 0) p.shown p.rested p.stands r.rises)

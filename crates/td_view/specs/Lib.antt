@@ -1,0 +1,7 @@
+pub mod Publishes
+pub mod History
+pub mod Deeds
+pub mod Tied
+pub mod Values
+pub mod Owing
+pub mod Parts
