@@ -1,0 +1,15 @@
+pub mod Names
+pub mod Parted
+pub mod Marks
+pub mod Weights
+pub mod Distinct
+pub mod Lines
+pub mod Ends
+pub mod Joined
+pub mod Changes
+pub mod Added
+pub mod Splits
+pub mod Seats
+pub mod Found
+pub mod Dropping
+pub mod Reached

@@ -1,0 +1,130 @@
+// A stretch of the items of a list.
+ghost use Rattle.std.specs.Prelude.{◌≡◌, ◌<◌, ◌≤◌, ◌+◌, ◌-◌, ◌^◌, ◌++◌, ◌∷◌, ◌||◌, ℕ, [], length, take, drop, set, get_or, vec_len, vec_capacity, OnErr, OnOk, IfOk, Option};
+ghost use Rattle.td_list.specs.Items.{has_mark, weight_of};
+ghost use Rattle.td_list.specs.Index.{summary};
+ghost use Rattle.td_list.specs.Places.{nothing};
+
+use crate::edit::put_each;
+use crate::item::Item;
+use crate::scan::{has_mark, weight_of};
+use std::alloc::Global;
+use std::marker::Model;
+use td_base::Memory;
+
+/// Items that stand next to each other.
+#[derive(Debug, Drop)]
+pub struct Chunk {
+    items: Vec<Item>,
+    weight: u32,
+    marked: bool,
+}
+
+impl Model for Chunk {
+    ghost use Rattle.std.specs.Prelude.{◌≡◌, List};
+    ghost use Rattle.td_list.specs.declared.item.Item.{Item};
+    ghost use Rattle.td_list.specs.Items.{has_mark, weight_of};
+
+    ghost Value = { List Item };
+
+    ghost view = { λ c. c.items.items };
+
+    ghost invariant = { λ c. (c.weight ≡ weight_of c.items.items) × (c.marked ≡ has_mark c.items.items) };
+}
+
+impl Chunk {
+    pub fn new(alloc: Global) -> Chunk
+        ensures { result ≡ [] }
+    {
+        Chunk {
+            items: Vec::new(alloc),
+            weight: 0,
+            marked: false,
+        }
+    }
+
+    /// A chunk of these items.
+    pub fn of(alloc: Global, items: &[Item]) -> Result<Chunk, Memory>
+        requires { weight_of items.now < 2 ^ 32 }
+        ensures { IfOk result (λ chunk. chunk ≡ items.now) }
+    {
+        Ok(Chunk {
+            items: Vec::from_slice(alloc, items)?,
+            weight: weight_of(items),
+            marked: has_mark(items),
+        })
+    }
+
+    pub fn items(&self) -> &[Item]
+        ensures { result.now ≡ self.now }
+    {
+        &self.items
+    }
+
+    /// What the order tells of this chunk, if this is its number.
+    pub fn summary(&self, number: u32) -> Item
+        ensures { result ≡ summary number self.now }
+    {
+        Item {
+            name: number,
+            weight: self.weight,
+            marked: self.marked,
+        }
+    }
+
+    // Puts a piece at a place.
+    fn put(&mut self, place: usize, piece: &[Item]) -> Result<(), Memory>
+        requires place { place ≤ length self.old }
+        requires light { weight_of self.old + weight_of piece.now < 2 ^ 32 }
+        ensures ok { OnOk result (self.new ≡ take place self.old ++ piece.now ++ drop place self.old) }
+        ensures err { OnErr result (self.new ≡ self.old) }
+    {
+        self.items.reserve(piece.len())?;
+        put_each(&mut self.items, place, piece);
+        self.weight += weight_of(piece);
+        self.marked = is_marked_with(self.marked, piece);
+        Ok(())
+    }
+
+    /// Puts a piece in place of the items from a place up to another.
+    pub fn splice(&mut self, from: usize, to: usize, piece: &[Item]) -> Result<(), Memory>
+        requires from { from ≤ to }
+        requires to { to ≤ length self.old }
+        requires light { weight_of self.old + weight_of piece.now < 2 ^ 32 }
+        ensures ok { OnOk result (self.new ≡ take from self.old ++ piece.now ++ drop to self.old) }
+        ensures err { OnErr result (self.new ≡ self.old) }
+    {
+        self.put(to, piece)?;
+        self.cut(from, to);
+        Ok(())
+    }
+
+    /// Takes out the items from a place up to another.
+    pub fn cut(&mut self, from: usize, to: usize)
+        requires from { from ≤ to }
+        requires to { to ≤ length self.old }
+        ensures { self.new ≡ take from self.old ++ drop to self.old }
+    {
+        self.weight -= weight_of(&self.items[from..to]);
+        self.items.drain(from..to);
+        self.marked = has_mark(&self.items);
+    }
+
+    /// Puts another item at a place.
+    pub fn renew(&mut self, place: usize, item: Item)
+        requires place { place < length self.old }
+        requires light { weight_of self.old + item.weight < 2 ^ 32 + (get_or self.old place nothing).weight }
+        ensures { self.new ≡ take place self.old ++ item ∷ drop (place + 1) self.old }
+    {
+        self.weight -= self.items[place].weight;
+        self.weight += item.weight;
+        self.items[place] = item;
+        self.marked = has_mark(&self.items);
+    }
+}
+
+// Whether there is a mark, or one in the piece.
+fn is_marked_with(marked: bool, piece: &[Item]) -> bool
+    ensures { result ≡ (marked || has_mark piece.now) }
+{
+    marked || has_mark(piece)
+}

@@ -1,0 +1,313 @@
+// Chunks by number, their order, and the chunk of each item.
+ghost use Rattle.std.specs.Prelude.{◌≡◌, ◌≢◌, ◌<◌, ◌≤◌, ◌+◌, ◌-◌, ◌^◌, ◌++◌, ◌∷◌, ℕ, List, [], length, take, drop, set, get_or, false, Option, Some, None, IfOk, OnOk, OnErr, vec_capacity};
+ghost use Rattle.std.specs.Option.{ForSome};
+ghost use Rattle.td_list.specs.Items.{IsItem, AreApart, AreNew, renew, without, place_of, first_name, last_name, weight_of};
+ghost use Rattle.td_list.specs.Places.{nothing};
+ghost use Rattle.td_list.specs.Index.{chunk_at, all_items, chunks_before, chunks_after, summary, IsIndex};
+
+use crate::chunk::Chunk;
+use crate::homes::{grow, settle};
+use crate::item::Item;
+use crate::scan::place_of;
+use crate::sequence::Sequence;
+use std::alloc::Global;
+use std::marker::Model;
+use td_base::Memory;
+
+/// The parts of a list of chunks.
+#[derive(Drop)]
+pub struct Index<S: Sequence> {
+    // by number; one that is free has no items
+    pub(crate) chunks: Vec<Chunk>,
+    // the numbers of the others, with what their items come to
+    pub(crate) order: S,
+    // the chunk of each item, by the name of the item
+    pub(crate) homes: Vec<u32>,
+    // numbers for new chunks
+    pub(crate) free: Vec<u32>,
+    pub(crate) alloc: Global,
+}
+
+impl<S: Sequence> Model for Index<S> {
+    ghost use Rattle.std.specs.Prelude.{vec_capacity};
+    ghost use Rattle.td_list.specs.Index.{Parts};
+
+    ghost Value = { Parts };
+
+    ghost view = { λ i. record {
+      chunks = i.chunks.items;
+      order = S.items i.order;
+      homes = i.homes.items;
+      free = i.free.items;
+      room = vec_capacity i.free;
+    } };
+}
+
+/// Where an item is: in which chunk, and at which place of it.
+#[derive(Clone, Copy, Debug, PartialEq, Eq)]
+pub struct Seat {
+    pub chunk: u32,
+    pub place: usize,
+}
+
+impl<S: Sequence> Index<S> {
+    /// No chunks.
+    pub fn empty(alloc: Global) -> Result<Index<S>, Memory>
+        ensures { IfOk result (λ index. IsIndex index × (index.order ≡ [])) }
+    {
+        Ok(Index {
+            chunks: Vec::new(alloc),
+            order: S::empty(alloc)?,
+            homes: Vec::new(alloc),
+            free: Vec::new(alloc),
+            alloc,
+        })
+    }
+
+    /// The items of a chunk.
+    pub fn items_of(&self, chunk: u32) -> &[Item]
+        requires { chunk < length self.now.chunks }
+        ensures { result.now ≡ chunk_at self.now.chunks chunk }
+    {
+        self.chunks[chunk as usize].items()
+    }
+
+    /// The first item of a chunk.
+    pub fn head(&self, chunk: u32) -> u32
+        requires index { IsIndex self.now }
+        requires chunk { IsItem chunk self.now.order }
+        ensures { first_name (chunk_at self.now.chunks chunk) ≡ Some result }
+    {
+        self.items_of(chunk)[0].name
+    }
+
+    /// The last item of a chunk.
+    pub fn end(&self, chunk: u32) -> u32
+        requires index { IsIndex self.now }
+        requires chunk { IsItem chunk self.now.order }
+        ensures { last_name (chunk_at self.now.chunks chunk) ≡ Some result }
+    {
+        let items = self.items_of(chunk);
+        items[items.len() - 1].name
+    }
+
+    /// Where an item is.
+    pub fn seat(&self, name: u32) -> Seat
+        requires index { IsIndex self.now }
+        requires there { IsItem name (all_items self.now) }
+        ensures chunk { IsItem result.chunk self.now.order }
+        ensures within { result.chunk < length self.now.chunks }
+        ensures there { IsItem name (chunk_at self.now.chunks result.chunk) }
+        ensures place { result.place ≡ place_of name (chunk_at self.now.chunks result.chunk) }
+        ensures bound { result.place < length (chunk_at self.now.chunks result.chunk) }
+    {
+        let chunk = self.homes[name as usize];
+        let place = place_of(self.items_of(chunk), name);
+        Seat { chunk, place }
+    }
+
+    /// Puts a piece in a chunk, in place of the items from a place up to another.
+    pub fn splice(
+        &mut self,
+        chunk: u32,
+        from: usize,
+        to: usize,
+        piece: &[Item],
+    ) -> Result<(), Memory>
+        requires index { IsIndex self.old }
+        requires chunk { IsItem chunk self.old.order }
+        requires from { from ≤ to }
+        requires to { to ≤ length (chunk_at self.old.chunks chunk) }
+        requires some { 0 < from + length piece.now + (length (chunk_at self.old.chunks chunk) - to) }
+        requires apart { AreApart piece.now }
+        requires new { AreNew piece.now (chunks_before chunk self.old
+            ++ (take from (chunk_at self.old.chunks chunk) ++ drop to (chunk_at self.old.chunks chunk))
+            ++ chunks_after chunk self.old) }
+        requires light { weight_of (all_items self.old) + weight_of piece.now < 2 ^ 32 }
+        ensures index { IsIndex self.new }
+        ensures ok { OnOk result (all_items self.new ≡ chunks_before chunk self.old
+            ++ (take from (chunk_at self.old.chunks chunk) ++ piece.now ++ drop to (chunk_at self.old.chunks chunk))
+            ++ chunks_after chunk self.old) }
+        ensures err { OnErr result (all_items self.new ≡ all_items self.old) }
+    {
+        grow(&mut self.homes, piece)?;
+        self.chunks[chunk as usize].splice(from, to, piece)?;
+        settle(&mut self.homes, piece, chunk);
+        self.order.renew(self.chunks[chunk as usize].summary(chunk));
+        Ok(())
+    }
+
+    /// Takes out the items of a chunk from a place up to another, but not all of them.
+    pub fn cut(&mut self, chunk: u32, from: usize, to: usize)
+        requires index { IsIndex self.old }
+        requires chunk { IsItem chunk self.old.order }
+        requires from { from ≤ to }
+        requires to { to ≤ length (chunk_at self.old.chunks chunk) }
+        requires some { to - from < length (chunk_at self.old.chunks chunk) }
+        ensures index { IsIndex self.new }
+        ensures all { all_items self.new ≡ chunks_before chunk self.old
+            ++ (take from (chunk_at self.old.chunks chunk) ++ drop to (chunk_at self.old.chunks chunk))
+            ++ chunks_after chunk self.old }
+        ensures chunks { self.new.chunks ≡ set self.old.chunks chunk
+            (take from (chunk_at self.old.chunks chunk) ++ drop to (chunk_at self.old.chunks chunk)) }
+        ensures order { self.new.order ≡ renew (summary chunk
+            (take from (chunk_at self.old.chunks chunk) ++ drop to (chunk_at self.old.chunks chunk))) self.old.order }
+        ensures homes { self.new.homes ≡ self.old.homes }
+    {
+        self.chunks[chunk as usize].cut(from, to);
+        self.order.renew(self.chunks[chunk as usize].summary(chunk));
+    }
+
+    /// Puts another item at a place of a chunk, of the name of the one that is there.
+    pub fn renew(&mut self, chunk: u32, place: usize, item: Item)
+        requires index { IsIndex self.old }
+        requires chunk { IsItem chunk self.old.order }
+        requires place { place < length (chunk_at self.old.chunks chunk) }
+        requires named { item.name ≡ (get_or (chunk_at self.old.chunks chunk) place nothing).name }
+        requires light { weight_of (chunks_before chunk self.old
+            ++ (take place (chunk_at self.old.chunks chunk) ++ item ∷ drop (place + 1) (chunk_at self.old.chunks chunk))
+            ++ chunks_after chunk self.old) < 2 ^ 32 }
+        ensures index { IsIndex self.new }
+        ensures all { all_items self.new ≡ chunks_before chunk self.old
+            ++ (take place (chunk_at self.old.chunks chunk) ++ item ∷ drop (place + 1) (chunk_at self.old.chunks chunk))
+            ++ chunks_after chunk self.old }
+    {
+        self.chunks[chunk as usize].renew(place, item);
+        self.order.renew(self.chunks[chunk as usize].summary(chunk));
+    }
+
+    /// The items of a chunk up to a place, and a piece, as a chunk that is not in the order.
+    pub fn front_with(&self, chunk: u32, place: usize, piece: &[Item]) -> Result<Chunk, Memory>
+        requires chunk { chunk < length self.now.chunks }
+        requires place { place ≤ length (chunk_at self.now.chunks chunk) }
+        requires light { weight_of (chunk_at self.now.chunks chunk) + weight_of piece.now < 2 ^ 32 }
+        ensures { IfOk result (λ new. new ≡ take place (chunk_at self.now.chunks chunk) ++ piece.now) }
+    {
+        let mut new = Chunk::of(self.alloc, &self.items_of(chunk)[..place])?;
+        new.splice(place, place, piece)?;
+        Ok(new)
+    }
+
+    /// Gives a chunk other items, those before a place and a piece, whose homes there is room for.
+    pub fn exchange(&mut self, chunk: u32, place: usize, piece: &[Item], new: Chunk)
+        requires index { IsIndex self.old }
+        requires chunk { IsItem chunk self.old.order }
+        requires place { place ≤ length (chunk_at self.old.chunks chunk) }
+        requires is { new ≡ take place (chunk_at self.old.chunks chunk) ++ piece.now }
+        requires some { 0 < length new }
+        requires apart { AreApart piece.now }
+        requires fresh { AreNew piece.now (chunks_before chunk self.old
+            ++ take place (chunk_at self.old.chunks chunk) ++ chunks_after chunk self.old) }
+        requires room { (x : ℕ) → IsItem x piece.now → x < length self.old.homes }
+        requires light { weight_of (all_items self.old) + weight_of piece.now < 2 ^ 32 }
+        ensures index { IsIndex self.new }
+        ensures all { all_items self.new ≡ chunks_before chunk self.old ++ new ++ chunks_after chunk self.old }
+    {
+        settle(&mut self.homes, piece, chunk);
+        self.order.renew(new.summary(chunk));
+        self.chunks[chunk as usize] = new;
+    }
+
+    /// Makes room for the homes of these items.
+    pub fn grow(&mut self, piece: &[Item]) -> Result<(), Memory>
+        requires index { IsIndex self.old }
+        ensures index { IsIndex self.new }
+        ensures chunks { self.new.chunks ≡ self.old.chunks }
+        ensures order { self.new.order ≡ self.old.order }
+        ensures room { OnOk result ((x : ℕ) → IsItem x piece.now → x < length self.new.homes) }
+    {
+        grow(&mut self.homes, piece)
+    }
+
+    /// Takes a chunk out, with its items. Its number is free from then on.
+    pub fn drop_chunk(&mut self, chunk: u32)
+        requires index { IsIndex self.old }
+        requires chunk { IsItem chunk self.old.order }
+        ensures index { IsIndex self.new }
+        ensures order { self.new.order ≡ without chunk self.old.order }
+        ensures chunks { self.new.chunks ≡ set self.old.chunks chunk [] }
+        ensures homes { self.new.homes ≡ self.old.homes }
+    {
+        self.chunks[chunk as usize] = Chunk::new(self.alloc);
+        self.order.remove(chunk);
+        self.free.push(chunk).unwrap();
+    }
+
+    // Provides a number for a new chunk.
+    fn spare(&mut self) -> Result<(), Memory>
+        requires index { IsIndex self.old }
+        ensures index { IsIndex self.new }
+        ensures all { all_items self.new ≡ all_items self.old }
+        ensures order { self.new.order ≡ self.old.order }
+        ensures homes { self.new.homes ≡ self.old.homes }
+        ensures kept { (c : ℕ) → IsItem c self.old.order → chunk_at self.new.chunks c ≡ chunk_at self.old.chunks c }
+        ensures some { OnOk result (0 < length self.new.free) }
+    {
+        if self.free.len() > 0 {
+            return Ok(());
+        }
+        let new = self.chunks.len();
+        if new >= u32::MAX as usize {
+            return Err(Memory);
+        }
+        self.free.reserve(new + 1)?;
+        self.chunks.push(Chunk::new(self.alloc))?;
+        self.free.push(new as u32).unwrap();
+        Ok(())
+    }
+
+    /// Parts a chunk: the first half of its items become a chunk of their own before it.
+    pub fn split(&mut self, chunk: u32) -> Result<(), Memory>
+        requires index { IsIndex self.old }
+        requires chunk { IsItem chunk self.old.order }
+        requires some { 2 ≤ length (chunk_at self.old.chunks chunk) }
+        ensures index { IsIndex self.new }
+        ensures all { all_items self.new ≡ all_items self.old }
+    {
+        self.spare()?;
+        let new = self.free[self.free.len() - 1];
+        let half = self.items_of(chunk).len() / 2;
+        let front = Chunk::of(self.alloc, &self.items_of(chunk)[..half])?;
+        self.order.insert_before(chunk, &[empty_chunk(new)])?;
+        self.free.pop();
+        self.chunks[chunk as usize].cut(0, half);
+        settle(&mut self.homes, front.items(), new);
+        self.order.renew(self.chunks[chunk as usize].summary(chunk));
+        self.order.renew(front.summary(new));
+        self.chunks[new as usize] = front;
+        Ok(())
+    }
+
+    /// Puts a piece at the end, as a chunk of its own.
+    pub fn begin(&mut self, piece: &[Item]) -> Result<(), Memory>
+        requires index { IsIndex self.old }
+        requires some { 0 < length piece.now }
+        requires apart { AreApart piece.now }
+        requires new { AreNew piece.now (all_items self.old) }
+        requires light { weight_of (all_items self.old) + weight_of piece.now < 2 ^ 32 }
+        ensures index { IsIndex self.new }
+        ensures ok { OnOk result (all_items self.new ≡ all_items self.old ++ piece.now) }
+        ensures err { OnErr result (all_items self.new ≡ all_items self.old) }
+    {
+        self.spare()?;
+        let new = self.free[self.free.len() - 1];
+        grow(&mut self.homes, piece)?;
+        let chunk = Chunk::of(self.alloc, piece)?;
+        self.order.push(&[chunk.summary(new)])?;
+        self.free.pop();
+        settle(&mut self.homes, piece, new);
+        self.chunks[new as usize] = chunk;
+        Ok(())
+    }
+}
+
+// What the order tells of a chunk that has no items yet.
+fn empty_chunk(number: u32) -> Item
+    ensures { result ≡ record { name = number; weight = 0; marked = false } }
+{
+    Item {
+        name: number,
+        weight: 0,
+        marked: false,
+    }
+}

@@ -1,0 +1,28 @@
+//! A list with handles: each item has a name, a small number, by which its place is found (the order-maintenance
+//! problem of Dietz and Sleator, 1987, solved by chunks of bounded length).
+//!
+//! A list puts pieces before a named item, replaces a stretch between two items, tells which of two items stands
+//! first, and finds an item by its weight or the weight before an item, each in a few scans of a chunk. The chunks
+//! stand in an order that is again such a list. Begin at `sequence`, which says what a list answers, and at
+//! `specs/Items.antt`, which says it in terms of one plain list of items.
+#![tactic(auto)]
+
+mod chunk;
+mod chunked;
+mod edit;
+mod homes;
+mod index;
+mod item;
+mod line;
+mod order;
+mod replacement;
+mod scan;
+mod sequence;
+
+pub use chunked::{Chunked, List};
+pub use item::{Item, Share};
+pub use line::Line;
+pub use sequence::Sequence;
+
+#[cfg(test)]
+mod tests;
