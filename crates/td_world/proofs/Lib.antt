@@ -18,3 +18,4 @@ pub mod Giving
 pub mod Settling
 pub mod Beginnings
 pub mod Causes
+pub mod Promised

@@ -1,7 +1,10 @@
 -- What a world comes to.
 use Rattle.std.specs.Prelude.{◌≡◌, ◌<◌, ◌≤◌, ℕ, false}
+use Rattle.td_doc.specs.Document.{text_of}
 use Rattle.td_machine.specs.Machine.{undecided}
-use Rattle.td_world.specs.World.{WorldValue, size, machine_of}
+use Rattle.td_order.specs.Show.{show}
+use Rattle.td_converge.specs.Headline.{KeepsPromises}
+use Rattle.td_world.specs.World.{WorldValue, size, machine_of, family_of}
 use Rattle.td_world.specs.Calls.{is_ready}
 
 -- no site has an operation that waits and can be taken
@@ -16,3 +19,14 @@ SameVectors w =
 -- no proposal is undecided at its site
 abbrev pub AllDecided : WorldValue → Type 0
 AllDecided w = (site : ℕ) → 0 < site → site ≤ size w → undecided (machine_of w site) ≡ 0
+
+-- at every moment up to now: each site shows the atoms inserted and not deleted by the operations that it has taken, in
+-- one order that the insertions alone fix; no two sites decide a flatten differently; a commit changes no text, and no
+-- edit of its slot is concurrent with it; and nothing that came was unfit
+abbrev pub IsPromised : WorldValue → Type 0
+IsPromised w = KeepsPromises (family_of w)
+
+-- so now: the text of each site is the one that its operations show
+abbrev pub TextsAreShown : WorldValue → Type 0
+TextsAreShown w =
+    (site : ℕ) → 0 < site → site ≤ size w → text_of (machine_of w site).doc ≡ show (machine_of w site).log

@@ -6,7 +6,7 @@ ghost use Rattle.td_op.specs.declared.message.Message.{Message};
 ghost use Rattle.td_world.specs.World.{IsWorld, size, moved_all, is_for};
 ghost use Rattle.td_world.specs.Calls.{is_wanted, nexts_after, give_moves, took, found_moves, found_given, numbered_moves, numbered_given, wanted_moves, wanted_given, give_all_moves, give_all_given, IsCutShort};
 ghost use Rattle.td_world.specs.Parts.{ArePassed};
-ghost use Rattle.td_world.specs.Promises.{NobodyReady};
+ghost use Rattle.td_world.specs.Promises.{NobodyReady, IsPromised};
 
 use crate::sites::place_of;
 use crate::world::World;
@@ -25,6 +25,7 @@ impl<D: Doc> World<D> {
         ensures ok { OnOk result (self.new ≡ moved_all (numbered_moves to number self.old) self.old) }
         ensures err { OnErr result (IsCutShort (numbered_moves to number self.old) self.old self.new) }
         ensures world { IsWorld self.new }
+        ensures promises { IsPromised self.new }
         ensures nobody { OnOk result (NobodyReady self.old → NobodyReady self.new) }
     {
         match self.message(number) {
@@ -41,6 +42,7 @@ impl<D: Doc> World<D> {
         ensures ok { OnOk result (self.new ≡ moved_all (give_all_moves to self.old) self.old) }
         ensures err { OnErr result (IsCutShort (give_all_moves to self.old) self.old self.new) }
         ensures world { IsWorld self.new }
+        ensures promises { IsPromised self.new }
         ensures nobody { OnOk result (NobodyReady self.old → NobodyReady self.new) }
     {
         let mut given = Vec::new(alloc);

@@ -4,7 +4,7 @@ ghost use Rattle.td_base.specs.declared.site.TheConstants.{MAX_SITE};
 ghost use Rattle.td_machine.specs.History.{IsConsistent};
 ghost use Rattle.td_replica.specs.Replica.{ReplicaValue};
 ghost use Rattle.td_world.specs.World.{AreSites, IsWorld, new_world, world_of};
-ghost use Rattle.td_world.specs.Promises.{NobodyReady};
+ghost use Rattle.td_world.specs.Promises.{NobodyReady, IsPromised};
 ghost use Rattle.td_world.specs.Parts.{new_posts};
 
 use crate::post::Post;
@@ -22,6 +22,7 @@ impl<D: Doc> World<D> {
         requires few { n ≤ MAX_SITE }
         ensures new { IfOk result (λ w. w ≡ new_world n) }
         ensures world { IfOk result (λ w. IsWorld w) }
+        ensures promises { IfOk result (λ w. IsPromised w) }
         ensures nobody { IfOk result (λ w. NobodyReady w) }
     {
         let mut replicas = Vec::new(alloc);
@@ -44,6 +45,7 @@ impl<D: Doc> World<D> {
         requires consistent { IsConsistent (map (λ (r : ReplicaValue). r.entries) replicas.items) }
         ensures sites { IfOk result (λ w. w ≡ world_of replicas.items) }
         ensures world { IfOk result (λ w. IsWorld w) }
+        ensures promises { IfOk result (λ w. IsPromised w) }
     {
         let mut posts = Vec::new(alloc);
         let mut passed = Vec::new(alloc);

@@ -2,7 +2,7 @@ ghost use Rattle.std.specs.Prelude.{◌≡◌, ◌+◌, ◌≤◌, ℕ, IfOk, On
 ghost use Rattle.td_base.specs.declared.site.TheConstants.{MAX_SITE};
 ghost use Rattle.td_world.specs.World.{IsWorld, size, moved_all};
 ghost use Rattle.td_world.specs.Calls.{pass, count_given, IsCutShort, IsSettled, IsUnsettled};
-ghost use Rattle.td_world.specs.Promises.{NobodyReady, SameVectors, AllDecided};
+ghost use Rattle.td_world.specs.Promises.{NobodyReady, SameVectors, AllDecided, IsPromised};
 
 use crate::sites::site_at;
 use crate::world::World;
@@ -20,6 +20,7 @@ impl<D: Doc> World<D> {
         ensures nobody { OnOk result (NobodyReady self.old → NobodyReady self.new) }
         ensures err { OnErr result (IsUnsettled self.old self.new) }
         ensures world { IsWorld self.new }
+        ensures promises { IsPromised self.new }
     {
         let sites = self.size();
         let mut given = 0;

@@ -11,7 +11,7 @@ ghost use Rattle.td_replica.specs.Replica.{ReplicaValue};
 ghost use Rattle.td_world.specs.World.{IsWorld, family_of, new_world, replica, replica_from, size, world_of, moved, reply_to, is_for, MayTake};
 ghost use Rattle.td_world.specs.Calls.{ask};
 ghost use Rattle.td_world.specs.Parts.{new_posts, posted, looked_again};
-ghost use Rattle.td_world.specs.Promises.{NobodyReady};
+ghost use Rattle.td_world.specs.Promises.{NobodyReady, IsPromised};
 
 use crate::post::Post;
 use crate::sites::{place_of, replica_of, step_of};
@@ -51,6 +51,7 @@ impl<D: Doc> World<D> {
         requires { site ≤ size self.now }
         ensures replica { result.now ≡ replica self.now site }
         ensures world { IsWorld self.now }
+        ensures promises { IsPromised self.now }
     {
         replica_of(&self.replicas, site)
     }
@@ -59,6 +60,7 @@ impl<D: Doc> World<D> {
     pub fn sent(&self) -> u64
         ensures sent { result ≡ length self.now.sent }
         ensures world { IsWorld self.now }
+        ensures promises { IsPromised self.now }
     {
         self.posts.len() as u64
     }
@@ -67,6 +69,7 @@ impl<D: Doc> World<D> {
     pub fn message(&self, number: u64) -> Option<(Site, Message)>
         ensures message { result ≡ option_map (λ (m : Message). (sender m, m)) (kth number self.now.sent) }
         ensures world { IsWorld self.now }
+        ensures promises { IsPromised self.now }
     {
         let sent = self.sent();
         if number == 0 || number > sent {
@@ -102,6 +105,7 @@ impl<D: Doc> World<D> {
         ensures ok { OnOk result (self.new ≡ moved (ask site request) self.old) }
         ensures err { OnErr result (self.new ≡ self.old) }
         ensures world { IsWorld self.new }
+        ensures promises { IsPromised self.new }
         ensures nobody { OnOk result (NobodyReady self.old → NobodyReady self.new) }
     {
         self.step(site, Input::Local(request))

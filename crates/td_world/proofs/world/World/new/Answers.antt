@@ -5,6 +5,7 @@ use Rattle.td_world.specs.Parts.{IsWorldParts, world_value}
 use Rattle.td_world.specs.World.{WorldValue, new_replicas, new_world}
 use Rattle.td_world.specs.Promises.{NobodyReady}
 use Rattle.td_world.proofs.Beginnings.{new_nobody, new_parts, new_more, zeros_more}
+use Rattle.td_world.proofs.Promised.{promised}
 use Rattle.td_world.proofs.world.World.new.Given.{Over}
 use Rattle.td_world.proofs.world.World.new.Goals as goal
 
@@ -51,3 +52,7 @@ returns-clause-world g c = (parts g c).world
 
 pub returns-clause-nobody : goal.returns-clause-nobody
 returns-clause-nobody g c = subst (λ (w : WorldValue). NobodyReady w) (sym (value g c)) (new_nobody c.args.n)
+
+pub returns-clause-promises : goal.returns-clause-promises
+returns-clause-promises g c =
+    promised (world_value c.loop-place.replicas.items c.new-2.result.items) (parts g c).world

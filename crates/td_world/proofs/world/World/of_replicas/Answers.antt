@@ -1,8 +1,10 @@
 use Rattle.std.proofs.Common.{◌<◌, List, length, map, sym, ◌∙◌, subst, arith}
 use Rattle.td_machine.specs.History.{IsConsistent}
 use Rattle.td_replica.specs.Replica.{ReplicaValue}
+use Rattle.td_world.specs.Parts.{world_value}
 use Rattle.td_world.specs.World.{AreSites}
 use Rattle.td_world.proofs.Beginnings.{IsOpen, opening_more, opening_done}
+use Rattle.td_world.proofs.Promised.{promised}
 use Rattle.td_world.proofs.Replicas.{or_from}
 use Rattle.td_world.proofs.world.World.of_replicas.Given.{Over}
 use Rattle.td_world.proofs.world.World.of_replicas.Goals as goal
@@ -41,3 +43,7 @@ returns-clause-sites g c = (done g c).value
 
 pub returns-clause-world : goal.returns-clause-world
 returns-clause-world g c = (done g c).parts.world
+
+pub returns-clause-promises : goal.returns-clause-promises
+returns-clause-promises g c =
+    promised (world_value c.args.replicas.items c.loop-replica.posts.items) (done g c).parts.world

@@ -1,0 +1,32 @@
+-- What every consistent family is promised, of a world.
+use Rattle.std.proofs.Common.{◌≡◌, ◌<◌, ◌≤◌, ℕ, [], sym, subst}
+use Rattle.std.proofs.lemmas.List.{append-nil, length-map}
+use Rattle.td_doc.specs.Document.{text_of}
+use Rattle.td_machine.specs.Machine.{Machine}
+use Rattle.td_machine.specs.History.{Moment, history}
+use Rattle.td_order.specs.Show.{show}
+use Rattle.td_replica.specs.Replica.{ReplicaValue}
+use Rattle.td_converge.proofs.EveryFamily.{promises, text}
+use Rattle.td_world.specs.World.{WorldValue, IsWorld, family_of, size}
+use Rattle.td_world.specs.Promises.{IsPromised, TextsAreShown}
+
+pub promised : (w : WorldValue) → IsWorld w → IsPromised w
+promised w is = promises (family_of w) is.consistent
+
+-- a site, after its whole history
+now : (w : WorldValue) (site : ℕ) → 0 < site → site ≤ size w → Moment (family_of w)
+now w site some within =
+    record {
+      site = site;
+      some = some;
+      within = subst (λ (n : ℕ). site ≤ n) (sym (length-map w.replicas (λ (r : ReplicaValue). r.entries))) within;
+      front = history (family_of w) site;
+      back = [];
+      splits = sym (append-nil (history (family_of w) site));
+    }
+
+pub shown : (w : WorldValue) → IsWorld w → TextsAreShown w
+unfolding now
+shown w is site some within =
+    subst (λ (m : Machine). text_of m.doc ≡ show m.log) (sym (is.machines site some within))
+    (text (family_of w) is.consistent (now w site some within))
