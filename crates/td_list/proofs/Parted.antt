@@ -105,6 +105,12 @@ module _ (x : ℕ) (items : List Item) (there : IsItem x items) where
   pub name_there : (get_or items (place_of x items) nothing).name ≡ x
   name_there = ap (λ (i : Item). i.name) ((λ i. get_or (p.is i) (place_is i) nothing) ∙ get_or_at p.front p.item p.back nothing (length p.front) refl) ∙ p.named
 
+  item_there : get_or items (place_of x items) nothing ≡ p.item
+  item_there = (λ i. get_or (p.is i) (place_is i) nothing) ∙ get_or_at p.front p.item p.back nothing (length p.front) refl
+
+  pub there_is : items_from x items ≡ get_or items (place_of x items) nothing ∷ items_after x items
+  there_is = from_is ∙ (λ i. sym item_there i ∷ sym after_is i)
+
   -- no other item has the name
   pub not_behind : AreApart items → IsItem x p.back → ⊥
   not_behind h k =

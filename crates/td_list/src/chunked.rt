@@ -1,6 +1,6 @@
-ghost use Rattle.std.specs.Prelude.{◌≡◌, ◌<◌, ◌≤◌, ◌+◌, ◌^◌, ◌++◌, List, [], nat_lt, length, drop, Option, IfOk, OnOk, OnErr};
+ghost use Rattle.std.specs.Prelude.{◌≡◌, ◌<◌, ◌≤◌, ◌+◌, ◌^◌, ◌++◌, ◌∷◌, List, [], nat_lt, length, drop, Option, IfOk, OnOk, OnErr};
 ghost use Rattle.std.specs.Option.{ForSome};
-ghost use Rattle.td_list.specs.Items.{IsItem, AreApart, AreNew, items_before, items_after, items_from_end, put_before, replace, without, renew, place_of, first_name, last_name, first_marked, share_at, weight_of};
+ghost use Rattle.td_list.specs.Items.{IsItem, AreApart, AreNew, items_before, items_from, items_after, items_from_end, put_before, replace, without, renew, place_of, first_name, last_name, first_marked, share_at, weight_of};
 ghost use Rattle.td_list.specs.Index.{all_items, chunk_at, chunks_before, chunks_after, IsIndex};
 
 use crate::index::Index;
@@ -75,6 +75,11 @@ impl<S: Sequence> Sequence for Chunked<S> {
     fn renew(&mut self, item: Item) {
         let seat = self.index.seat(item.name);
         self.index.renew(seat.chunk, seat.place, item);
+    }
+
+    fn get(&self, name: u32) -> Item {
+        let seat = self.index.seat(name);
+        self.index.items_of(seat.chunk)[seat.place]
     }
 
     fn first(&self) -> Option<u32> {

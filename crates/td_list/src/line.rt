@@ -1,6 +1,6 @@
 ghost use Rattle.std.specs.Prelude.{◌≡◌, ◌<◌, ◌≤◌, ◌+◌, ◌-◌, ◌^◌, ◌++◌, ◌∷◌, ℕ, List, [], nat_lt, length, take, drop, get_or, IfOk, OnOk, OnErr};
 ghost use Rattle.td_list.specs.declared.item.Item.{Item};
-ghost use Rattle.td_list.specs.Items.{IsItem, AreApart, AreNew, items_before, items_after, put_before, without, renew, place_of, first_name, last_name, first_marked, share_at, weight_of};
+ghost use Rattle.td_list.specs.Items.{IsItem, AreApart, AreNew, items_before, items_from, items_after, put_before, without, renew, place_of, first_name, last_name, first_marked, share_at, weight_of};
 ghost use Rattle.td_list.specs.Places.{nothing, ArePlaces, IsLine};
 
 use crate::edit::put_each;
@@ -110,6 +110,10 @@ impl Sequence for Line {
         self.weight -= self.items[place].weight;
         self.weight += item.weight;
         self.items[place] = item;
+    }
+
+    fn get(&self, name: u32) -> Item {
+        self.items[self.place(name)]
     }
 
     fn first(&self) -> Option<u32> {

@@ -1,6 +1,6 @@
-ghost use Rattle.std.specs.Prelude.{◌≡◌, ◌<◌, ◌+◌, ◌^◌, ◌++◌, List, [], nat_lt, IfOk, OnOk, OnErr};
+ghost use Rattle.std.specs.Prelude.{◌≡◌, ◌<◌, ◌+◌, ◌^◌, ◌++◌, ◌∷◌, List, [], nat_lt, IfOk, OnOk, OnErr};
 ghost use Rattle.td_list.specs.declared.item.Item.{Item};
-ghost use Rattle.td_list.specs.Items.{IsItem, AreApart, AreNew, items_before, items_after, put_before, without, renew, place_of, first_name, last_name, first_marked, share_at, weight_of};
+ghost use Rattle.td_list.specs.Items.{IsItem, AreApart, AreNew, items_before, items_from, items_after, put_before, without, renew, place_of, first_name, last_name, first_marked, share_at, weight_of};
 
 use crate::item::{Item, Share};
 use std::alloc::Global;
@@ -42,6 +42,11 @@ pub trait Sequence: Sized + Drop {
         requires there { IsItem item.name (items self.old) }
         requires light { weight_of (renew item (items self.old)) < 2 ^ 32 }
         ensures { items self.new ≡ renew item (items self.old) };
+
+    /// The item with a name.
+    fn get(&self, name: u32) -> Item
+        requires { IsItem name (items self.now) }
+        ensures { items_from name (items self.now) ≡ result ∷ items_after name (items self.now) };
 
     /// The first item.
     fn first(&self) -> Option<u32>

@@ -39,6 +39,7 @@ struct Told {
     three_before_eight: bool,
     weight: u32,
     before_nine: u32,
+    third: Item,
     third_unit: Option<Share>,
     beyond: Option<Share>,
 }
@@ -53,6 +54,7 @@ fn expected() -> Told {
         three_before_eight: true,
         weight: 7,
         before_nine: 6,
+        third: item(8, 4, true),
         third_unit: Some(Share { name: 8, rest: 1 }),
         beyond: None,
     }
@@ -71,6 +73,7 @@ fn tell<S: Sequence>(alloc: Global) -> Result<Told, Memory> {
         three_before_eight: list.is_before(3, 8),
         weight: list.weight(),
         before_nine: list.weight_before(9),
+        third: list.get(8),
         third_unit: list.share_at(3),
         beyond: list.share_at(7),
     })
