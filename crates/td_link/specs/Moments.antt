@@ -1,5 +1,6 @@
 -- What was so at a moment of a call. A queue leaves no trace of a look that found it empty or full, so these two words
--- are abstract: `try_take` and `try_send` alone give them, and a crate above can pass them on and cannot make them.
+-- are abstract: `try_take` and `try_send` give them, by the two lemmas below, which are for their proofs alone, and a
+-- crate above passes them on.
 use Rattle.std.specs.Prelude.{◌≡◌, ℕ, List, ◌++◌}
 use Rattle.crossbeam_queue.specs.Fifo.{Held}
 
