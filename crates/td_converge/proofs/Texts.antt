@@ -10,7 +10,7 @@ use Rattle.td_path.specs.declared.slot.Slot.{Slot}
 use Rattle.td_op.specs.declared.body.Body.{Body}
 use Rattle.td_op.specs.declared.body.Body.TheVariants.{Insert, Delete, Propose, Commit, Abort}
 use Rattle.td_op.specs.Op.{OpValue}
-use Rattle.td_doc.specs.Document.{DocRow, row_id, has_id, is_live, live_rows, text_of, IsDocument}
+use Rattle.td_doc.specs.Document.{DocRow, row_id, has_id, is_live, live_atoms, live_rows, IsDocument}
 use Rattle.td_doc.specs.Array.{named, array}
 use Rattle.td_base.specs.RunAtoms.{NamedAtom, run_atoms, run_atoms_from, run_ids_from}
 use Rattle.td_doc.specs.Insertion.{put_rows, put_array_below}
@@ -30,7 +30,7 @@ use Rattle.td_base.specs.Equality.{same_dot}
 use Rattle.td_order.specs.LineUp.{line_up}
 use Rattle.td_order.specs.Lists.{IsSublist}
 use Rattle.td_order.specs.Order.{order}
-use Rattle.td_order.specs.Show.{atom_of, deletes, is_deleted, shown_ids, show}
+use Rattle.td_order.specs.Show.{atom_of, deletes, is_deleted, shown_atoms, shown_ids}
 use Rattle.td_order.specs.Causal.{IsWellRooted}
 use Rattle.td_order.proofs.Keys.{Key, key_strict}
 use Rattle.td_base.proofs.Equals.{same_dot_true, same_dot_refl}
@@ -50,7 +50,7 @@ use Rattle.td_logs.proofs.WellRooted.{insertion_parts}
 use Rattle.td_logs.specs.Logs.{IsLogOf}
 use Rattle.td_decide.specs.Voted.{IsVoted}
 use Rattle.td_decide.specs.Promises.{OneDecision}
-use Rattle.td_converge.specs.Promises.{NoCommit, RowsAreTheOrder, RowsArePart, ConvergentText, TextsConverge}
+use Rattle.td_converge.specs.Promises.{NoCommit, RowsAreTheOrder, RowsArePart, ConvergentAtoms, ConvergentText, TextsConverge}
 use Rattle.td_logs.proofs.WellRooted.{moment_part}
 use Rattle.td_logs.proofs.Moments.{moment_log}
 use Rattle.td_logs.proofs.Fitting.{moment_doc}
@@ -338,19 +338,21 @@ module _ (family : Family) (c : IsConsistent family) where
           (filter_sub row_id is_live (doc_of log)) rows_in) rises)
           (successive_filter Lt (λ (x : AtomIdValue). not (is_deleted log x)) (order log) rises) to back
 
-      -- a log's text is the one that its operations show
-      pub text_shown : text_of (doc_of log) ≡ show log
-      text_shown =
-          ap concat
-          (same_map (λ (r : DocRow). r.atom) (λ (r : DocRow). atom_of log (row_id r)) (live_rows (doc_of log))
+      -- the atoms of a log's live rows are those that its operations show
+      pub atoms_shown : live_atoms (doc_of log) ≡ shown_atoms log
+      atoms_shown =
+          same_map (λ (r : DocRow). r.atom) (λ (r : DocRow). atom_of log (row_id r)) (live_rows (doc_of log))
           (λ r i. atom_told log l r (In-filter is_live r (doc_of log) i).0)
-          ∙ (sym (map-map (atom_of log) row_id (live_rows (doc_of log))) ∙ ap (map (atom_of log)) live_ids))
+          ∙ (sym (map-map (atom_of log) row_id (live_rows (doc_of log))) ∙ ap (map (atom_of log)) live_ids)
 
     -- ---- moments
 
+    pub convergent_atoms : ConvergentAtoms family
+    convergent_atoms t = ap live_atoms (moment_doc family c t)
+        ∙ atoms_shown (machine_at family t).log (moment_log family c t)
+
     pub convergent_text : ConvergentText family
-    convergent_text t = ap text_of (moment_doc family c t)
-        ∙ text_shown (machine_at family t).log (moment_log family c t)
+    convergent_text t = ap concat (convergent_atoms t)
 
     pub rows_are_part : RowsArePart family
     rows_are_part t =

@@ -4,12 +4,12 @@ use Rattle.td_base.specs.Value.{DotValue, AtomIdValue}
 use Rattle.td_base.specs.Lists.{In, StandsBefore}
 use Rattle.td_op.specs.declared.body.Body.TheVariants.{Commit}
 use Rattle.td_op.specs.Op.{OpValue}
-use Rattle.td_doc.specs.Document.{row_id, text_of}
+use Rattle.td_doc.specs.Document.{row_id, live_atoms, text_of}
 use Rattle.td_machine.specs.Machine.{Machine}
 use Rattle.td_machine.specs.History.{Family, Moment, machine_at}
 use Rattle.td_order.specs.Lists.{IsSublist}
 use Rattle.td_order.specs.Order.{order}
-use Rattle.td_order.specs.Show.{show, is_deleted}
+use Rattle.td_order.specs.Show.{show, shown_atoms, is_deleted}
 
 -- the identities of the rows, in the order of the document
 abbrev pub row_ids : Machine → List AtomIdValue
@@ -39,6 +39,11 @@ RowsAgree family =
     (t u : Moment family) (x y : AtomIdValue) → StandsBefore x y (row_ids (machine_at family t))
     → In x (row_ids (machine_at family u)) → In y (row_ids (machine_at family u))
     → StandsBefore x y (row_ids (machine_at family u))
+
+-- at every moment a site shows the atoms that its operations show
+abbrev pub ConvergentAtoms : Family → Type 0
+ConvergentAtoms family =
+    (t : Moment family) → live_atoms (machine_at family t).doc ≡ shown_atoms (machine_at family t).log
 
 -- convergent text: at every moment a site shows the text that its operations show
 abbrev pub ConvergentText : Family → Type 0

@@ -1,7 +1,7 @@
 // What the rows and the texts of a consistent family are, whatever was flattened; each law is the contract of a
 // function with an empty body.
 ghost use Rattle.td_machine.specs.History.{Family, IsConsistent};
-ghost use Rattle.td_converge.specs.Promises.{RowsAreTheOrder, RowsArePart, RowsAgree, ConvergentText, TextsConverge};
+ghost use Rattle.td_converge.specs.Promises.{RowsAreTheOrder, RowsArePart, RowsAgree, ConvergentAtoms, ConvergentText, TextsConverge};
 ghost use Rattle.td_converge.specs.Subtrees.{SubtreesMeet};
 ghost use Rattle.td_converge.specs.Headline.{KeepsPromises};
 
@@ -21,9 +21,10 @@ pub fn rows_are_part_of_the_order()
     ensures whole { (family : Family) → IsConsistent family → RowsAreTheOrder family }
 {}
 
-/// Convergent text: at every moment the text of a site is the one that its operations show. So two moments, of one
-/// site or of two, with the same operations show the same text, in whatever order these came.
+/// Convergent text: at every moment the text of a site is the one that its operations show, atom by atom. So two
+/// moments, of one site or of two, with the same operations show the same text, in whatever order these came.
 pub fn texts_converge()
+    ensures atoms { (family : Family) → IsConsistent family → ConvergentAtoms family }
     ensures text { (family : Family) → IsConsistent family → ConvergentText family }
     ensures converge { (family : Family) → IsConsistent family → TextsConverge family }
 {}

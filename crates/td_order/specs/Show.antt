@@ -36,5 +36,9 @@ atom_of ops x = unwrap_or (atom_in (insertions ops) x) []
 abbrev pub shown_ids : List OpValue → List AtomIdValue
 shown_ids ops = filter (λ (x : AtomIdValue). not (is_deleted ops x)) (order ops)
 
+-- and the atoms themselves
+abbrev pub shown_atoms : List OpValue → List (List ℕ)
+shown_atoms ops = map (atom_of ops) (shown_ids ops)
+
 abbrev pub show : List OpValue → List ℕ
-show ops = concat (map (atom_of ops) (shown_ids ops))
+show ops = concat (shown_atoms ops)

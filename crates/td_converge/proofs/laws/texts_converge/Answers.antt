@@ -1,5 +1,8 @@
-use Rattle.td_converge.proofs.EveryFamily.{text, converge}
+use Rattle.td_converge.proofs.EveryFamily.{atoms, text, converge}
 use Rattle.td_converge.proofs.laws.texts_converge.Goals as goal
+
+pub returns-clause-atoms : goal.returns-clause-atoms
+returns-clause-atoms c = atoms
 
 pub returns-clause-text : goal.returns-clause-text
 returns-clause-text c = text
