@@ -1,3 +1,4 @@
 mod Alphabet
 mod Growing
 mod Making
+pub mod Commands

@@ -7,11 +7,13 @@
 
 mod edit;
 mod generator;
+mod laws;
 mod least;
 mod letters;
 mod progress;
 
 pub use generator::{MAX_SIZE, script_of};
+pub use laws::generated_scripts_edit_and_flatten;
 
 #[cfg(test)]
 mod tests;

@@ -28,6 +28,7 @@ pub use command::{Command, Place};
 pub use commands::Commands;
 pub use kind::{Kind, ScriptFault};
 pub use laws::{scripts_have_no_fault, spelled_scripts_are_unique, written_scripts_are_read_again};
+pub use number::{MAX_DIGITS, number_of};
 pub use script::{
     MAX_LINE, MAX_MIDDLE_REQUESTS, MAX_SCRIPT, MAX_WIDE_REQUESTS, MAX_WIDE_SCRIPT, Script,
     read_script,

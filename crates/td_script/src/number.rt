@@ -2,10 +2,10 @@ ghost use Rattle.std.specs.Prelude.{◌≡◌, ◌≢◌, ◌<◌, ◌^◌, ◌�
 ghost use Rattle.std.specs.Fmt.{decimal};
 
 /// The greatest number of digits of a number.
-pub(crate) const MAX_DIGITS: usize = 9;
+pub const MAX_DIGITS: usize = 9;
 
 /// The number that is written in these digits: `0`, or a digit from 1 to 9 and others, up to `MAX_DIGITS`.
-pub(crate) fn number_of(digits: &[u8]) -> Option<u32>
+pub fn number_of(digits: &[u8]) -> Option<u32>
     ensures some { IfSome result (λ n. (n < 10 ^ MAX_DIGITS) × (digits.now ≡ decimal n)) }
     ensures none { IfNone result ((n : ℕ) → n < 10 ^ MAX_DIGITS → digits.now ≢ decimal n) }
 {
