@@ -56,7 +56,7 @@ same_some x y e = cc
 abbrev move_of : ℕ → Input → Move
 move_of site input = record { site = site; input = input }
 
-reached_in : (w : WorldValue) → IsWorld w → (site : ℕ) → 0 < site → site ≤ size w → IsReached (machine_of w site)
+pub reached_in : (w : WorldValue) → IsWorld w → (site : ℕ) → 0 < site → site ≤ size w → IsReached (machine_of w site)
 reached_in w i site some within =
     subst IsReached (sym (i.machines site some within)) (reached_end (family_of w) i.consistent site some (low w i site within))
 
@@ -255,15 +255,24 @@ past_sites (r ∷ replicas) zero number message e = omega arith
 past_sites (r ∷ replicas) (suc k) number message e =
     let h : k < length replicas = past_sites replicas k number message e in omega (arith, h)
 
-kth_in : {X : Type 0} (k : ℕ) (xs : List X) (x : X) → kth k xs ≡ Some x → In x xs
-kth_in {X = X} k xs x e = at (nat_eq k 0) e
+-- what has a number has a place
+pub kth_get : {X : Type 0} (k : ℕ) (xs : List X) (x : X) → kth k xs ≡ Some x → (0 < k) × (slice_get xs (k - 1) ≡ Some x)
+kth_get {X = X} k xs x e = at (nat_eq k 0) refl e
   where
-    at : (b : Bool) → (if b then None else slice_get xs (k - 1)) ≡ Some x → In x xs
-    at true f = absurd (none_some f)
+    at : (b : Bool) → nat_eq k 0 ≡ b → (if b then None else slice_get xs (k - 1)) ≡ Some x
+        → (0 < k) × (slice_get xs (k - 1) ≡ Some x)
+    at true n f = absurd (none_some f)
       where
         none_some : ◌≡◌ {A = Option X} None (Some x) → ⊥
         none_some g = cc
-    at false f = In-slice_get xs (k - 1) x f
+    at false n f = (positive k (eqb-false k 0 n), f)
+      where
+        positive : (k : ℕ) → (k ≡ 0 → ⊥) → 0 < k
+        positive zero not = absurd (not refl)
+        positive (suc k) not = omega arith
+
+kth_in : {X : Type 0} (k : ℕ) (xs : List X) (x : X) → kth k xs ≡ Some x → In x xs
+kth_in k xs x e = In-slice_get xs (k - 1) x (kth_get k xs x e).1
 
 pub record IsAt (replicas : List ReplicaValue) (posts : List Post) (k : ℕ) (p : Post) : Type 0 where
   pub within : p.site ≤ length replicas
@@ -354,6 +363,10 @@ letter_some site message (Some m) e = ap (λ (x : Message). Some x) (sym (second
 pub letter_in : (site : ℕ) (message : Message) (k : ℕ) (messages : List Message)
     → Some (signed site message) ≡ option_map letter (kth k messages) → In message messages
 letter_in site message k messages e = kth_in k messages message (letter_some site message (kth k messages) e)
+
+pub letter_kth : (site : ℕ) (message : Message) (k : ℕ) (messages : List Message)
+    → Some (signed site message) ≡ option_map letter (kth k messages) → kth k messages ≡ Some message
+letter_kth site message k messages e = letter_some site message (kth k messages) e
 
 pub letter_get : (site : ℕ) (message : Message) (k : ℕ) (messages : List Message)
     → Some (signed site message) ≡ option_map letter (slice_get messages k) → slice_get messages k ≡ Some message

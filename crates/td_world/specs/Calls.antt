@@ -75,6 +75,24 @@ is_wanted site message w = is_for site message && not (is_known message (machine
 abbrev pub wanted_moves : ℕ → Message → WorldValue → List Move
 wanted_moves site message w = if is_wanted site message w then give_moves site message w else []
 
+abbrev pub wanted_answer : ℕ → Message → WorldValue → Option Given
+wanted_answer site message w = if is_wanted site message w then Some (took site message w) else None
+
+-- the message with this number, where there is one and the site wants it
+abbrev pub offered_by : ℕ → Option Message → WorldValue → Option Given
+offered_by site None w = None
+offered_by site (Some message) w = wanted_answer site message w
+
+abbrev pub offered : ℕ → ℕ → WorldValue → Option Given
+offered site number w = offered_by site (kth number w.sent) w
+
+abbrev pub offer_moves_of : ℕ → Option Message → WorldValue → List Move
+offer_moves_of site None w = []
+offer_moves_of site (Some message) w = wanted_moves site message w
+
+abbrev pub offer_moves : ℕ → ℕ → WorldValue → List Move
+offer_moves site number w = offer_moves_of site (kth number w.sent) w
+
 -- these messages in turn, those that are wanted when their turn comes
 abbrev pub moves_of : ℕ → List Message → WorldValue → List Move
 moves_of site [] w = []

@@ -1,8 +1,8 @@
 -- What a world comes to.
 use Rattle.std.specs.Prelude.{◌≡◌, ◌<◌, ◌≤◌, ℕ, false}
-use Rattle.td_doc.specs.Document.{text_of}
+use Rattle.td_doc.specs.Document.{live_atoms, text_of}
 use Rattle.td_machine.specs.Machine.{undecided}
-use Rattle.td_order.specs.Show.{show}
+use Rattle.td_order.specs.Show.{show, shown_atoms}
 use Rattle.td_converge.specs.Headline.{KeepsPromises}
 use Rattle.td_world.specs.World.{WorldValue, size, machine_of, family_of}
 use Rattle.td_world.specs.Calls.{is_ready}
@@ -26,7 +26,12 @@ AllDecided w = (site : ℕ) → 0 < site → site ≤ size w → undecided (mach
 abbrev pub IsPromised : WorldValue → Type 0
 IsPromised w = KeepsPromises (family_of w)
 
--- so now: the text of each site is the one that its operations show
+-- so now: the atoms of each site are those that its operations show
+abbrev pub AtomsAreShown : WorldValue → Type 0
+AtomsAreShown w =
+    (site : ℕ) → 0 < site → site ≤ size w → live_atoms (machine_of w site).doc ≡ shown_atoms (machine_of w site).log
+
+-- and so is its text
 abbrev pub TextsAreShown : WorldValue → Type 0
 TextsAreShown w =
     (site : ℕ) → 0 < site → site ≤ size w → text_of (machine_of w site).doc ≡ show (machine_of w site).log

@@ -4,7 +4,7 @@ ghost use Rattle.std.specs.List.{slice_get};
 ghost use Rattle.td_base.specs.Lists.{In};
 ghost use Rattle.td_op.specs.declared.message.Message.{Message};
 ghost use Rattle.td_world.specs.World.{IsWorld, size, moved_all, is_for};
-ghost use Rattle.td_world.specs.Calls.{is_wanted, nexts_after, give_moves, took, found_moves, found_given, numbered_moves, numbered_given, wanted_moves, wanted_given, give_all_moves, give_all_given, IsCutShort};
+ghost use Rattle.td_world.specs.Calls.{is_wanted, nexts_after, give_moves, took, found_moves, found_given, numbered_moves, numbered_given, wanted_moves, wanted_given, wanted_answer, offered, offer_moves, give_all_moves, give_all_given, IsCutShort};
 ghost use Rattle.td_world.specs.Parts.{ArePassed};
 ghost use Rattle.td_world.specs.Promises.{NobodyReady, IsPromised};
 
@@ -47,9 +47,51 @@ impl<D: Doc> World<D> {
     {
         let mut given = Vec::new(alloc);
         for k in self.passed_by(to)..self.posts.len() {
-            self.offer(to, k, &mut given)?;
+            self.note_given(to, k, &mut given)?;
         }
         Ok(given)
+    }
+
+    /// Gives a site the message with the number, where there is one, it is for the site, and is not known there; and then
+    /// takes what waits there and is ready. None where it is not given.
+    pub fn offer(&mut self, to: Site, number: u64) -> Result<Option<Given>, Memory>
+        requires { to ≤ size self.old }
+        ensures given { IfOk result (λ given. given ≡ offered to number self.old) }
+        ensures ok { OnOk result (self.new ≡ moved_all (offer_moves to number self.old) self.old) }
+        ensures err { OnErr result (IsCutShort (offer_moves to number self.old) self.old self.new) }
+        ensures world { IsWorld self.new }
+        ensures promises { IsPromised self.new }
+        ensures nobody { OnOk result (NobodyReady self.old → NobodyReady self.new) }
+    {
+        match self.message(number) {
+            Some((_, message)) => self.offer_at(to, number as usize - 1, &message),
+            None => Ok(None),
+        }
+    }
+
+    /// All messages up to this number are known to the site, or not for it. It takes no memory.
+    pub fn passed(&self, site: Site) -> u64
+        requires { site ≤ size self.now }
+        ensures { ArePassed site self.now result }
+    {
+        self.passed_by(site) as u64
+    }
+
+    // Gives the message, where the site wants it.
+    fn offer_to(&mut self, to: Site, message: &Message) -> Result<Option<Given>, Memory>
+        requires within { to ≤ size self.old }
+        requires sent { In message.now self.old.sent }
+        requires world { IsWorld self.old }
+        ensures given { IfOk result (λ given. given ≡ wanted_answer to message.now self.old) }
+        ensures ok { OnOk result (self.new ≡ moved_all (wanted_moves to message.now self.old) self.old) }
+        ensures err { OnErr result (IsCutShort (wanted_moves to message.now self.old) self.old self.new) }
+        ensures world { IsWorld self.new }
+        ensures some { 1 ≤ to }
+    {
+        if !self.is_wanted(to, message) {
+            return Ok(None);
+        }
+        Ok(Some(self.take(to, message)?))
     }
 
     // Gives the message, where it is for the site.
@@ -103,8 +145,13 @@ impl<D: Doc> World<D> {
         Ok(waiting)
     }
 
-    // Gives the message at the place, where it is wanted.
-    fn offer(&mut self, to: Site, k: usize, given: &mut Vec<(u64, Given)>) -> Result<(), Memory>
+    // Gives the message at the place, where it is wanted, and notes that with its number.
+    fn note_given(
+        &mut self,
+        to: Site,
+        k: usize,
+        given: &mut Vec<(u64, Given)>,
+    ) -> Result<(), Memory>
         requires within { to ≤ size self.old }
         requires sent { k < length self.old.sent }
         requires fits { k < usize.MAX }
@@ -117,36 +164,31 @@ impl<D: Doc> World<D> {
             → IsCutShort (wanted_moves to m self.old) self.old self.new) }
         ensures world { IsWorld self.new }
     {
-        if let Some((_, message)) = self.at(k) {
-            self.give_wanted(to, k as u64 + 1, &message, given)?;
-            self.pass_by(to, k, &message);
+        let Some((_, message)) = self.at(k) else {
+            return Ok(());
+        };
+        given.reserve(1)?;
+        if let Some(took) = self.offer_at(to, k, &message)? {
+            given.push_reserved((k as u64 + 1, took));
         }
         Ok(())
     }
 
-    fn give_wanted(
-        &mut self,
-        to: Site,
-        number: u64,
-        message: &Message,
-        given: &mut Vec<(u64, Given)>,
-    ) -> Result<(), Memory>
+    // Gives the message at the place, where it is wanted. Where all before it need not be looked at again, and it neither,
+    // that is noted.
+    fn offer_at(&mut self, to: Site, k: usize, message: &Message) -> Result<Option<Given>, Memory>
         requires within { to ≤ size self.old }
-        requires sent { In message.now self.old.sent }
+        requires sent { slice_get self.old.sent k ≡ Some message.now }
         requires world { IsWorld self.old }
-        ensures given { OnOk result
-            (given.new.items ≡ given.old.items ++ wanted_given to number message.now self.old) }
+        ensures given { IfOk result (λ given. given ≡ wanted_answer to message.now self.old) }
         ensures ok { OnOk result (self.new ≡ moved_all (wanted_moves to message.now self.old) self.old) }
         ensures err { OnErr result (IsCutShort (wanted_moves to message.now self.old) self.old self.new) }
         ensures world { IsWorld self.new }
+        ensures some { 1 ≤ to }
     {
-        if !self.is_wanted(to, message) {
-            return Ok(());
-        }
-        given.reserve(1)?;
-        let took = self.take(to, message)?;
-        given.push_reserved((number, took));
-        Ok(())
+        let given = self.offer_to(to, message)?;
+        self.pass_by(to, k, message);
+        Ok(given)
     }
 
     // Whether the message is for the site and not known there.

@@ -6,7 +6,7 @@ ghost use Rattle.td_machine.specs.History.{sender, IsAddressed};
 ghost use Rattle.td_replica.specs.declared.given.Given.TheVariants.{NoSuch, Stray};
 ghost use Rattle.td_world.specs.World.{WorldValue, Move, IsWorld, IsFit, size, machine_of, moved, moved_all, is_for};
 ghost use Rattle.td_world.specs.Calls.{is_ready, nexts_after, numbered_given, pass, IsSettled};
-ghost use Rattle.td_world.specs.Promises.{NobodyReady, SameVectors, AllDecided, IsPromised, TextsAreShown};
+ghost use Rattle.td_world.specs.Promises.{NobodyReady, SameVectors, AllDecided, IsPromised, AtomsAreShown, TextsAreShown};
 
 /// A move of which the input may be given to its site leads from a world to a world.
 pub fn worlds_go_on()
@@ -50,8 +50,9 @@ pub fn settled_worlds_agree()
 {}
 
 /// Every world keeps the six promises, at every moment up to now; so now each site shows what its operations show.
-#[tactic(auto, using(crate::proofs::Promised::promised, crate::proofs::Promised::shown))]
+#[tactic(auto, using(crate::proofs::Promised::promised, crate::proofs::Promised::atoms_shown, crate::proofs::Promised::shown))]
 pub fn worlds_keep_the_promises()
     ensures promises { (w : WorldValue) → IsWorld w → IsPromised w }
+    ensures atoms { (w : WorldValue) → IsWorld w → AtomsAreShown w }
     ensures texts { (w : WorldValue) → IsWorld w → TextsAreShown w }
 {}

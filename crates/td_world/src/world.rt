@@ -50,6 +50,7 @@ impl<D: Doc> World<D> {
     pub fn replica(&self, site: Site) -> &Replica<D>
         requires { site ≤ size self.now }
         ensures replica { result.now ≡ replica self.now site }
+        ensures some { 1 ≤ site }
         ensures world { IsWorld self.now }
         ensures promises { IsPromised self.now }
     {

@@ -21,27 +21,27 @@ loop-k-init g c =
           ∙ ap (λ (w : WorldValue). length w.sent) c.self.view_is,
     )
 
-pub offer-requires-clause-within : goal.offer-requires-clause-within
-offer-requires-clause-within g c =
+pub note_given-requires-clause-within : goal.note_given-requires-clause-within
+note_given-requires-clause-within g c =
     let same : size c.loop-k.self ≡ size c.args.self.now =
     giving_size c.args.to c.loop-k.k c.args.self.now c.loop-k.self c.loop-k.given.items c.loop-k.invariant.0 in
     omega (arith, same, c.requires)
 
-pub offer-requires-clause-sent : goal.offer-requires-clause-sent
-offer-requires-clause-sent g c =
+pub note_given-requires-clause-sent : goal.note_given-requires-clause-sent
+note_given-requires-clause-sent g c =
     let less : c.loop-k.k < length c.args.self.now.sent = omega (arith, c.loop-k-test.true, c.loop-k.invariant.2) in
     let m = some_at c.args.self.now.sent c.loop-k.k less in
     get_less c.loop-k.self.sent c.loop-k.k m.0
     (still_numbered c.args.to c.loop-k.k c.args.self.now c.loop-k.self c.loop-k.given.items c.loop-k.invariant.0 c.loop-k.k m.0 m.1)
 
-pub returns-in_err-offer-clause-err : goal.returns-in_err-offer-clause-err
-returns-in_err-offer-clause-err g c =
+pub returns-in_err-note_given-clause-err : goal.returns-in_err-note_given-clause-err
+returns-in_err-note_given-clause-err g c =
     let less : c.loop-k.k < length c.args.self.now.sent = omega (arith, c.loop-k-test.true, c.loop-k.invariant.2) in
     let m = some_at c.args.self.now.sent c.loop-k.k less in
     err_always c.from_residual.result
-    (giving_cut c.args.to c.loop-k.k c.args.self.now c.loop-k.self c.offer.new.self c.loop-k.given.items
+    (giving_cut c.args.to c.loop-k.k c.args.self.now c.loop-k.self c.note_given.new.self c.loop-k.given.items
     c.loop-k.given.items c.loop-k.invariant.0 m.0 m.1
-    (c.in_err-offer.ensures.err m.0
+    (c.in_err-note_given.ensures.err m.0
     (still_numbered c.args.to c.loop-k.k c.args.self.now c.loop-k.self c.loop-k.given.items c.loop-k.invariant.0 c.loop-k.k m.0 m.1)))
 
 pub loop-k-preserved : goal.loop-k-preserved
@@ -50,9 +50,9 @@ loop-k-preserved g c =
     let m = some_at c.args.self.now.sent c.loop-k.k less in
     let here =
     still_numbered c.args.to c.loop-k.k c.args.self.now c.loop-k.self c.loop-k.given.items c.loop-k.invariant.0 c.loop-k.k m.0 m.1 in (
-      giving_more c.args.to c.loop-k.k c.args.self.now c.loop-k.self c.offer.new.self c.loop-k.given.items
-          c.offer.new.given.items c.loop-k.invariant.0 m.0 m.1 (c.in_ok-offer.ensures.ok m.0 here) (c.in_ok-offer.ensures.given m.0 here),
-      c.in_ok-offer.ensures.world,
+      giving_more c.args.to c.loop-k.k c.args.self.now c.loop-k.self c.note_given.new.self c.loop-k.given.items
+          c.note_given.new.given.items c.loop-k.invariant.0 m.0 m.1 (c.in_ok-note_given.ensures.ok m.0 here) (c.in_ok-note_given.ensures.given m.0 here),
+      c.in_ok-note_given.ensures.world,
       c.loop-k.invariant.2,
     )
 

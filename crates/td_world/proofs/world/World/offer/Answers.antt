@@ -1,27 +1,28 @@
-use Rattle.std.proofs.Common.{◌≡◌, ap, ◌∙◌, arith}
-use Rattle.std.specs.List.{slice_get}
-use Rattle.td_base.proofs.Elements.{In-slice_get}
-use Rattle.td_world.specs.World.{WorldValue, size}
+use Rattle.std.proofs.Common.{◌≡◌, ◌<◌, sym, subst, arith}
+use Rattle.std.proofs.lemmas.Result.{on_ok_weaker}
+use Rattle.td_world.specs.World.{WorldValue, moved_all}
 use Rattle.td_world.specs.Calls.{wanted_moves}
-use Rattle.td_world.proofs.Kept.{letter_get}
-use Rattle.td_world.proofs.Moves.{size_after}
-use Rattle.td_world.proofs.Posts.{still_at}
+use Rattle.td_world.specs.Promises.{NobodyReady}
+use Rattle.td_world.proofs.Kept.{kth_get, letter_kth}
+use Rattle.td_world.proofs.Nexts.{wanted_nobody}
 use Rattle.td_world.proofs.world.World.offer.Goals as goal
 
-pub give_wanted-requires-clause-sent : goal.give_wanted-requires-clause-sent
-give_wanted-requires-clause-sent g c =
-    In-slice_get c.args.self.now.sent c.args.k c.in-Some.message
-    (letter_get c.in-Some.field-0-0 c.in-Some.message c.args.k c.args.self.now.sent c.in-Some.ensures)
+pub overflow_sub-number : goal.overflow_sub-number
+overflow_sub-number g c =
+    let some : 0 < c.args.number = (kth_get c.args.number c.args.self.now.sent c.in-Some.message
+    (letter_kth c.in-Some.field-0-0 c.in-Some.message c.args.number c.args.self.now.sent c.in-Some.ensures.message)).0 in
+    omega (arith, some)
 
-pub pass_by-requires-clause-within : goal.pass_by-requires-clause-within
-pass_by-requires-clause-within g c =
-    let same : size c.give_wanted.new.self ≡ size c.args.self.now =
-    ap size c.in_ok-give_wanted.ensures.ok
-    ∙ size_after (wanted_moves c.args.to c.in-Some.message c.args.self.now) c.args.self.now in
-    omega (arith, same, c.requires.within)
+pub offer_at-requires-clause-sent : goal.offer_at-requires-clause-sent
+offer_at-requires-clause-sent g c =
+    (kth_get c.args.number c.args.self.now.sent c.in-Some.message
+    (letter_kth c.in-Some.field-0-0 c.in-Some.message c.args.number c.args.self.now.sent c.in-Some.ensures.message)).1
 
-pub pass_by-requires-clause-sent : goal.pass_by-requires-clause-sent
-pass_by-requires-clause-sent g c =
-    ap (λ (w : WorldValue). slice_get w.sent c.args.k) c.in_ok-give_wanted.ensures.ok
-    ∙ still_at (wanted_moves c.args.to c.in-Some.message c.args.self.now) c.args.self.now c.args.k c.in-Some.message
-    (letter_get c.in-Some.field-0-0 c.in-Some.message c.args.k c.args.self.now.sent c.in-Some.ensures)
+pub returns-in-Some-clause-nobody : goal.returns-in-Some-clause-nobody
+returns-in-Some-clause-nobody g c =
+    on_ok_weaker c.offer_at.result
+    (λ (e : c.offer_at.new.self ≡ moved_all (wanted_moves c.args.to c.in-Some.message c.args.self.now) c.args.self.now)
+    (h : NobodyReady c.args.self.now).
+    subst (λ (w : WorldValue). NobodyReady w) (sym e)
+    (wanted_nobody c.args.to c.in-Some.message c.args.self.now c.offer_at.ensures.some c.requires h))
+    c.offer_at.ensures.ok
