@@ -1,6 +1,11 @@
-pub mod FirstForm
-pub mod Editor
-pub mod Site
-pub mod Number
+pub mod Runs
+pub mod Asking
+pub mod Printing
+pub mod Outputs
+pub mod Words
 pub mod Answer
+pub mod Answering
 pub mod Answered
+pub mod Number
+pub mod Sites
+pub mod Typing

@@ -1,21 +1,30 @@
-//! The program's run: from the bytes of an input to the bytes that it prints.
+//! The program's run: from the bytes of a script to the bytes that it prints.
 //!
-//! Begin at `first_form`, the language of the input, and at `specs/FirstForm.antt`, its grammar; at `program`, the
-//! call on top, and at `specs/Answered.antt`, what it promises.
+//! Begin at `specs/Printing.antt`, what each command of a script does and prints; at `program`, the call on top; and at
+//! `specs/Answered.antt`, what it promises. A `Player` is a world in which a script is played, with what was printed so
+//! far; `edits`, `flattens`, `giving` and `showing` are its commands.
 #![tactic(auto)]
 
-mod first_form;
-mod one_site;
+mod answer;
+mod edits;
+mod fault;
+mod flattens;
+mod generated;
+mod giving;
+mod outcome;
 mod play;
+mod player;
 mod program;
-mod reply;
+mod runs;
+mod showing;
 mod status;
+mod typing;
+mod words;
 
-pub use first_form::{
-    Command, MAX_INPUT, read_first_form, spellings_are_unique, texts_fit_the_input,
-};
 pub use program::{run, run_plain};
+pub use runs::a_text_is_cut_into_runs;
 pub use status::Status;
+pub use typing::typing_is_typing;
 
 #[cfg(test)]
 mod tests;

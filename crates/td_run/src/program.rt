@@ -1,29 +1,34 @@
-ghost use Rattle.std.specs.Prelude.{◌≡◌, ◌≤◌, ◌+◌, ◌↔◌, ◌⊎◌, IsTrue, IfSome, IfOk, IfNone, IsErrOf, OnOk};
+ghost use Rattle.std.specs.Prelude.{◌≡◌, ◌⊎◌, IfOk, IsErrOf};
 ghost use Rattle.std.specs.Io.KnownBytes.{Appends};
 ghost use Rattle.td_io.specs.Count.{Rose};
-ghost use Rattle.td_io.specs.Reading.{IsReadPast, IsReadToEnd};
+ghost use Rattle.td_run.specs.declared.answer.Stop.TheVariants.{Read as Unread};
 ghost use Rattle.td_run.specs.declared.status.Status.{Status};
-ghost use Rattle.td_run.specs.Answer.{IsNoScript, IsPlay, IsPrinted, PutsFront};
+ghost use Rattle.td_run.specs.declared.status.Status.TheVariants.{Script as NoScript};
+ghost use Rattle.td_run.specs.declared.words.Form.TheVariants.{Play};
+ghost use Rattle.td_run.specs.Answer.{PutsFront, fault_line};
+ghost use Rattle.td_run.specs.Answering.{IsAnswerTo, IsAskable, IsPlayedOr};
 ghost use Rattle.td_run.specs.Answered.{IsAnswered};
 
-use crate::first_form::{MAX_INPUT, read_first_form};
-use crate::play::play;
+use crate::answer::{Answer, Stop};
+use crate::fault::fault_line;
+use crate::generated::generated;
+use crate::play::output_of;
 use crate::status::Status;
+use crate::words::{Form, asked_for};
 use std::alloc::Global;
 use std::sync::Wait;
 use std::thread::Threads;
-use td_base::{Bytes, Memory};
+use td_base::Bytes;
+use td_doc::Rows;
 use td_io::{ReadFault, Sink, Source, put_all, read_all};
+use td_script::{Kind, MAX_SCRIPT, ScriptFault, read_script};
 
 /// Written where the words are no command.
 const USAGE: &[u8] = b"usage: treedoc play | live | kept | check | gen SIZE NUMBER\n";
 
-/// Written where the input is no script.
-const FAULT: &[u8] = b"fault 0 form\n";
-
-/// Runs the program: with the one word `play`, reads a script from the source and puts what its commands print into
-/// the sink. The sink takes the whole output that goes with the status; where that is `Write` a front of it, and where
-/// it is `Memory` or `Read` nothing.
+/// Runs the program: with the one word `play` it reads a script from the source and plays it; with `gen SIZE NUMBER` it
+/// plays a generated script. The sink takes the whole output that goes with the status; where that is `Write` a front
+/// of it, and where it is `Memory` or `Read` nothing.
 pub fn run_plain<S: Source, K: Sink>(
     alloc: Global,
     words: &[Bytes],
@@ -32,15 +37,13 @@ pub fn run_plain<S: Source, K: Sink>(
 ) -> Status
     ensures { IsAnswered S.Source K.Sink words.now source.old source.new sink.old sink.new result }
 {
-    if !is_play(words) {
-        return answer(sink, USAGE, Status::Usage);
-    }
-    match output_of(alloc, source) {
-        Ok(Some(output)) => answer(sink, output.as_slice(), Status::Done),
-        Ok(None) => answer(sink, FAULT, Status::Script),
-        Err(ReadFault::Failed) => Status::Read,
-        Err(ReadFault::TooLong) => answer(sink, FAULT, Status::Script),
-        Err(ReadFault::Memory) => Status::Memory,
+    let Some(form) = asked_for(words) else {
+        return put(sink, USAGE, Status::Usage);
+    };
+    match answer_to(alloc, form, source) {
+        Ok(answer) => put(sink, answer.bytes.as_slice(), answer.status),
+        Err(Stop::Read) => Status::Read,
+        Err(Stop::Memory) => Status::Memory,
     }
 }
 
@@ -57,51 +60,60 @@ pub fn run<R: Threads + Wait + Copy + Send + Sync, S: Source, K: Sink>(
     run_plain(alloc, words, source, sink)
 }
 
-#[tactic(auto, using(crate::proofs::Words::one_word))]
-fn is_play(words: &[Bytes]) -> bool
-    ensures { IsTrue result ↔ IsPlay words.now }
+// The output of a command.
+fn answer_to<S: Source>(alloc: Global, form: Form, source: &mut S) -> Result<Answer, Stop>
+    requires { IsAskable form }
+    ensures { IsAnswerTo S.Source form source.old source.new result }
 {
-    match words {
-        [word] => is_word(word, b"play"),
-        _ => false,
+    match form {
+        Form::Play => played(alloc, source),
+        Form::Gen { size, number } => Ok(Answer {
+            status: Status::Done,
+            bytes: generated::<Rows>(alloc, size, number)?,
+        }),
     }
 }
 
-fn is_word(word: &Bytes, name: &[u8]) -> bool
-    ensures { IsTrue result ↔ (word.now ≡ name.now) }
+// Reads a script and plays it.
+fn played<S: Source>(alloc: Global, source: &mut S) -> Result<Answer, Stop>
+    ensures { IsAnswerTo S.Source Play source.old source.new result }
 {
-    word.as_slice() == name
-}
-
-// What the script of the source prints, or `None` where the source has no script.
-fn output_of<S: Source>(alloc: Global, source: &mut S) -> Result<Option<Bytes>, ReadFault>
-    ensures printed { IfOk result (λ output. IfSome output
-        (λ bytes. IfSome (S.left source.old) (λ input. IsPrinted input bytes))) }
-    ensures none { IfOk result (λ output. IfNone output (IfSome (S.left source.old) IsNoScript)) }
-    ensures too_long { IsErrOf result ReadFault.TooLong → IfSome (S.left source.old) IsNoScript }
-    ensures failed { IsErrOf result ReadFault.Failed → Rose (S.faults source.old) (S.faults source.new) }
-    ensures ended { OnOk result (IsReadToEnd S.Source source.old source.new) }
-    ensures past { IsErrOf result ReadFault.TooLong → IsReadPast S.Source MAX_INPUT source.old source.new }
-    ensures turns { S.calls source.new ≤ S.calls source.old + (MAX_INPUT + 1) }
-{
-    let input = read_all(alloc, source, MAX_INPUT as u32)?;
-    Ok(printed(alloc, input.as_slice())?)
-}
-
-// What the script prints that the input spells, or `None` where it spells none.
-#[tactic(auto, using(crate::proofs::Spellings::texts_fit))]
-fn printed(alloc: Global, input: &[u8]) -> Result<Option<Bytes>, Memory>
-    ensures some { IfOk result (λ output. IfSome output (IsPrinted input.now)) }
-    ensures none { IfOk result (λ output. IfNone output (IsNoScript input.now)) }
-{
-    match read_first_form(alloc, input)? {
-        Some(commands) => Ok(Some(play(alloc, &commands)?)),
-        None => Ok(None),
+    match read_all(alloc, source, MAX_SCRIPT as u32) {
+        Ok(input) => played_or_refused(alloc, input.as_slice()),
+        Err(ReadFault::Failed) => Err(Stop::Read),
+        Err(ReadFault::TooLong) => refused(alloc, 0, Kind::Size),
+        Err(ReadFault::Memory) => Err(Stop::Memory),
     }
+}
+
+// What an input comes to that was read to its end.
+fn played_or_refused(alloc: Global, input: &[u8]) -> Result<Answer, Stop>
+    ensures answer { IfOk result (λ a. IsPlayedOr input.now a.status a.bytes) }
+    ensures read { IsErrOf result Unread → ⊥ }
+{
+    match read_script(alloc, input) {
+        Ok(script) => Ok(Answer {
+            status: Status::Done,
+            bytes: output_of::<Rows>(alloc, &script)?,
+        }),
+        Err(ScriptFault::Fault { line, kind }) => refused(alloc, line, kind),
+        Err(ScriptFault::Memory) => Err(Stop::Memory),
+    }
+}
+
+// The line of a fault.
+fn refused(alloc: Global, line: u32, kind: Kind) -> Result<Answer, Stop>
+    ensures answer { IfOk result (λ a. (a.status ≡ NoScript) × (a.bytes ≡ fault_line line kind)) }
+    ensures read { IsErrOf result Unread → ⊥ }
+{
+    Ok(Answer {
+        status: Status::Script,
+        bytes: fault_line(alloc, line, kind)?,
+    })
 }
 
 // Puts the whole output that goes with the status.
-fn answer<K: Sink>(sink: &mut K, output: &[u8], status: Status) -> Status
+fn put<K: Sink>(sink: &mut K, output: &[u8], status: Status) -> Status
     ensures { ((result ≡ status) × Appends (K.held sink.old) (K.held sink.new) output.now)
         ⊎ ((result ≡ Status.Write) × Rose (K.faults sink.old) (K.faults sink.new)
         × PutsFront (K.held sink.old) (K.held sink.new) output.now) }

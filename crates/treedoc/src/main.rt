@@ -73,12 +73,7 @@ fn tell(
 fn planned(words: &[Bytes]) -> Option<&str> {
     let (word, rest) = words.split_first()?;
     let name = str::from_utf8(word.as_slice()).ok()?;
-    let is_planned = match name {
-        "live" | "kept" | "check" => rest.is_empty(),
-        "gen" => rest.len() == 2,
-        _ => false,
-    };
-    is_planned.then_some(name)
+    (rest.is_empty() && matches!(name, "live" | "kept" | "check")).then_some(name)
 }
 
 // The words behind the program's name, or none where the system cannot give them as text.

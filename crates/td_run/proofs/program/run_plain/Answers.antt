@@ -1,33 +1,25 @@
-use Rattle.std.proofs.Common.{rules, IfSome}
-use Rattle.td_run.specs.Answer.{IsNoScript}
-use Rattle.td_run.proofs.Whole.{typing, not_spelled}
+use Rattle.std.proofs.Common.{refl, arith}
+use Rattle.td_run.proofs.Answering.{other_answered, put_answered, stopped_by_memory, stopped_reading}
 use Rattle.td_run.proofs.program.run_plain.Goals as goal
 
-pub returns-in-Ok-Some : goal.returns-in-Ok-Some
-returns-in-Ok-Some g c =
-    let printed = rw c.in-Ok-Some.field-0-is at c.in-Ok-Some.ensures.printed in
-    let typing =
-    typing (g.S.Source.left c.args.source.now) (g.K.Sink.held c.args.sink.now)
-    (g.K.Sink.held c.answer-in-Ok-Some.new.sink) c.in-Ok-Some.output c.as_slice.result.now
-    c.answer-in-Ok-Some.result _ _ printed c.as_slice.ensures c.answer-in-Ok-Some.ensures in
-    search rules
+pub returns-in_default : goal.returns-in_default
+returns-in_default g c =
+    other_answered g.S.Source g.K.Sink c.args.words.now c.args.source.now c.args.source.now c.args.sink.now c.put.new.sink
+    _ c.put.result c.in_default.ensures.none refl (omega arith) refl c.put.ensures
 
-pub returns-in-Ok-None : goal.returns-in-Ok-None
-returns-in-Ok-None g c =
-    let none : IfSome (g.S.Source.left c.args.source.now) IsNoScript = rw c.in-Ok-None.field-0-is at c.in-Ok-None.ensures.none in
-    record {
-      done = search rules;
-      usage = search rules;
-      script = search rules;
-      read = search rules;
-      write = search rules;
-      memory = search rules;
-      other_words = search rules;
-      unread = search rules;
-      read_to_end = search rules;
-      read_whole = search rules;
-      turns = search rules;
-      typing = search rules;
-      complete = λ input commands play told spelled read written.
-          absurd (not_spelled (g.S.Source.left c.args.source.now) input commands none told spelled);
-    }
+pub returns-in-Ok : goal.returns-in-Ok
+returns-in-Ok g c =
+    put_answered g.S.Source g.K.Sink c.args.words.now c.args.source.now c.answer_to.new.source c.args.sink.now
+    c.put-in-Ok.new.sink c.in-Some.form c.in-Ok.answer c.as_slice.result.now c.put-in-Ok.result c.in-Some.ensures.some
+    c.in-Ok.ensures c.as_slice.ensures c.put-in-Ok.ensures
+
+pub returns-in-Err-Read : goal.returns-in-Err-Read
+returns-in-Err-Read g c =
+    stopped_reading g.S.Source g.K.Sink c.args.words.now c.args.source.now c.answer_to.new.source c.args.sink.now
+    c.args.sink.now c.in-Some.form c.in-Err-Read.field-0 c.in-Some.ensures.some c.in-Err-Read.ensures
+    c.in-Err-Read.field-0-is refl
+
+pub returns-in-Err-Memory : goal.returns-in-Err-Memory
+returns-in-Err-Memory g c =
+    stopped_by_memory g.S.Source g.K.Sink c.args.words.now c.args.source.now c.answer_to.new.source c.args.sink.now
+    c.args.sink.now c.in-Some.form c.in-Err-Memory.field-0 c.in-Some.ensures.some c.in-Err-Memory.ensures refl

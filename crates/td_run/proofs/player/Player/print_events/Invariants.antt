@@ -1,0 +1,12 @@
+use Rattle.std.proofs.Common.{◌≡◌, ◌≤◌, ◌-◌, ◌++◌, take, drop}
+use Rattle.std.specs.List.{flat_map}
+use Rattle.td_report.specs.Replies.{event_line}
+use Rattle.td_run.proofs.player.Player.print_events.Given as goal
+
+abbrev pub invariant-loop-number : goal.invariant-loop-number
+invariant-loop-number g l = record {
+  same : l.self.world ≡ l.fn.self.world;
+  text : l.self.text ≡ l.fn.self.text
+      ++ flat_map event_line (take (l.number - l.before) (drop l.before l.fn.self.world.sent));
+  behind : l.before ≤ l.number;
+}

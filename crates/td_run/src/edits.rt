@@ -1,0 +1,139 @@
+// The commands `ins`, `paste` and `del`: requests one after another, up to the first that is refused.
+ghost use Rattle.std.specs.Prelude.{◌≡◌, ◌<◌, ◌≤◌, ◌+◌, ◌^◌, All, length, IfOk, OnOk};
+ghost use Rattle.td_base.specs.Atom.{IsAtom};
+ghost use Rattle.td_run.specs.Asking.{ask_all, asked, deletes, inserts, pastes};
+ghost use Rattle.td_run.specs.Printing.{and_then, del, ins, paste};
+ghost use Rattle.td_run.specs.Runs.{runs_of};
+ghost use Rattle.td_world.specs.World.{size};
+
+use crate::outcome::{Outcome, is_made};
+use crate::player::Player;
+use crate::runs::{first_run, run_of};
+use td_base::{Atom, Memory, Site};
+use td_doc::Doc;
+use td_op::Request;
+use td_report::{del_line, ins_line, paste_line};
+use td_script::Atoms;
+use td_world::World;
+
+impl<D: Doc> Player<D> {
+    /// Inserts each cluster right behind the one before.
+    pub(crate) fn insert(&mut self, site: Site, index: u32, atoms: &Atoms) -> Result<(), Memory>
+        requires { site ≤ size self.old.world }
+        ensures { OnOk result (self.new ≡ and_then self.old (ins site index atoms.now self.old.world)) }
+    {
+        let before = self.world.sent();
+        let all = atoms.len();
+        let outcome = insert_all(&mut self.world, site, index, atoms.as_slice())?;
+        let line = ins_line(self.alloc, site, outcome.done, all, outcome.refused)?;
+        self.print(&line)?;
+        self.print_events(before)
+    }
+
+    /// Pastes the clusters in runs, each right behind the one before.
+    pub(crate) fn paste(&mut self, site: Site, index: u32, atoms: &Atoms) -> Result<(), Memory>
+        requires site { site ≤ size self.old.world }
+        requires each { All IsAtom atoms.now }
+        ensures { OnOk result (self.new ≡ and_then self.old (paste site index atoms.now self.old.world)) }
+    {
+        let before = self.world.sent();
+        let all = atoms.len();
+        let outcome = paste_all(&mut self.world, site, index, atoms.as_slice())?;
+        let line = paste_line(self.alloc, site, outcome.done, all, outcome.refused)?;
+        self.print(&line)?;
+        self.print_events(before)
+    }
+
+    /// Deletes so many atoms, each where the one before stood.
+    pub(crate) fn delete(&mut self, site: Site, index: u32, count: u32) -> Result<(), Memory>
+        requires { site ≤ size self.old.world }
+        ensures { OnOk result (self.new ≡ and_then self.old (del site index count self.old.world)) }
+    {
+        let before = self.world.sent();
+        let outcome = delete_all(&mut self.world, site, index, count)?;
+        let line = del_line(self.alloc, site, outcome.done, count, outcome.refused)?;
+        self.print(&line)?;
+        self.print_events(before)
+    }
+}
+
+fn insert_all<D: Doc>(
+    world: &mut World<D>,
+    site: Site,
+    index: u32,
+    atoms: &[Atom],
+) -> Result<Outcome, Memory>
+    requires site { site ≤ size world.old }
+    requires few { length atoms.now < 2 ^ 32 }
+    ensures { IfOk result (λ o. asked world.new o ≡ ask_all site (inserts index atoms.now) world.old) }
+{
+    let mut index = index;
+    let mut done = 0;
+    for atom in atoms {
+        let reply = world.call(site, Request::Insert { index, atom: *atom })?;
+        if !is_made(&reply) {
+            return Ok(Outcome::refused(done, reply));
+        }
+        done += 1;
+        index = behind(index, 1)?;
+    }
+    Ok(Outcome::all(done))
+}
+
+fn paste_all<D: Doc>(
+    world: &mut World<D>,
+    site: Site,
+    index: u32,
+    atoms: &[Atom],
+) -> Result<Outcome, Memory>
+    requires site { site ≤ size world.old }
+    requires each { All IsAtom atoms.now }
+    requires few { length atoms.now < 2 ^ 32 }
+    ensures { IfOk result (λ o. asked world.new o ≡ ask_all site (pastes index (runs_of atoms.now)) world.old) }
+{
+    let mut index = index;
+    let mut done = 0;
+    let mut rest = atoms;
+    while !rest.is_empty() {
+        let count = first_run(rest);
+        let (run, others) = rest.split_at(count);
+        let run = run_of(run);
+        let reply = world.call(site, Request::Paste { index, run })?;
+        if !is_made(&reply) {
+            return Ok(Outcome::refused(done, reply));
+        }
+        done += count as u32;
+        index = behind(index, count as u32)?;
+        rest = others;
+    }
+    Ok(Outcome::all(done))
+}
+
+#[tactic(auto, using(crate::proofs::NextEdits::next_delete))]
+fn delete_all<D: Doc>(
+    world: &mut World<D>,
+    site: Site,
+    index: u32,
+    count: u32,
+) -> Result<Outcome, Memory>
+    requires { site ≤ size world.old }
+    ensures { IfOk result (λ o. asked world.new o ≡ ask_all site (deletes index count) world.old) }
+{
+    for done in 0..count {
+        let reply = world.call(site, Request::Delete { index })?;
+        if !is_made(&reply) {
+            return Ok(Outcome::refused(done, reply));
+        }
+    }
+    Ok(Outcome::all(count))
+}
+
+// The index behind so many atoms. A text has fewer than 2^32 of them, so none is put past that.
+fn behind(index: u32, count: u32) -> Result<u32, Memory>
+    ensures { IfOk result (λ next. next ≡ index + count) }
+{
+    match index.checked_add(count) {
+        Some(next) => Ok(next),
+        None => Err(Memory),
+    }
+}

@@ -1,0 +1,47 @@
+// The commands `flat` and `cancel`.
+ghost use Rattle.std.specs.Prelude.{◌≡◌, ◌≤◌, OnOk};
+ghost use Rattle.td_run.specs.Printing.{and_then, cancel, flat, proposal};
+ghost use Rattle.td_world.specs.World.{size};
+
+use crate::player::Player;
+use td_base::{Dot, Memory, Site};
+use td_doc::Doc;
+use td_op::Request;
+use td_path::Slot;
+use td_report::{cancel_line, flat_line};
+use td_script::Place;
+
+impl<D: Doc> Player<D> {
+    /// Proposes to flatten a slot.
+    pub(crate) fn propose(&mut self, site: Site, place: Place) -> Result<(), Memory>
+        requires { site ≤ size self.old.world }
+        ensures { OnOk result (self.new ≡ and_then self.old (flat site place self.old.world)) }
+    {
+        let before = self.world.sent();
+        let reply = self.world.call(site, proposal(place))?;
+        let line = flat_line(self.alloc, site, reply)?;
+        self.print(&line)?;
+        self.print_events(before)
+    }
+
+    /// Gives up a proposal.
+    pub(crate) fn cancel(&mut self, site: Site, proposal: Dot) -> Result<(), Memory>
+        requires { site ≤ size self.old.world }
+        ensures { OnOk result (self.new ≡ and_then self.old (cancel site proposal self.old.world)) }
+    {
+        let before = self.world.sent();
+        let reply = self.world.call(site, Request::Cancel { proposal })?;
+        let line = cancel_line(self.alloc, site, proposal, reply)?;
+        self.print(&line)?;
+        self.print_events(before)
+    }
+}
+
+fn proposal(place: Place) -> Request
+    ensures { result ≡ proposal place }
+{
+    match place {
+        Place::Whole => Request::Propose { slot: Slot::Root },
+        Place::Beside { index, bit } => Request::ProposeAt { index, bit },
+    }
+}

@@ -1,0 +1,63 @@
+// Runs of the program in memory.
+use crate::{Status, run_plain};
+use std::alloc::Global;
+use std::process::Abort;
+use std::test::Fail;
+use td_base::Bytes;
+use td_io::{MemSink, MemSource};
+
+// The words of a command line.
+pub fn words_of(alloc: Global, words: &[&str]) -> Result<Vec<Bytes>, Fail> {
+    let mut all = Vec::new(alloc);
+    for word in words {
+        let mut bytes = Bytes::new(alloc);
+        bytes.push(word.as_bytes())?;
+        all.push(bytes)?;
+    }
+    Ok(all)
+}
+
+// Runs a command over an input; what it ends with, and what it writes.
+pub fn run_of(alloc: Global, words: &[&str], input: &[u8]) -> Result<(Status, MemSink), Fail> {
+    let words = words_of(alloc, words)?;
+    let mut source = MemSource::new(alloc, input, &[])?;
+    let mut sink = MemSink::new(alloc, 4_000_000, &[])?;
+    let status = run_plain(alloc, &words, &mut source, &mut sink);
+    Ok((status, sink))
+}
+
+// A script by its name, and what it prints.
+pub struct Example {
+    pub name: &'static str,
+    pub script: &'static str,
+    pub output: &'static str,
+}
+
+// Each script is played to its end and prints its output.
+pub fn all_print(rt: &impl Abort, alloc: Global, examples: &[Example]) -> Result<(), Fail> {
+    for example in examples {
+        let (status, sink) = run_of(alloc, &["play"], example.script.as_bytes())?;
+        assert_eq!(rt; status, Status::Done, "in {}", example.name);
+        assert_eq!(rt;
+            sink.held(),
+            example.output.as_bytes(),
+            "in {}",
+            example.name
+        );
+    }
+    Ok(())
+}
+
+// Each script is refused with its line.
+pub fn all_are_refused(
+    rt: &impl Abort,
+    alloc: Global,
+    examples: &[(&str, &str)],
+) -> Result<(), Fail> {
+    for (script, line) in examples {
+        let (status, sink) = run_of(alloc, &["play"], script.as_bytes())?;
+        assert_eq!(rt; status, Status::Script, "at {line}");
+        assert_eq!(rt; sink.held(), line.as_bytes());
+    }
+    Ok(())
+}

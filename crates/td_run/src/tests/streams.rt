@@ -1,0 +1,61 @@
+// Inputs and outputs in pieces, and devices that fail.
+use super::plays::words_of;
+use crate::{Status, run_plain};
+use std::alloc::Global;
+use std::test::Fail;
+use td_io::{MemSink, MemSource};
+
+// Two sites that type into one gap, and what they print.
+const SCRIPT: &str = r#"sites 2
+ins 1 0 "ac"
+settle
+ins 1 1 "X"
+ins 2 1 "Y"
+settle
+show 2
+"#;
+
+const OUTPUT: &str = r#"ins 1 2/2
+settle 2
+ins 1 1/1
+ins 2 1/1
+settle 2
+show 2 "aXYc"
+"#;
+
+// Plays it in pieces of one byte, the listed calls failing.
+fn played(alloc: Global, read_fails: &[u64], put_fails: &[u64]) -> Result<(Status, MemSink), Fail> {
+    let play = words_of(alloc, &["play"])?;
+    let mut source = MemSource::pieces(alloc, SCRIPT.as_bytes(), 1, read_fails)?;
+    let mut sink = MemSink::pieces(alloc, 1000, 1, put_fails)?;
+    let status = run_plain(alloc, &play, &mut source, &mut sink);
+    Ok((status, sink))
+}
+
+#[test]
+fn pieces_make_no_difference(rt: HostRuntime) -> Result<(), Fail> {
+    let (status, sink) = played(rt.alloc(), &[], &[])?;
+    assert_eq!(rt; status, Status::Done);
+    assert_eq!(rt; sink.held(), OUTPUT.as_bytes());
+    Ok(())
+}
+
+#[test]
+fn a_source_that_fails_is_told(rt: HostRuntime) -> Result<(), Fail> {
+    for call in 1..=SCRIPT.len() as u64 + 1 {
+        let (status, sink) = played(rt.alloc(), &[call], &[])?;
+        assert_eq!(rt; status.number(), 4, "at {call}");
+        assert_eq!(rt; sink.held().len(), 0, "at {call}");
+    }
+    Ok(())
+}
+
+#[test]
+fn a_sink_that_fails_has_a_front(rt: HostRuntime) -> Result<(), Fail> {
+    for call in 1..=OUTPUT.len() {
+        let (status, sink) = played(rt.alloc(), &[], &[call as u64])?;
+        assert_eq!(rt; status.number(), 5, "at {call}");
+        assert_eq!(rt; sink.held(), &OUTPUT.as_bytes()[..call - 1], "at {call}");
+    }
+    Ok(())
+}

@@ -1,0 +1,46 @@
+ghost use Rattle.std.specs.Prelude.{◌≡◌, ◌↔◌, ◌∷◌, [], ℕ, IfNone, IfSome, IsTrue};
+ghost use Rattle.td_run.specs.Words.{IsForm, IsFormOf, IsGen};
+
+use td_base::Bytes;
+use td_gen::MAX_SIZE;
+use td_script::number_of;
+
+/// What the words of the command line ask for.
+#[derive(Clone, Copy, Debug, PartialEq, Eq)]
+pub(crate) enum Form {
+    /// `play`: to play the script of the input.
+    Play,
+    /// `gen SIZE NUMBER`: to play a generated script.
+    Gen { size: u32, number: u32 },
+}
+
+/// What the words ask for, where they are a command.
+pub(crate) fn asked_for(words: &[Bytes]) -> Option<Form>
+    ensures some { IfSome result (IsFormOf words.now) }
+    ensures none { IfNone result (¬ IsForm words.now) }
+{
+    match words {
+        [word] => is_word(word, b"play").then_some(Form::Play),
+        [word, size, number] => generated(word, size, number),
+        _ => None,
+    }
+}
+
+// The size and the number of the generated script that the words ask for.
+fn generated(word: &Bytes, size: &Bytes, number: &Bytes) -> Option<Form>
+    ensures some { IfSome result (IsFormOf (word.now ∷ size.now ∷ number.now ∷ [])) }
+    ensures none { IfNone result ((s n : ℕ) → ¬ IsGen (word.now ∷ size.now ∷ number.now ∷ []) s n) }
+{
+    if !is_word(word, b"gen") {
+        return None;
+    }
+    let size = number_of(size.as_slice())?;
+    let number = number_of(number.as_slice())?;
+    (size <= MAX_SIZE).then_some(Form::Gen { size, number })
+}
+
+fn is_word(word: &Bytes, name: &[u8]) -> bool
+    ensures { IsTrue result ↔ (word.now ≡ name.now) }
+{
+    word.as_slice() == name
+}
