@@ -1,6 +1,5 @@
 use crate::status::Status;
 use td_base::{Bytes, Memory};
-use td_io::ReadFault;
 
 /// The whole output of a run, and how the run ends where all of it is taken.
 #[derive(Debug, Drop)]
