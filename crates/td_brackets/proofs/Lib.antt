@@ -1,0 +1,16 @@
+pub mod Words
+pub mod Sides
+pub mod NodeRows
+pub mod Standing
+pub mod Flattens
+pub mod OwnSlots
+pub mod Leaves
+pub mod SidesOf
+pub mod Once
+pub mod Kept
+pub mod Flattened
+pub mod ExplodeTo
+pub mod Runs
+pub mod PutRuns
+pub mod Entries
+pub mod Deeper
