@@ -1,10 +1,13 @@
 -- Numbers that differ, by their places; and names that do.
-use Rattle.std.proofs.Common.{◌≡◌, ◌≢◌, ◌<◌, ℕ, zero, suc, List, [], ◌∷◌, length, get_or, refl, sym, ap, ◌∙◌, subst, inl, inr, ⊎_elim, arith}
+use Rattle.std.proofs.Common.{◌≡◌, ◌≢◌, ◌<◌, ◌≤◌, ℕ, zero, suc, List, [], ◌∷◌, length, get_or, refl, sym, ap, ◌∙◌, subst, inl, inr, ⊎_elim, arith}
 use Rattle.td_base.specs.Lists.{In, Successive}
 use Rattle.td_base.proofs.Lists.{all_in, all_of}
 use Rattle.td_list.specs.declared.item.Item.{Item}
-use Rattle.td_list.specs.Items.{names, AreApart}
+use Rattle.std.proofs.lemmas.Bool.{cases_lt}
+use Rattle.td_list.specs.Items.{names, IsItem, AreApart, place_of}
 use Rattle.td_list.specs.Places.{nothing}
+use Rattle.td_list.proofs.Names.{item_at}
+use Rattle.td_list.proofs.Parted.{name_there, place_below}
 
 abbrev pub Distinct : List ℕ → Type 0
 Distinct xs = (j k : ℕ) → j < k → k < length xs → get_or xs j 0 ≡ get_or xs k 0 → ⊥
@@ -49,3 +52,18 @@ names_counted (i ∷ items) = ap suc (names_counted items)
 
 pub differ : (items : List Item) → AreApart items → (j k : ℕ) → j < k → k < length items → (get_or items j nothing).name ≡ (get_or items k nothing).name → ⊥
 differ items a j k l m e = distinct_of (names items) a j k l (subst (λ (n : ℕ). k < n) (sym (names_counted items)) m) (name_at items j ∙ e ∙ sym (name_at items k))
+
+-- an item's place is the only one at which its name stands
+pub only_place : (x : ℕ) (items : List Item) → AreApart items → (k : ℕ) → k < length items → (get_or items k nothing).name ≡ x → place_of x items ≡ k
+only_place x items a k l e =
+    let there : IsItem x items = subst (λ (y : ℕ). IsItem y items) e (item_at items k l) in
+    let at : (get_or items (place_of x items) nothing).name ≡ x = name_there x items there in
+    let below : place_of x items < length items = place_below x items there in
+    ⊎_elim (λ (f : place_of x items < k). absurd (differ items a (place_of x items) k f l (at ∙ sym e)))
+    (λ (g : k ≤ place_of x items).
+    ⊎_elim (λ (f : k < place_of x items). absurd (differ items a k (place_of x items) f below (e ∙ sym at)))
+    (λ (h : place_of x items ≤ k). same (place_of x items) k g h) (cases_lt k (place_of x items)))
+    (cases_lt (place_of x items) k)
+  where
+    same : (a b : ℕ) → b ≤ a → a ≤ b → a ≡ b
+    same a b g h = omega arith

@@ -1,12 +1,12 @@
 // A stretch of the items of a list.
 ghost use Rattle.std.specs.Prelude.{◌≡◌, ◌<◌, ◌≤◌, ◌+◌, ◌-◌, ◌^◌, ◌++◌, ◌∷◌, ◌||◌, ℕ, [], length, take, drop, set, get_or, vec_len, vec_capacity, OnErr, OnOk, IfOk, Option};
-ghost use Rattle.td_list.specs.Items.{has_mark, weight_of};
+ghost use Rattle.td_list.specs.Items.{IsItem, AreApart, place_of, has_mark, weight_of};
 ghost use Rattle.td_list.specs.Index.{summary};
 ghost use Rattle.td_list.specs.Places.{nothing};
 
 use crate::edit::put_each;
 use crate::item::Item;
-use crate::scan::{has_mark, weight_of};
+use crate::scan::{has_mark, place_from, place_of, weight_of};
 use std::alloc::Global;
 use std::marker::Model;
 use td_base::Memory;
@@ -17,6 +17,8 @@ pub struct Chunk {
     items: Vec<Item>,
     weight: u32,
     marked: bool,
+    // the place of the last edit, near which the next one is likely to be; nothing rests on it
+    near: usize,
 }
 
 impl Model for Chunk {
@@ -39,6 +41,7 @@ impl Chunk {
             items: Vec::new(alloc),
             weight: 0,
             marked: false,
+            near: 0,
         }
     }
 
@@ -51,6 +54,7 @@ impl Chunk {
             items: Vec::from_slice(alloc, items)?,
             weight: weight_of(items),
             marked: has_mark(items),
+            near: 0,
         })
     }
 
@@ -69,6 +73,32 @@ impl Chunk {
             weight: self.weight,
             marked: self.marked,
         }
+    }
+
+    /// The place of an item. It is looked for behind the last edit first.
+    pub fn place_of(&self, name: u32) -> usize
+        requires there { IsItem name self.now }
+        requires apart { AreApart self.now }
+        ensures value { result ≡ place_of name self.now }
+        ensures bound { result < length self.now }
+    {
+        match place_from(&self.items, name, self.near) {
+            Some(place) => place,
+            None => place_of(&self.items, name),
+        }
+    }
+
+    /// The place of an item. It is looked for at one place first.
+    pub fn place_near(&self, name: u32, near: usize) -> usize
+        requires there { IsItem name self.now }
+        requires apart { AreApart self.now }
+        ensures value { result ≡ place_of name self.now }
+        ensures bound { result < length self.now }
+    {
+        if near < self.items.len() && self.items[near].name == name {
+            return near;
+        }
+        self.place_of(name)
     }
 
     // Puts a piece at a place.
@@ -95,6 +125,7 @@ impl Chunk {
     {
         self.put(to, piece)?;
         self.cut(from, to);
+        self.near = from;
         Ok(())
     }
 
@@ -119,6 +150,7 @@ impl Chunk {
         self.weight += item.weight;
         self.items[place] = item;
         self.marked = has_mark(&self.items);
+        self.near = place;
     }
 }
 

@@ -12,9 +12,9 @@ use std::alloc::Global;
 use std::marker::Model;
 use td_base::Memory;
 
-/// The list for millions of items: its chunks stand in chunks. A call scans three chunks of at most a few hundred
-/// items, and one line of which each place stands for some tens of thousands of items.
-pub type List = Chunked<Chunked<Line>>;
+/// The list for millions of items: its chunks stand in chunks, which stand in chunks. A call scans a chunk of each
+/// kind, of at most some tens of items, and one line of which each place stands for some tens of thousands of items.
+pub type List = Chunked<Chunked<Chunked<Line>>>;
 
 /// A list in chunks, whose order is a list of another kind.
 #[derive(Drop)]
@@ -167,6 +167,31 @@ impl<S: Sequence> Chunked<S> {
         }
     }
 
+    /// The item that follows an item. Who goes from item to item keeps `near`, the place of the item in its chunk: the
+    /// item is looked for there first, and `near` is the place of the next one then. Any other place serves too.
+    pub fn next_near(&self, name: u32, near: &mut usize) -> Option<u32>
+        requires { IsItem name self.now }
+        ensures { result ≡ first_name (items_after name self.now) }
+    {
+        let seat = self.index.seat_near(name, *near);
+        let items = self.index.items_of(seat.chunk);
+        if seat.place + 1 < items.len() {
+            *near = seat.place + 1;
+            return Some(items[seat.place + 1].name);
+        }
+        *near = 0;
+        self.index.head_after(seat.chunk)
+    }
+
+    /// The item with a name, which is looked for at a place of its chunk first.
+    pub fn get_near(&self, name: u32, near: usize) -> Item
+        requires { IsItem name self.now }
+        ensures { items_from name self.now ≡ result ∷ items_after name self.now }
+    {
+        let seat = self.index.seat_near(name, near);
+        self.index.items_of(seat.chunk)[seat.place]
+    }
+
     // Parts the chunk of an item where it is full.
     fn make_room(&mut self, name: u32) -> Result<(), Memory>
         requires { IsItem name self.old }
@@ -195,4 +220,4 @@ impl<S: Sequence> Chunked<S> {
 }
 
 // So many items stand in a chunk at most, but for those of a piece.
-const FULL: usize = 256;
+const FULL: usize = 64;

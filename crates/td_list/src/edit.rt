@@ -9,7 +9,6 @@ pub fn put_each(items: &mut Vec<Item>, place: usize, piece: &[Item])
     requires room { vec_len items.old + length piece.now ≤ vec_capacity items.old }
     ensures { items.new.items ≡ take place items.old.items ++ piece.now ++ drop place items.old.items }
 {
-    for i in 0..piece.len() {
-        items.insert(place + i, piece[i]).unwrap();
-    }
+    items.extend_from_slice(piece).unwrap();
+    items[place..].rotate_right(piece.len());
 }

@@ -1,14 +1,13 @@
 // Chunks by number, their order, and the chunk of each item.
-ghost use Rattle.std.specs.Prelude.{◌≡◌, ◌≢◌, ◌<◌, ◌≤◌, ◌+◌, ◌-◌, ◌^◌, ◌++◌, ◌∷◌, ℕ, List, [], length, take, drop, set, get_or, false, Option, Some, None, IfOk, OnOk, OnErr, vec_capacity};
+ghost use Rattle.std.specs.Prelude.{◌≡◌, ◌≢◌, ◌↔◌, IsTrue, ◌<◌, ◌≤◌, ◌+◌, ◌-◌, ◌^◌, ◌++◌, ◌∷◌, ℕ, List, [], length, take, drop, set, get_or, false, Option, Some, None, IfOk, OnOk, OnErr, vec_capacity};
 ghost use Rattle.std.specs.Option.{ForSome};
-ghost use Rattle.td_list.specs.Items.{IsItem, AreApart, AreNew, renew, without, place_of, first_name, last_name, weight_of};
+ghost use Rattle.td_list.specs.Items.{IsItem, AreApart, AreNew, items_from, items_after, renew, without, place_of, first_name, last_name, weight_of};
 ghost use Rattle.td_list.specs.Places.{nothing};
 ghost use Rattle.td_list.specs.Index.{chunk_at, all_items, chunks_before, chunks_after, summary, IsIndex};
 
 use crate::chunk::Chunk;
 use crate::homes::{grow, settle};
 use crate::item::Item;
-use crate::scan::place_of;
 use crate::sequence::Sequence;
 use std::alloc::Global;
 use std::marker::Model;
@@ -72,6 +71,14 @@ impl<S: Sequence> Index<S> {
         self.chunks[chunk as usize].items()
     }
 
+    // The chunk of a number.
+    fn numbered(&self, chunk: u32) -> &Chunk
+        requires { chunk < length self.now.chunks }
+        ensures { result.now ≡ chunk_at self.now.chunks chunk }
+    {
+        &self.chunks[chunk as usize]
+    }
+
     /// The first item of a chunk.
     pub fn head(&self, chunk: u32) -> u32
         requires index { IsIndex self.now }
@@ -102,7 +109,22 @@ impl<S: Sequence> Index<S> {
         ensures bound { result.place < length (chunk_at self.now.chunks result.chunk) }
     {
         let chunk = self.homes[name as usize];
-        let place = place_of(self.items_of(chunk), name);
+        let place = self.numbered(chunk).place_of(name);
+        Seat { chunk, place }
+    }
+
+    /// Where an item is. In its chunk it is looked for at one place first.
+    pub fn seat_near(&self, name: u32, near: usize) -> Seat
+        requires index { IsIndex self.now }
+        requires there { IsItem name (all_items self.now) }
+        ensures chunk { IsItem result.chunk self.now.order }
+        ensures within { result.chunk < length self.now.chunks }
+        ensures there { IsItem name (chunk_at self.now.chunks result.chunk) }
+        ensures place { result.place ≡ place_of name (chunk_at self.now.chunks result.chunk) }
+        ensures bound { result.place < length (chunk_at self.now.chunks result.chunk) }
+    {
+        let chunk = self.homes[name as usize];
+        let place = self.numbered(chunk).place_near(name, near);
         Seat { chunk, place }
     }
 
@@ -130,10 +152,12 @@ impl<S: Sequence> Index<S> {
             ++ chunks_after chunk self.old) }
         ensures err { OnErr result (all_items self.new ≡ all_items self.old) }
     {
+        let told = self.numbered(chunk).summary(chunk);
         grow(&mut self.homes, piece)?;
         self.chunks[chunk as usize].splice(from, to, piece)?;
         settle(&mut self.homes, piece, chunk);
-        self.order.renew(self.chunks[chunk as usize].summary(chunk));
+        let now = self.chunks[chunk as usize].summary(chunk);
+        tell(&mut self.order, told, now);
         Ok(())
     }
 
@@ -310,4 +334,23 @@ fn empty_chunk(number: u32) -> Item
         weight: 0,
         marked: false,
     }
+}
+
+// Puts an item in place of the one of its name, unless it is the same.
+fn tell<S: Sequence>(order: &mut S, told: Item, now: Item)
+    requires named { now.name ≡ told.name }
+    requires there { IsItem told.name (S.items order.old) }
+    requires is { items_from told.name (S.items order.old) ≡ told ∷ items_after told.name (S.items order.old) }
+    requires light { weight_of (renew now (S.items order.old)) < 2 ^ 32 }
+    ensures { S.items order.new ≡ renew now (S.items order.old) }
+{
+    if !is_same(told, now) {
+        order.renew(now);
+    }
+}
+
+fn is_same(a: Item, b: Item) -> bool
+    ensures { IsTrue result ↔ (a ≡ b) }
+{
+    a == b
 }

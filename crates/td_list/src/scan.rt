@@ -1,6 +1,7 @@
 // What is read from a stretch of items by looking at one after another.
-ghost use Rattle.std.specs.Prelude.{◌≡◌, ◌<◌, ◌≤◌, ◌^◌, List, length, drop, Option};
+ghost use Rattle.std.specs.Prelude.{◌≡◌, ◌<◌, ◌≤◌, ◌^◌, List, length, drop, get_or, Option, IfSome};
 ghost use Rattle.td_list.specs.Items.{IsItem, place_of, weight_of, has_mark, first_marked, share_at};
+ghost use Rattle.td_list.specs.Places.{nothing};
 
 use crate::item::{Item, Share};
 
@@ -18,6 +19,18 @@ pub fn place_of(items: &[Item], name: u32) -> usize
         place += 1;
     }
     place
+}
+
+/// A place of an item, of those from one on.
+pub fn place_from(items: &[Item], name: u32, from: usize) -> Option<usize>
+    ensures { IfSome result (λ k. (k < length items.now) × ((get_or items.now k nothing).name ≡ name)) }
+{
+    for place in from..items.len() {
+        if items[place].name == name {
+            return Some(place);
+        }
+    }
+    None
 }
 
 /// The weight of the items together.
