@@ -1,0 +1,9 @@
+pub mod Parts
+pub mod Reading
+pub mod Places
+pub mod Whole
+pub mod Walks
+pub mod Stretches
+pub mod Nodes
+pub mod KeptAtom
+pub mod Deletes

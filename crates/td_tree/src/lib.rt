@@ -1,0 +1,38 @@
+//! The fast document: its rows as one list of tokens with handles, so that no call walks a tree, however deep it is.
+//!
+//! `Tree` is the document. `tokens` keeps the tokens, the rows by number and the arrays of leaves; `explode` opens
+//! leaves on the way of an edit, `place` finds where a new row goes, `growth`, `deletion` and `flatten` change the
+//! rows, and `order`, `side`, `known` and `text` read them. Begin at `specs/Parts.antt`, which says what the parts of a
+//! tree are and what holds of them; what the tokens mean stands in `td_brackets`.
+#![tactic(auto)]
+
+mod deletes;
+mod deletion;
+mod edits;
+mod explode;
+mod flatten;
+mod found;
+mod growth;
+mod item_of;
+mod kept_atom;
+mod known;
+mod leaf;
+mod lookup;
+mod order;
+mod part;
+mod place;
+mod row_place;
+mod side;
+mod states;
+mod stretch;
+mod text;
+mod token_rows;
+mod tokens;
+mod told;
+mod tree;
+mod tree_row;
+
+pub use tree::Tree;
+
+#[cfg(test)]
+mod tests;

@@ -1,0 +1,44 @@
+// The rows that atoms are.
+ghost use Rattle.std.specs.Prelude.{◌≡◌, ◌≢◌, ◌<◌, length, None, IfSome, IfNone};
+ghost use Rattle.td_doc.specs.Document.{find_row};
+ghost use Rattle.td_doc.specs.Slots.{is_within};
+ghost use Rattle.td_tree.specs.declared.tree_row.RowState.TheVariants.{Gone};
+ghost use Rattle.td_tree.specs.Parts.{state_at, table, doc_rows};
+
+use crate::tree::Tree;
+use crate::tree_row::RowState;
+use td_base::AtomId;
+use td_path::Slot;
+
+impl Tree {
+    /// The number of the row of an atom.
+    pub(crate) fn number(&self, id: AtomId) -> Option<u32>
+        ensures known { IfSome result (λ r. r < length self.now.rows) }
+        ensures stands { IfSome result (λ r. state_at self.now r ≢ Gone) }
+        ensures named { IfSome result (λ r. (table self.now r).id ≡ id) }
+        ensures none { IfNone result (find_row id (doc_rows self.now) ≡ None) }
+    {
+        match self.identities.number(id) {
+            Some(row) => match self.tokens.state(row) {
+                RowState::Gone => None,
+                _ => Some(row),
+            },
+            None => None,
+        }
+    }
+
+    /// Whether a row is in the slot.
+    pub(crate) fn is_row_within(&self, row: u32, slot: Slot) -> bool
+        requires row { row < length self.now.rows }
+        requires stands { state_at self.now row ≢ Gone }
+        ensures { result ≡ is_within (doc_rows self.now) (table self.now row).id slot }
+    {
+        match slot {
+            Slot::Root => true,
+            Slot::At { atom, bit } => match self.number(atom) {
+                Some(node) => self.tokens.is_on_side(row, node, bit),
+                None => false,
+            },
+        }
+    }
+}

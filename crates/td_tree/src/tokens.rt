@@ -1,0 +1,144 @@
+// The tokens of a document, with the rows and arrays that they stand for.
+ghost use Rattle.std.specs.Prelude.{◌≡◌, ◌<◌, ◌≤◌, ◌^◌, [], length, slice_get, IfOk};
+ghost use Rattle.td_list.specs.Items.{IsItem, items_after, first_name};
+ghost use Rattle.td_tree.specs.Parts.{state_at, table, doc_rows, nodes_of, tokens, IsTree};
+
+use crate::tree_row::{Array, RowState, TreeRow};
+use std::alloc::Global;
+use std::marker::Model;
+use td_base::{AtomId, Dot, Memory};
+use td_list::{List, Sequence};
+
+/// The parts of a tree.
+#[derive(Drop)]
+pub struct Tokens {
+    // the tokens in their order, named by their rows
+    pub(crate) list: List,
+    // by number, in the order in which they came
+    pub(crate) rows: Vec<TreeRow>,
+    // where each of them is, by number too: a walk reads this of each row, and of most no more
+    pub(crate) states: Vec<RowState>,
+    pub(crate) arrays: Vec<Array>,
+    // how many rows have brackets
+    pub(crate) nodes: u32,
+    // how many rows the document has
+    pub(crate) count: u32,
+    // so many of the first arrays were given back
+    pub(crate) given_back: usize,
+    pub(crate) alloc: Global,
+}
+
+impl Model for Tokens {
+    ghost use Rattle.std.specs.Prelude.{◌≡◌, length};
+    ghost use Rattle.td_tree.specs.Parts.{Parts, rows_with};
+
+    ghost Value = { Parts };
+
+    ghost view = { λ t. record {
+      items = t.list;
+      rows = rows_with t.rows.items t.states.items;
+      arrays = t.arrays.items;
+      nodes = t.nodes;
+      count = t.count;
+    } };
+
+    ghost invariant = { λ t. length t.rows.items ≡ length t.states.items };
+}
+
+impl Tokens {
+    /// No tokens.
+    pub fn empty(alloc: Global) -> Result<Tokens, Memory>
+        ensures { IfOk result (λ tokens. IsTree tokens × (tokens.rows ≡ []) × (doc_rows tokens ≡ [])) }
+    {
+        Ok(Tokens {
+            list: List::empty(alloc)?,
+            rows: Vec::new(alloc),
+            states: Vec::new(alloc),
+            arrays: Vec::new(alloc),
+            nodes: 0,
+            count: 0,
+            given_back: 0,
+            alloc,
+        })
+    }
+
+    /// Where a row is.
+    pub fn state(&self, row: u32) -> RowState
+        requires { row < length self.now.rows }
+        ensures { result ≡ state_at self.now row }
+    {
+        self.states[row as usize]
+    }
+
+    /// A row.
+    pub fn row(&self, row: u32) -> &TreeRow
+        requires { row < length self.now.rows }
+        ensures { result.now ≡ table self.now row }
+    {
+        &self.rows[row as usize]
+    }
+
+    /// The identity of a row.
+    pub fn id(&self, row: u32) -> AtomId
+        requires { row < length self.now.rows }
+        ensures { result ≡ (table self.now row).id }
+    {
+        self.row(row).id
+    }
+
+    /// The first token.
+    pub fn first(&self) -> Option<u32>
+        ensures { result ≡ first_name self.now.items }
+    {
+        self.list.first()
+    }
+
+    /// The token that follows a token.
+    pub fn next(&self, name: u32) -> Option<u32>
+        requires { IsItem name self.now.items }
+        ensures { result ≡ first_name (items_after name self.now.items) }
+    {
+        self.list.next(name)
+    }
+
+    /// The token that follows a token, as it is found by one who goes from token to token (`List::next_near`).
+    pub fn next_near(&self, name: u32, near: &mut usize) -> Option<u32>
+        requires { IsItem name self.now.items }
+        ensures { result ≡ first_name (items_after name self.now.items) }
+    {
+        self.list.next_near(name, near)
+    }
+
+    /// The k-th dot of the deletes that named a row.
+    pub fn delete_dot(&self, row: u32, k: u32) -> Option<Dot>
+        requires { row < length self.now.rows }
+        ensures { result ≡ slice_get (table self.now row).deletes k }
+    {
+        self.row(row).deletes.as_slice().get(k as usize).copied()
+    }
+
+    /// The number of rows.
+    pub fn count(&self) -> u32
+        requires { IsTree self.now }
+        ensures { result ≡ length (doc_rows self.now) }
+    {
+        self.count
+    }
+
+    /// The number of rows with brackets.
+    pub fn nodes(&self) -> u32
+        requires { IsTree self.now }
+        ensures { result ≡ nodes_of (tokens self.now) }
+    {
+        self.nodes
+    }
+
+    /// The number that the next row gets.
+    pub fn next_row(&self) -> u32
+        requires { IsTree self.now }
+        ensures number { result ≡ length self.now.rows }
+        ensures few { result ≤ 2 ^ 30 }
+    {
+        self.rows.len() as u32
+    }
+}
