@@ -9,3 +9,4 @@ pub mod Played
 pub mod GenWords
 pub mod Answering
 pub mod EditsShown
+pub mod QuietEdits

@@ -1,4 +1,5 @@
-// The commands `ins`, `paste` and `del`: requests one after another, up to the first that is refused.
+// The commands `ins`, `paste` and `del`: requests one after another, up to the first that is refused. What is sent by
+// them are no votes and no decisions, so no event follows their line.
 ghost use Rattle.std.specs.Prelude.{◌≡◌, ◌<◌, ◌≤◌, ◌+◌, ◌^◌, All, length, IfOk, OnOk};
 ghost use Rattle.td_base.specs.Atom.{IsAtom};
 ghost use Rattle.td_run.specs.Asking.{ask_all, asked, deletes, inserts, pastes};
@@ -22,12 +23,11 @@ impl<D: Doc> Player<D> {
         requires { site ≤ size self.old.world }
         ensures { OnOk result (self.new ≡ and_then self.old (ins site index atoms.now self.old.world)) }
     {
-        let before = self.world.sent();
         let all = atoms.len();
         let outcome = insert_all(&mut self.world, site, index, atoms.as_slice())?;
         let line = ins_line(self.alloc, site, outcome.done, all, outcome.refused)?;
         self.print(&line)?;
-        self.print_events(before)
+        Ok(())
     }
 
     /// Pastes the clusters in runs, each right behind the one before.
@@ -36,12 +36,11 @@ impl<D: Doc> Player<D> {
         requires each { All IsAtom atoms.now }
         ensures { OnOk result (self.new ≡ and_then self.old (paste site index atoms.now self.old.world)) }
     {
-        let before = self.world.sent();
         let all = atoms.len();
         let outcome = paste_all(&mut self.world, site, index, atoms.as_slice())?;
         let line = paste_line(self.alloc, site, outcome.done, all, outcome.refused)?;
         self.print(&line)?;
-        self.print_events(before)
+        Ok(())
     }
 
     /// Deletes so many atoms, each where the one before stood.
@@ -49,11 +48,10 @@ impl<D: Doc> Player<D> {
         requires { site ≤ size self.old.world }
         ensures { OnOk result (self.new ≡ and_then self.old (del site index count self.old.world)) }
     {
-        let before = self.world.sent();
         let outcome = delete_all(&mut self.world, site, index, count)?;
         let line = del_line(self.alloc, site, outcome.done, count, outcome.refused)?;
         self.print(&line)?;
-        self.print_events(before)
+        Ok(())
     }
 }
 

@@ -19,9 +19,9 @@ use std::alloc::Global;
 use std::sync::Wait;
 use std::thread::Threads;
 use td_base::Bytes;
-use td_doc::Rows;
 use td_io::{ReadFault, Sink, Source, put_all, read_all};
 use td_script::{Kind, MAX_SCRIPT, ScriptFault, read_script};
+use td_tree::Tree;
 
 /// Written where the words are no command.
 const USAGE: &[u8] = b"usage: treedoc play | live | kept | check | gen SIZE NUMBER\n";
@@ -69,7 +69,7 @@ fn answer_to<S: Source>(alloc: Global, form: Form, source: &mut S) -> Result<Ans
         Form::Play => played(alloc, source),
         Form::Gen { size, number } => Ok(Answer {
             status: Status::Done,
-            bytes: generated::<Rows>(alloc, size, number)?,
+            bytes: generated::<Tree>(alloc, size, number)?,
         }),
     }
 }
@@ -94,7 +94,7 @@ fn played_or_refused(alloc: Global, input: &[u8]) -> Result<Answer, Stop>
     match read_script(alloc, input) {
         Ok(script) => Ok(Answer {
             status: Status::Done,
-            bytes: output_of::<Rows>(alloc, &script)?,
+            bytes: output_of::<Tree>(alloc, &script)?,
         }),
         Err(ScriptFault::Fault { line, kind }) => refused(alloc, line, kind),
         Err(ScriptFault::Memory) => Err(Stop::Memory),

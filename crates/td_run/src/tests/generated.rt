@@ -4,7 +4,7 @@ use crate::Status;
 use std::test::Fail;
 
 #[test]
-fn small_scripts_have_their_summary(rt: HostRuntime) -> Result<(), Fail> {
+fn scripts_have_their_summary(rt: HostRuntime) -> Result<(), Fail> {
     for (size, number, summary) in [
         (
             "3",
@@ -26,6 +26,17 @@ site 1 live 0 rows 0 made 0
 site 2 live 0 rows 0 made 0
 site 3 live 0 rows 0 made 0
 head ""
+"#,
+        ),
+        (
+            "20000",
+            "7",
+            r#"gen 20000 7
+commands 20800
+site 1 live 27716 rows 27770 made 12738
+site 2 live 27716 rows 27770 made 12724
+site 3 live 27716 rows 27770 made 12646
+head "snocufqhzlzvnxjxvefgzabcdeifghij"
 "#,
         ),
     ] {

@@ -63,3 +63,19 @@ fn a_site_makes_at_most_65535_operations(rt: HostRuntime) -> Result<(), Fail> {
     assert!(rt; sink.held().ends_with(last));
     Ok(())
 }
+
+#[test]
+fn a_large_text_is_made_one_array(rt: HostRuntime) -> Result<(), Fail> {
+    let mut script = Bytes::new(rt.alloc());
+    script.push(b"sites 1\nins 1 0 \"")?;
+    for _ in 0..20_000 {
+        script.push(b"a")?;
+    }
+    script.push(b"\"\nflat 1 root\ncount 1\n")?;
+    let (status, sink) = run_of(rt.alloc(), &["play"], script.as_slice())?;
+    let output = b"ins 1 20000/20000\nflat 1 1.20001\ndecide 1 1.20001 commit\n\
+        count 1 live 20000 rows 20000 waiting 0 holds 0\n";
+    assert_eq!(rt; status, Status::Done);
+    assert_eq!(rt; sink.held(), output.as_slice());
+    Ok(())
+}
