@@ -250,3 +250,69 @@ with_a_flatten =
     ∷ Ask 1 (Insert 1 (codes "d"))
     ∷ Give 2 8
     ∷ []
+
+-- two sites, a slot that the second holds, and its delete and its proposal there
+abbrev pub held_at_both : List Move
+held_at_both =
+    Ask 1 (Insert 0 (codes "a"))
+    ∷ Ask 1 (Propose Root)
+    ∷ Give 2 1
+    ∷ Give 2 2
+    ∷ Ask 2 (Delete 0)
+    ∷ Ask 2 (Propose Root)
+    ∷ []
+
+-- three sites, and a proposal whose atom is gone where its vote is asked for: it was deleted, and its slot flattened
+abbrev pub untold_slot : List Move
+untold_slot =
+    Ask 1 (Insert 0 (codes "a"))
+    ∷ Ask 1 (Insert 1 (codes "b"))
+    ∷ Give 2 1
+    ∷ Give 2 2
+    ∷ Give 3 1
+    ∷ Give 3 2
+    ∷ Ask 2 (ProposeAt 1 Right)
+    ∷ Ask 2 (Cancel (dot 2 1))
+    ∷ Ask 1 (Delete 1)
+    ∷ Ask 1 (ProposeAt 0 Right)
+    ∷ Give 2 5
+    ∷ Give 2 6
+    ∷ Give 3 5
+    ∷ Give 3 6
+    ∷ Give 1 7
+    ∷ Give 1 8
+    ∷ Give 3 9
+    ∷ Give 3 3
+    ∷ []
+
+-- three sites, and a commit that a proposer has not seen, whose own slot is gone where the vote is asked for
+abbrev pub untold_commit : List Move
+untold_commit =
+    Ask 1 (Insert 0 (codes "a"))
+    ∷ Ask 1 (Insert 1 (codes "b"))
+    ∷ Ask 1 (Insert 0 (codes "z"))
+    ∷ Ask 1 (ProposeAt 2 Right)
+    ∷ Give 2 1
+    ∷ Give 2 2
+    ∷ Give 2 3
+    ∷ Give 2 4
+    ∷ Give 3 1
+    ∷ Give 3 2
+    ∷ Give 3 3
+    ∷ Give 3 4
+    ∷ Ask 2 (ProposeAt 1 Left)
+    ∷ Give 1 5
+    ∷ Give 1 6
+    ∷ Ask 1 (Delete 2)
+    ∷ Ask 1 (ProposeAt 1 Right)
+    ∷ Give 2 8
+    ∷ Give 2 9
+    ∷ Give 2 10
+    ∷ Give 3 8
+    ∷ Give 3 9
+    ∷ Give 3 10
+    ∷ Give 1 11
+    ∷ Give 1 12
+    ∷ Give 3 13
+    ∷ Give 3 7
+    ∷ []

@@ -19,8 +19,8 @@ put_at_index index [] = PutRun index []
 put_at_index index (atom ∷ []) = Put index atom
 put_at_index index (atom ∷ next ∷ run) = PutRun index (atom ∷ next ∷ run)
 
--- what the operation with this dot and body does to the atoms shown: an insert puts its run where the first of its atoms
--- stands then, a delete of a live row cuts it, and all else does nothing to them
+-- what the operation with this dot and body does to the atoms shown: an insert puts its run where the first of its
+-- atoms stands then, a delete of a live row cuts it, and all else does nothing to them
 abbrev pub change_by : DotValue → Body → List DocRow → Option Change
 change_by dot (Insert slot run) rows =
     Some (put_at_index (live_before (record { dot = dot; offset = 0 }) (insert_run slot dot run rows)) run)

@@ -5,7 +5,7 @@ ghost use Rattle.td_path.specs.declared.slot.Slot.TheVariants.{Root, At};
 ghost use Rattle.td_op.specs.declared.reply.Reply.TheVariants.{Made, Cancelled, Held, NotOpen, New, Later, Repeat, Taken, Idle};
 ghost use Rattle.td_machine.specs.History.{IsConsistent};
 ghost use Rattle.td_machine.specs.Stage.{dot, atom_id, live_row, tombstone, vote_yes, vote_no, replies, text_after, rows_after, votes_after, decision_after, family_after};
-ghost use Rattle.td_machine.specs.Examples.{one_gap, reordered, three_typists, both_delete, beside_a_tombstone, flatten_alone, held, edit_first, overlapping, disjoint, used_again, late_yes, unseen_commit, split_paste, with_a_flatten};
+ghost use Rattle.td_machine.specs.Examples.{one_gap, reordered, three_typists, both_delete, beside_a_tombstone, flatten_alone, held, edit_first, overlapping, disjoint, used_again, late_yes, unseen_commit, split_paste, with_a_flatten, held_at_both, untold_slot, untold_commit};
 
 /// Atoms put into one gap at once stand by their dots.
 pub fn one_gap_for_two_sites()
@@ -146,4 +146,24 @@ pub fn a_family_with_a_flatten_is_consistent()
     ensures second { decision_after 2 with_a_flatten 2 (dot 1 4) ≡ Some true }
     ensures lost { text_after 2 with_a_flatten 1 ≡ codes "bd" }
     ensures text { text_after 2 with_a_flatten 2 ≡ codes "bdc" }
+{}
+
+/// A hold refuses deletes and proposals too, not inserts alone.
+pub fn a_hold_refuses_deletes_and_proposals()
+    ensures replies { replies 2 held_at_both ≡
+        Made (dot 1 1) ∷ Made (dot 1 2) ∷ New ∷ New ∷ Held (dot 1 2) ∷ Held (dot 1 2) ∷ [] }
+{}
+
+/// A proposal whose atom is gone gets a No.
+pub fn a_slot_whose_atom_is_gone()
+    ensures votes { votes_after 3 untold_slot ≡ vote_yes 2 (dot 1 4) ∷ vote_yes 3 (dot 1 4) ∷ vote_no 3 (dot 2 1) ∷ [] }
+    ensures decision { decision_after 3 untold_slot 3 (dot 1 4) ≡ Some true }
+{}
+
+/// A commit that the proposer had not seen makes the vote No also where its own slot is gone.
+pub fn a_commit_whose_slot_is_gone()
+    ensures votes { votes_after 3 untold_commit ≡ vote_yes 2 (dot 1 4) ∷ vote_yes 3 (dot 1 4) ∷ vote_yes 2 (dot 1 7)
+        ∷ vote_yes 3 (dot 1 7) ∷ vote_no 3 (dot 2 1) ∷ [] }
+    ensures first { decision_after 3 untold_commit 3 (dot 1 4) ≡ Some true }
+    ensures second { decision_after 3 untold_commit 3 (dot 1 7) ≡ Some true }
 {}

@@ -82,8 +82,8 @@ pub fn a_document_is_that_of_its_log()
     ensures { (m : Machine) → IsReached m → m.doc ≡ doc_of m.log }
 {}
 
-/// What an operation does to the list of atoms that a document shows is the change that is told of it, where an insert is
-/// a new one in a slot whose atom is a row.
+/// What an operation does to the list of atoms that a document shows is the change that is told of it, where an insert
+/// is a new one in a slot whose atom is a row.
 #[tactic(auto, using(crate::proofs::Showing::shown_after))]
 pub fn operations_change_the_atoms_shown()
     ensures { (log : List OpValue) (dot : DotValue) (body : Body) (rows : List DocRow) → IsDocument rows
@@ -92,8 +92,8 @@ pub fn operations_change_the_atoms_shown()
         → live_atoms (effect log dot body rows) ≡ changed_by (change_by dot body rows) (live_atoms rows) }
 {}
 
-/// What a step does to the list of atoms shown is the change that is told of the first operation that it makes or takes,
-/// and nothing where it makes and takes none: the decision that may come second changes no atom shown.
+/// What a step does to the list of atoms shown is the change that is told of the first operation that it makes or
+/// takes, and nothing where it makes and takes none: the decision that may come second changes no atom shown.
 pub fn steps_change_the_atoms_shown()
     ensures { (m : Machine) (input : Input) → IsReached m → IsInput input
         → live_atoms (step m input).machine.doc

@@ -10,11 +10,13 @@ mod examples;
 mod laws;
 
 pub use examples::{
-    a_commit_that_the_proposer_had_not_seen, a_family_with_a_flatten_is_consistent,
+    a_commit_that_the_proposer_had_not_seen, a_commit_whose_slot_is_gone,
+    a_family_with_a_flatten_is_consistent, a_hold_refuses_deletes_and_proposals,
     a_hold_refuses_edits, a_late_yes_is_a_repeat, a_run_split_by_two_sites, a_slot_used_again,
-    an_edit_takes_precedence, deletes_of_one_atom, one_gap_for_two_sites, one_site_decides_at_once,
-    operations_come_in_order, proposals_that_are_disjoint, proposals_that_overlap,
-    typed_words_stay_whole, what_goes_beside_a_tombstone,
+    a_slot_whose_atom_is_gone, an_edit_takes_precedence, deletes_of_one_atom,
+    one_gap_for_two_sites, one_site_decides_at_once, operations_come_in_order,
+    proposals_that_are_disjoint, proposals_that_overlap, typed_words_stay_whole,
+    what_goes_beside_a_tombstone,
 };
 pub use laws::{
     a_decision_has_room, a_document_is_that_of_its_log, a_refusal_changes_nothing,
