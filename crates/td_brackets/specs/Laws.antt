@@ -15,9 +15,9 @@ use Rattle.td_base.specs.Lists.{In}
 use Rattle.td_path.specs.Infix.{path_cmp}
 use Rattle.td_path.specs.SlotPaths.{path_in}
 
--- the tokens, parted by the three of a row: the words on its sides mean the rows of its two slots, the next atom is the
--- row that follows, and a word in place of the one on a side whose rows are the array of the live ones means the flatten
--- of that side
+-- the tokens, parted by the three of a row: the words on its sides mean the rows of its two slots, the next atom is
+-- the row that follows, and a word in place of the one on a side whose rows are the array of the live ones means the
+-- flatten of that side
 pub record Sides (table : ℕ → Entry) (tokens : List Token) (x : ℕ) : Type 0 where
   pub front : List Token
   pub left : List Token
@@ -79,8 +79,8 @@ abbrev pub live_numbers : (ℕ → Entry) → List Token → List ℕ
 live_numbers table [] = []
 live_numbers table (t ∷ tokens) = live_number table t ++ live_numbers table tokens
 
--- a leaf, exploded down to its row x: what comes to stand in its place means the same, and x is a node there, with a leaf
--- on each side
+-- a leaf, exploded down to its row x: what comes to stand in its place means the same, and x is a node there, with a
+-- leaf on each side
 pub record ExplodedTo (table : ℕ → Entry) (front back : List Token) (rs : List ℕ) (x : ℕ) : Type 0 where
   pub opened : List Token
   pub closed : List Token

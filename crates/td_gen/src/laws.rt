@@ -3,8 +3,8 @@ ghost use Rattle.std.specs.Prelude.{◌≤◌, ◌+◌, ◌*◌, ℕ, All, lengt
 ghost use Rattle.td_gen.specs.Commands.{IsGenerated};
 ghost use Rattle.td_gen.specs.Generator.{generated};
 
-/// A generated script has edits and flattens of the whole text, at its own sites, and settles; no more than four commands
-/// for each edit, and two.
+/// A generated script has edits and flattens of the whole text, at its own sites, and settles; no more than four
+/// commands for each edit, and two.
 #[tactic(auto, using(crate::proofs::Commands::generated_are, crate::proofs::Commands::generated_few))]
 pub fn generated_scripts_edit_and_flatten()
     ensures commands { (size number : ℕ) → All IsGenerated (generated size number).commands }

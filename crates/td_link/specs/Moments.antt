@@ -19,6 +19,7 @@ module _ {T : Type 0} where
   was_empty taken held = held
 
   -- and of one that found it full
-  pub was_full : (cap : ℕ) (sent : List T) → Held cap (λ items. (taken : List T) × (sent ≡ taken ++ items)) → WasFull cap sent
+  pub was_full : (cap : ℕ) (sent : List T) → Held cap (λ items. (taken : List T) × (sent ≡ taken ++ items))
+      → WasFull cap sent
   unfolding WasFull
   was_full cap sent held = held

@@ -60,7 +60,8 @@ impl Writer {
     #[tactic(auto, using(crate::proofs::Counts::rows_more))]
     pub fn put(&mut self, index: u32, run: Run) -> Result<(), Fault>
         ensures ok { OnOk result (draft_rows self.new ≡ insert_run
-            (alloc (draft_rows self.old) (anchor (draft_rows self.old) index)) self.old.next run (draft_rows self.old)) }
+            (alloc (draft_rows self.old) (anchor (draft_rows self.old) index))
+            self.old.next run (draft_rows self.old)) }
         ensures next { OnOk result (self.new.next ≡ dot_after self.old.next) }
         ensures rows { OnOk result (length (draft_rows self.new) ≡ length (draft_rows self.old) + length run) }
         ensures nodes { OnOk result (AddsFewIn self.old.parts self.new.parts

@@ -4,8 +4,8 @@
 //! An operation is valid by construction: its dot is the one after those of its site that it depends on, and no site
 //! that it names is past the size of its vector. Begin at `op` and at `specs/Op.antt`. The insertions among
 //! operations, and the atoms that they put, are in `specs/Insertion.antt`. Which operation happened before which is in
-//! `specs/Past.antt`, with its laws in `laws`. What a change does to a text is in `specs/Change.antt`. What the types keep
-//! of their parts is told by `is_in_range` (`valid`).
+//! `specs/Past.antt`, with its laws in `laws`. What a change does to a text is in `specs/Change.antt`. What the types
+//! keep of their parts is told by `is_in_range` (`valid`).
 #![tactic(auto)]
 
 mod body;

@@ -34,12 +34,12 @@ IsAskable Play = ⊤
 IsAskable (Gen size number) = size ≤ MAX_SIZE
 
 -- by what the source tells of itself: of the command, the source before and after, and what is to be written
-pub record IsAnswerTo {S : Type 0} (s : source.Ghosts S) (form : Form) (old new : S) (result : Result Answer Stop) : Type 0
-  where
-    pub whole : IfOk result (λ a. IsWholeOf form (s.left old) a.status a.bytes)
-    pub read : IsErrOf result Unread → (form ≡ Play) × Rose (s.faults old) (s.faults new)
-    -- other commands than `play` read nothing
-    pub unread : form ≢ Play → new ≡ old
-    pub to_end : IfOk result (λ a. a.status ≡ Done → form ≡ Play → IsReadToEnd s old new)
-    pub past : IfOk result (λ a. form ≡ Play → IsReadToEnd s old new ⊎ IsReadPast s MAX_SCRIPT old new)
-    pub turns : s.calls new ≤ s.calls old + (MAX_SCRIPT + 1)
+pub record IsAnswerTo {S : Type 0} (s : source.Ghosts S) (form : Form) (old new : S) (result : Result Answer Stop)
+    : Type 0 where
+  pub whole : IfOk result (λ a. IsWholeOf form (s.left old) a.status a.bytes)
+  pub read : IsErrOf result Unread → (form ≡ Play) × Rose (s.faults old) (s.faults new)
+  -- other commands than `play` read nothing
+  pub unread : form ≢ Play → new ≡ old
+  pub to_end : IfOk result (λ a. a.status ≡ Done → form ≡ Play → IsReadToEnd s old new)
+  pub past : IfOk result (λ a. form ≡ Play → IsReadToEnd s old new ⊎ IsReadPast s MAX_SCRIPT old new)
+  pub turns : s.calls new ≤ s.calls old + (MAX_SCRIPT + 1)
