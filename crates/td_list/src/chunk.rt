@@ -4,7 +4,7 @@ ghost use Rattle.td_list.specs.Items.{IsItem, AreApart, place_of, has_mark, weig
 ghost use Rattle.td_list.specs.Index.{summary};
 ghost use Rattle.td_list.specs.Places.{nothing};
 
-use crate::edit::put_each;
+use crate::edit::{put_each, take_out};
 use crate::item::Item;
 use crate::scan::{has_mark, place_from, place_of, weight_of};
 use std::alloc::Global;
@@ -101,6 +101,19 @@ impl Chunk {
         self.place_of(name)
     }
 
+    /// The weight of the items before a place, by these or by the others, whichever are fewer.
+    pub fn weight_to(&self, place: usize) -> u32
+        requires place { place ≤ length self.now }
+        requires light { weight_of self.now < 2 ^ 32 }
+        ensures { result ≡ weight_of (take place self.now) }
+    {
+        if place > self.items.len() / 2 {
+            self.weight - weight_of(&self.items[place..])
+        } else {
+            weight_of(&self.items[..place])
+        }
+    }
+
     // Puts a piece at a place.
     fn put(&mut self, place: usize, piece: &[Item]) -> Result<(), Memory>
         requires place { place ≤ length self.old }
@@ -124,7 +137,9 @@ impl Chunk {
         ensures err { OnErr result (self.new ≡ self.old) }
     {
         self.put(to, piece)?;
-        self.cut(from, to);
+        if from < to {
+            self.cut(from, to);
+        }
         self.near = from;
         Ok(())
     }
@@ -136,7 +151,7 @@ impl Chunk {
         ensures { self.new ≡ take from self.old ++ drop to self.old }
     {
         self.weight -= weight_of(&self.items[from..to]);
-        self.items.drain(from..to);
+        take_out(&mut self.items, from, to);
         self.marked = has_mark(&self.items);
     }
 

@@ -1,12 +1,13 @@
 ghost use Rattle.std.specs.Prelude.{◌≡◌, ◌<◌, ◌≤◌, ◌+◌, ◌^◌, ◌++◌, ◌∷◌, List, [], nat_lt, length, drop, Option, IfOk, OnOk, OnErr};
 ghost use Rattle.std.specs.Option.{ForSome};
+ghost use Rattle.td_list.specs.declared.item.Item.{Item};
 ghost use Rattle.td_list.specs.Items.{IsItem, AreApart, AreNew, items_before, items_from, items_after, items_from_end, put_before, replace, without, renew, place_of, first_name, last_name, first_marked, share_at, weight_of};
 ghost use Rattle.td_list.specs.Index.{all_items, chunk_at, chunks_before, chunks_after, IsIndex};
 
 use crate::index::Index;
 use crate::item::{Item, Share};
 use crate::line::Line;
-use crate::scan::{first_marked, share_at, weight_of};
+use crate::scan::{first_marked, share_at};
 use crate::sequence::Sequence;
 use std::alloc::Global;
 use std::marker::Model;
@@ -129,8 +130,7 @@ impl<S: Sequence> Sequence for Chunked<S> {
 
     fn weight_before(&self, name: u32) -> u32 {
         let seat = self.index.seat(name);
-        let items = self.index.items_of(seat.chunk);
-        self.index.weight_before(seat.chunk) + weight_of(&items[..seat.place])
+        self.index.weight_before(seat.chunk) + self.index.weight_to(seat.chunk, seat.place)
     }
 
     fn share_at(&self, unit: u32) -> Option<Share> {
@@ -190,6 +190,19 @@ impl<S: Sequence> Chunked<S> {
     {
         let seat = self.index.seat_near(name, near);
         self.index.items_of(seat.chunk)[seat.place]
+    }
+
+    /// The items from one on that stand together with it, and the item behind them. Who goes over many items takes
+    /// them so: within what is lent, nothing is looked for.
+    pub fn lend_from(&self, name: u32) -> (&[Item], Option<u32>)
+        requires { IsItem name self.now }
+        ensures some { 0 < length result.0.now }
+        ensures parts { (behind : List Item) × (items_from name self.now ≡ result.0.now ++ behind)
+            × (result.1 ≡ first_name behind) }
+    {
+        let seat = self.index.seat(name);
+        let items = &self.index.items_of(seat.chunk)[seat.place..];
+        (items, self.index.head_after(seat.chunk))
     }
 
     // Parts the chunk of an item where it is full.

@@ -79,6 +79,16 @@ impl<S: Sequence> Index<S> {
         &self.chunks[chunk as usize]
     }
 
+    /// The weight of the items of a chunk before a place.
+    pub fn weight_to(&self, chunk: u32, place: usize) -> u32
+        requires chunk { chunk < length self.now.chunks }
+        requires place { place ≤ length (chunk_at self.now.chunks chunk) }
+        requires light { weight_of (chunk_at self.now.chunks chunk) < 2 ^ 32 }
+        ensures { result ≡ weight_of (take place (chunk_at self.now.chunks chunk)) }
+    {
+        self.numbered(chunk).weight_to(place)
+    }
+
     /// The first item of a chunk.
     pub fn head(&self, chunk: u32) -> u32
         requires index { IsIndex self.now }

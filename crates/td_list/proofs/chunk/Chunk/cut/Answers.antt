@@ -1,4 +1,4 @@
-use Rattle.std.proofs.Common.{rules, ◌≡◌, ◌-◌, ◌++◌, ◌∙◌, List, take, drop, ap, arith}
+use Rattle.std.proofs.Common.{◌-◌, ◌∙◌, List, take, drop, ap, arith}
 use Rattle.td_list.specs.declared.item.Item.{Item}
 use Rattle.td_list.specs.Items.{weight_of, has_mark}
 use Rattle.td_list.proofs.Weights.{weight-cut}
@@ -23,6 +23,5 @@ invariant_of-self c =
     let items = c.self.inside.items.items in
     let read = ap (λ (q : List Item). weight_of (take (c.args.to - c.args.from) (drop c.args.from q))) c.deref.ensures.value in
     let parts = weight-cut c.args.from c.args.to items c.requires.from in
-    let now : c.drop-drain.new.self.0.items ≡ take c.args.from items ++ drop c.args.to items = search rules in
-    let left = ap weight_of now in
+    let left = ap weight_of c.take_out.ensures in
     (omega (arith, c.self.invariant.0, c.weight_of.ensures), c.has_mark-self-inside.ensures ∙ ap has_mark c.deref-2.ensures.value)

@@ -1,7 +1,8 @@
-use Rattle.std.proofs.Common.{◌≤◌, ◌+◌, ◌∙◌, ℕ, List, take, sym, ap, arith}
+use Rattle.std.proofs.Common.{◌≤◌, ◌+◌, ◌∙◌, ℕ, List, sym, ap, arith}
 use Rattle.td_list.specs.declared.item.Item.{Item}
 use Rattle.td_list.specs.Items.{items_before, items_from, weight_of}
 use Rattle.td_list.specs.Index.{Parts, all_items}
+use Rattle.td_list.proofs.Changes.{chunk_light}
 use Rattle.td_list.proofs.Names.{weight-append}
 use Rattle.td_list.proofs.Parted.{parts}
 use Rattle.td_list.proofs.Seats.{weight_seat, take_here}
@@ -14,16 +15,11 @@ not_more x items =
     let e = ap weight_of (parts x items) in
     omega arith
 
-pub weight_of-requires : goal.weight_of-requires
-weight_of-requires g c =
+pub weight_to-requires-clause-light : goal.weight_to-requires-clause-light
+weight_to-requires-clause-light g c =
     let p : Parts = c.self.inside.index in
-    let s = c.seat-seat.ensures in
-    let w = weight_seat p c.self.invariant c.seat-seat.result.chunk s.chunk c.args.name s.there in
-    let m = not_more c.args.name (all_items p) in
-    let t = ap weight_of (take_here p c.self.invariant c.seat-seat.result.chunk s.chunk c.args.name s.there c.seat-seat.result.place s.place) in
-    let r = ap (λ (xs : List Item). weight_of (take c.seat-seat.result.place xs)) c.items_of-items.ensures in
-    let l = c.self.invariant.light in
-    omega arith
+    let chunk = chunk_light p c.self.invariant c.seat-seat.result.chunk c.seat-seat.ensures.chunk in
+    omega (arith, c.self.invariant.light)
 
 pub overflow_add-result : goal.overflow_add-result
 overflow_add-result g c =
@@ -32,15 +28,14 @@ overflow_add-result g c =
     let w = weight_seat p c.self.invariant c.seat-seat.result.chunk s.chunk c.args.name s.there in
     let m = not_more c.args.name (all_items p) in
     let t = ap weight_of (take_here p c.self.invariant c.seat-seat.result.chunk s.chunk c.args.name s.there c.seat-seat.result.place s.place) in
-    let r = ap (λ (xs : List Item). weight_of (take c.seat-seat.result.place xs)) c.items_of-items.ensures in
     let l = c.self.invariant.light in
-    omega (arith, c.weight_before.ensures, c.weight_of.ensures)
+    omega (arith, c.weight_before.ensures, c.weight_to.ensures)
 
 pub returns : goal.returns
 returns g c =
     let p : Parts = c.self.inside.index in
     let s = c.seat-seat.ensures in
-    (λ i. c.weight_before.ensures i + (c.weight_of.ensures ∙ ap (λ (xs : List Item). weight_of (take c.seat-seat.result.place xs)) c.items_of-items.ensures
+    (λ i. c.weight_before.ensures i + (c.weight_to.ensures
     ∙ ap weight_of (take_here p c.self.invariant c.seat-seat.result.chunk s.chunk c.args.name s.there c.seat-seat.result.place s.place)) i)
     ∙ sym (weight_seat p c.self.invariant c.seat-seat.result.chunk s.chunk c.args.name s.there)
     ∙ ap (λ (xs : List Item). weight_of (items_before c.args.name xs)) c.self.view_is
