@@ -1,6 +1,6 @@
 -- What stands in a stretch of items.
-use Rattle.std.proofs.Common.{◌≡◌, ◌≢◌, ◌+◌, ◌/◌, ◌%◌, ◌<◌, ◌^◌, ℕ, zero, suc, List, [], ◌∷◌, ◌++◌, Bool, true, false, if◌then◌else◌, length, refl, sym, ap, ◌∙◌, subst, arith, append_assoc, length-append, Option, Some, None, not, nat_eq, true≢false}
-use Rattle.std.proofs.lemmas.List.{append-nil}
+use Rattle.std.proofs.Common.{◌≡◌, ◌≢◌, ◌+◌, ◌/◌, ◌%◌, ◌<◌, ◌≤◌, ◌^◌, ℕ, zero, suc, List, [], ◌∷◌, ◌++◌, Bool, true, false, if◌then◌else◌, length, take, drop, get_or, nat_lt, refl, sym, ap, ◌∙◌, subst, arith, append_assoc, length-append, take-append-drop, Option, Some, None, not, nat_eq, true≢false}
+use Rattle.std.proofs.lemmas.List.{append-nil, map_more}
 use Rattle.td_base.specs.Lists.{In}
 use Rattle.td_doc.specs.Document.{is_empty_list}
 use Rattle.td_list.specs.declared.item.Item.{Item}
@@ -9,10 +9,10 @@ use Rattle.td_brackets.specs.Laws.{live_number, live_numbers}
 use Rattle.td_brackets.specs.RowNumbers.{row_numbers_at, row_numbers}
 use Rattle.td_brackets.proofs.Entries.{row_numbers-append}
 use Rattle.td_tree.specs.declared.tree_row.RowState.{RowState}
-use Rattle.td_tree.specs.declared.tree_row.RowState.TheVariants.{Node, InArray, Gone}
+use Rattle.td_tree.specs.declared.tree_row.RowState.TheVariants.{InArray, Gone}
 use Rattle.td_tree.proofs.RowPlaces.{is_node}
-use Rattle.td_tree.specs.Parts.{Parts, state_at, table, token_of, tokens_of, tokens, IsRowItem, IsKind, IsTree}
-use Rattle.td_tree.specs.Stretches.{open_numbers, IsFound, IsFoundAt}
+use Rattle.td_tree.specs.Parts.{Parts, state_at, table, token_of, tokens_of, tokens, token_weight, IsRowItem, IsKind, IsTree}
+use Rattle.td_tree.specs.Stretches.{open_numbers, IsFound, IsFoundAt, IsFoundAmong}
 use Rattle.td_tree.specs.Walks.{IsStretch}
 use Rattle.td_tree.proofs.ItemTokens.{tokens-append}
 use Rattle.td_tree.proofs.ItemKinds.{Kind, IsOpen, IsRow, IsLeaf, IsClose, kind_of}
@@ -20,72 +20,82 @@ use Rattle.td_tree.proofs.Trees.{node_not_array}
 use Rattle.td_tree.proofs.Grown.{rows_long}
 use Rattle.td_tree.proofs.Walked.{Walked, step}
 use Rattle.std.specs.Option.{option_eq}
-use Rattle.std.proofs.lemmas.Bool.{eqb-true, eq-eqb}
+use Rattle.std.proofs.lemmas.Bool.{eqb-true, eq-eqb, lt-ltb, le-ltb}
 use Rattle.td_base.proofs.Lists.{In-map}
 use Rattle.td_list.specs.Items.{IsItem, first_name}
+use Rattle.td_list.specs.Places.{nothing}
 
-module _ (p : Parts) (t : IsTree p) (i : Item) (m : In i p.items) (name : ℕ) (e : i.name ≡ name) (live nodes : List ℕ) (dead : ℕ) where
-  pub found_open : name % 3 ≡ 0 → IsFoundAt p (token_of p i) live nodes dead live (nodes ++ name / 3 ∷ []) dead
+module _ (p : Parts) (t : IsTree p) (i : Item) (m : In i p.items) (live nodes : List ℕ) (dead : ℕ) where
+  pub found_open : i.name % 3 ≡ 0 → IsFoundAt p (token_of p i) live nodes dead live (nodes ++ i.name / 3 ∷ []) dead
   found_open k = at (kind_of p t i m)
     where
-      at : Kind p i → IsFoundAt p (token_of p i) live nodes dead live (nodes ++ name / 3 ∷ []) dead
-      at (IsOpen f g) = subst (λ (u : Token). IsFoundAt p u live nodes dead live (nodes ++ name / 3 ∷ []) dead) (sym (g ∙ ap (λ (x : ℕ). Open (x / 3)) e)) (record { live_is = sym (append-nil live); nodes_are = refl; dead_is = refl })
+      at : Kind p i → IsFoundAt p (token_of p i) live nodes dead live (nodes ++ i.name / 3 ∷ []) dead
+      at (IsOpen f g) = subst (λ (u : Token). IsFoundAt p u live nodes dead live (nodes ++ i.name / 3 ∷ []) dead) (sym g) (record { live_is = sym (append-nil live); nodes_are = refl; dead_is = refl })
       at (IsRow f h g) = absurd (omega arith)
       at (IsLeaf f h g) = absurd (omega arith)
       at (IsClose f g) = absurd (omega arith)
 
-  pub found_close : name % 3 ≢ 0 → name % 3 ≢ 1 → IsFoundAt p (token_of p i) live nodes dead live nodes dead
+  pub found_close : i.name % 3 ≢ 0 → i.name % 3 ≢ 1 → IsFoundAt p (token_of p i) live nodes dead live nodes dead
   found_close k l = at (kind_of p t i m)
     where
       at : Kind p i → IsFoundAt p (token_of p i) live nodes dead live nodes dead
-      at (IsOpen f g) = absurd (k (ap (λ (x : ℕ). x % 3) (sym e) ∙ f))
-      at (IsRow f h g) = absurd (l (ap (λ (x : ℕ). x % 3) (sym e) ∙ f))
-      at (IsLeaf f h g) = absurd (l (ap (λ (x : ℕ). x % 3) (sym e) ∙ f))
+      at (IsOpen f g) = absurd (k f)
+      at (IsRow f h g) = absurd (l f)
+      at (IsLeaf f h g) = absurd (l f)
       at (IsClose f g) = subst (λ (u : Token). IsFoundAt p u live nodes dead live nodes dead) (sym g) (record { live_is = sym (append-nil live); nodes_are = sym (append-nil nodes); dead_is = refl })
 
-  pub found_leaf : name % 3 ≡ 1 → (a c : ℕ) → state_at p (name / 3) ≡ InArray a c → (rs : List ℕ) → row_numbers_at (token_of p i) ≡ rs → IsFoundAt p (token_of p i) live nodes dead (live ++ rs) nodes dead
+  pub found_leaf : i.name % 3 ≡ 1 → (a c : ℕ) → state_at p (i.name / 3) ≡ InArray a c → (rs : List ℕ) → row_numbers_at (token_of p i) ≡ rs → IsFoundAt p (token_of p i) live nodes dead (live ++ rs) nodes dead
   found_leaf k a c s rs is = at (kind_of p t i m)
     where
       at : Kind p i → IsFoundAt p (token_of p i) live nodes dead (live ++ rs) nodes dead
       at (IsOpen f g) = absurd (omega arith)
-      at (IsRow f h g) = absurd (node_not_array a c (sym h ∙ ap (λ (x : ℕ). state_at p (x / 3)) e ∙ s))
+      at (IsRow f h g) = absurd (node_not_array a c (sym h ∙ s))
       at (IsLeaf f h g) =
           let ss : List ℕ = g.before ++ i.name / 3 ∷ g.after in
           let same : ss ≡ rs = sym (ap row_numbers_at g.is) ∙ is in
           subst (λ (u : Token). IsFoundAt p u live nodes dead (live ++ rs) nodes dead) (sym g.is) (record { live_is = ap (λ (xs : List ℕ). live ++ xs) (sym same); nodes_are = sym (append-nil nodes); dead_is = refl })
       at (IsClose f g) = absurd (omega arith)
 
-  found_atom : name % 3 ≡ 1 → ((a c : ℕ) → state_at p (name / 3) ≡ InArray a c → ⊥) → token_of p i ≡ Atom (name / 3)
+  found_atom : i.name % 3 ≡ 1 → ((a c : ℕ) → state_at p (i.name / 3) ≡ InArray a c → ⊥) → token_of p i ≡ Atom (i.name / 3)
   found_atom k n = at (kind_of p t i m)
     where
-      at : Kind p i → token_of p i ≡ Atom (name / 3)
+      at : Kind p i → token_of p i ≡ Atom (i.name / 3)
       at (IsOpen f g) = absurd (omega arith)
-      at (IsRow f h g) = g ∙ ap (λ (x : ℕ). Atom (x / 3)) e
-      at (IsLeaf f h g) = absurd (h (no_array (λ a c s. n a c (ap (λ (x : ℕ). state_at p (x / 3)) (sym e) ∙ s))))
+      at (IsRow f h g) = g
+      at (IsLeaf f h g) = absurd (h (is_node (state_at p (i.name / 3)) n not_gone))
         where
-          no_array : ((a c : ℕ) → state_at p (i.name / 3) ≡ InArray a c → ⊥) → state_at p (i.name / 3) ≡ Node
-          no_array n = is_node (state_at p (i.name / 3)) n not_gone
+          not_gone : state_at p (i.name / 3) ≢ Gone
+          not_gone o = kind_gone (i.name % 3) f (t.each i m).kind
             where
-              not_gone : state_at p (i.name / 3) ≢ Gone
-              not_gone o = kind_gone (i.name % 3) f (t.each i m).kind
-                where
-                  kind_gone : (k : ℕ) → k ≡ 1 → IsKind p k (state_at p (i.name / 3)) i.weight → ⊥
-                  kind_gone zero q h = absurd (omega arith)
-                  kind_gone (suc zero) q h = subst (λ (s : RowState). IsRowItem p s i.weight) o h
-                  kind_gone (suc (suc k)) q h = absurd (omega arith)
+              kind_gone : (k : ℕ) → k ≡ 1 → IsKind p k (state_at p (i.name / 3)) i.weight → ⊥
+              kind_gone zero q h = absurd (omega arith)
+              kind_gone (suc zero) q h = subst (λ (s : RowState). IsRowItem p s i.weight) o h
+              kind_gone (suc (suc k)) q h = absurd (omega arith)
       at (IsClose f g) = absurd (omega arith)
 
-  pub found_live : name % 3 ≡ 1 → ((a c : ℕ) → state_at p (name / 3) ≡ InArray a c → ⊥) → is_empty_list (table p (name / 3)).deletes ≡ true
-      → IsFoundAt p (token_of p i) live nodes dead (live ++ name / 3 ∷ []) nodes dead
+  -- a row in brackets weighs where no delete named it
+  weighs_live : i.name % 3 ≡ 1 → ((a c : ℕ) → state_at p (i.name / 3) ≡ InArray a c → ⊥) → nat_lt 0 i.weight ≡ is_empty_list (table p (i.name / 3)).deletes
+  weighs_live k n =
+      ap (nat_lt 0) ((t.each i m).weighed ∙ ap (token_weight (table p)) (found_atom k n))
+      ∙ at (is_empty_list (table p (i.name / 3)).deletes)
+    where
+      at : (b : Bool) → nat_lt 0 (if b then 1 else 0) ≡ b
+      at true = refl
+      at false = refl
+
+  pub found_live : i.name % 3 ≡ 1 → ((a c : ℕ) → state_at p (i.name / 3) ≡ InArray a c → ⊥) → 0 < i.weight
+      → IsFoundAt p (token_of p i) live nodes dead (live ++ i.name / 3 ∷ []) nodes dead
   found_live k n b =
-      let one : (if is_empty_list (table p (name / 3)).deletes then name / 3 ∷ [] else []) ≡ name / 3 ∷ [] = ap (λ (c : Bool). if c then name / 3 ∷ [] else []) b in
-      subst (λ (u : Token). IsFoundAt p u live nodes dead (live ++ name / 3 ∷ []) nodes dead) (sym (found_atom k n))
+      let is : is_empty_list (table p (i.name / 3)).deletes ≡ true = sym (weighs_live k n) ∙ lt-ltb 0 i.weight b in
+      let one : (if is_empty_list (table p (i.name / 3)).deletes then i.name / 3 ∷ [] else []) ≡ i.name / 3 ∷ [] = ap (λ (c : Bool). if c then i.name / 3 ∷ [] else []) is in
+      subst (λ (u : Token). IsFoundAt p u live nodes dead (live ++ i.name / 3 ∷ []) nodes dead) (sym (found_atom k n))
       (record { live_is = ap (λ (xs : List ℕ). live ++ xs) (sym one); nodes_are = sym (append-nil nodes); dead_is = ap (λ (xs : List ℕ). dead + length xs) one })
 
-  pub found_dead : name % 3 ≡ 1 → ((a c : ℕ) → state_at p (name / 3) ≡ InArray a c → ⊥) → is_empty_list (table p (name / 3)).deletes ≡ false
+  pub found_dead : i.name % 3 ≡ 1 → ((a c : ℕ) → state_at p (i.name / 3) ≡ InArray a c → ⊥) → i.weight ≤ 0
       → IsFoundAt p (token_of p i) live nodes dead live nodes (dead + 1)
   found_dead k n b =
-      let none : (if is_empty_list (table p (name / 3)).deletes then name / 3 ∷ [] else []) ≡ [] = ap (λ (c : Bool). if c then name / 3 ∷ [] else []) b in
+      let is : is_empty_list (table p (i.name / 3)).deletes ≡ false = sym (weighs_live k n) ∙ le-ltb 0 i.weight b in
+      let none : (if is_empty_list (table p (i.name / 3)).deletes then i.name / 3 ∷ [] else []) ≡ [] = ap (λ (c : Bool). if c then i.name / 3 ∷ [] else []) is in
       let empty = ap (λ (xs : List ℕ). length xs) none in
       subst (λ (u : Token). IsFoundAt p u live nodes dead live nodes (dead + 1)) (sym (found_atom k n))
       (record { live_is = sym (append-nil live) ∙ ap (λ (xs : List ℕ). live ++ xs) (sym none); nodes_are = sym (append-nil nodes); dead_is = omega arith })
@@ -105,39 +115,90 @@ opens-append (Leaf rs ∷ xs) ys = opens-append xs ys
 pub found_none : (p : Parts) → IsFound p [] [] [] 0
 found_none p = record { live_is = refl; nodes_are = refl; dead_is = refl }
 
-pub found_more : (p : Parts) (done : List Item) (i : Item) (live nodes : List ℕ) (dead : ℕ) (live' nodes' : List ℕ) (dead' : ℕ) → IsFound p (tokens_of p done) live nodes dead
-    → IsFoundAt p (token_of p i) live nodes dead live' nodes' dead' → IsFound p (tokens_of p (done ++ i ∷ [])) live' nodes' dead'
-found_more p done i live nodes dead live' nodes' dead' f g =
-    let u : Token = token_of p i in
-    let ts : List Token = tokens_of p done in
-    let lives : live' ≡ live_numbers (table p) (ts ++ u ∷ []) = g.live_is ∙ (λ j. f.live_is j ++ sym (append-nil (live_number (table p) u)) j) ∙ sym (lives-append (table p) ts (u ∷ [])) in
-    let old = ap (λ (xs : List ℕ). length xs) (row_numbers-append ts (u ∷ [])) in
-    let one = length-append (row_numbers ts) (row_numbers_at u ++ []) in
-    let two = length-append (row_numbers_at u) [] in
-    let three = ap (λ (xs : List ℕ). length xs) g.live_is in
-    let four = length-append live (live_number (table p) u) in
+-- one after another
+both_found : (p : Parts) (xs ys : List Token) (live nodes : List ℕ) (dead : ℕ) (live' nodes' : List ℕ) (dead' : ℕ) (live'' nodes'' : List ℕ) (dead'' : ℕ) → IsFoundAmong p xs live nodes dead live' nodes' dead'
+    → IsFoundAmong p ys live' nodes' dead' live'' nodes'' dead'' → IsFoundAmong p (xs ++ ys) live nodes dead live'' nodes'' dead''
+both_found p xs ys live nodes dead live' nodes' dead' live'' nodes'' dead'' f g =
+    let lives = lives-append (table p) xs ys in
+    let opens = opens-append xs ys in
+    let one = ap (λ (rs : List ℕ). length rs) lives in
+    let two = length-append (live_numbers (table p) xs) (live_numbers (table p) ys) in
+    let three = ap (λ (rs : List ℕ). length rs) (row_numbers-append xs ys) in
+    let four = length-append (row_numbers xs) (row_numbers ys) in
     let five = f.dead_is in
     let six = g.dead_is in
-    subst (λ (xs : List Token). IsFound p xs live' nodes' dead') (sym (tokens-append p done (i ∷ []))) (record {
-      live_is = lives;
-      nodes_are = g.nodes_are ∙ ap (λ (q : List ℕ). q ++ open_numbers (u ∷ [])) f.nodes_are ∙ sym (opens-append ts (u ∷ []));
+    record {
+      live_is = g.live_is ∙ ap (λ (q : List ℕ). q ++ live_numbers (table p) ys) f.live_is ∙ append_assoc live (live_numbers (table p) xs) (live_numbers (table p) ys) ∙ ap (λ (q : List ℕ). live ++ q) (sym lives);
+      nodes_are = g.nodes_are ∙ ap (λ (q : List ℕ). q ++ open_numbers ys) f.nodes_are ∙ append_assoc nodes (open_numbers xs) (open_numbers ys) ∙ ap (λ (q : List ℕ). nodes ++ q) (sym opens);
       dead_is = omega arith;
-    })
+    }
 
--- there are fewer tombstones than rows
-pub dead_few : (p : Parts) (t : IsTree p) (first end : Option ℕ) (s : IsStretch p first end) (at : Option ℕ) (w : Walked p s.inner s.back at) (live nodes : List ℕ) (dead : ℕ) → IsFound p (tokens_of p w.done) live nodes dead → dead < 2 ^ 31
-dead_few p t first end s at w live nodes dead f =
-    let all = ap (λ (items : List Item). length (row_numbers (tokens_of p items))) (s.is ∙ ap (λ (xs : List Item). s.front ++ (xs ++ s.back)) w.is) in
-    let one = ap (λ (ts : List Token). length (row_numbers ts)) (tokens-append p s.front ((w.done ++ w.rest) ++ s.back)) ∙ ap (λ (xs : List ℕ). length xs) (row_numbers-append (tokens_of p s.front) (tokens_of p ((w.done ++ w.rest) ++ s.back))) in
-    let two = ap (λ (ts : List Token). length (row_numbers ts)) (tokens-append p (w.done ++ w.rest) s.back) ∙ ap (λ (xs : List ℕ). length xs) (row_numbers-append (tokens_of p (w.done ++ w.rest)) (tokens_of p s.back)) in
-    let three = ap (λ (ts : List Token). length (row_numbers ts)) (tokens-append p w.done w.rest) ∙ ap (λ (xs : List ℕ). length xs) (row_numbers-append (tokens_of p w.done) (tokens_of p w.rest)) in
-    let four = length-append (row_numbers (tokens_of p s.front)) (row_numbers (tokens_of p ((w.done ++ w.rest) ++ s.back))) in
-    let five = length-append (row_numbers (tokens_of p (w.done ++ w.rest))) (row_numbers (tokens_of p s.back)) in
-    let six = length-append (row_numbers (tokens_of p w.done)) (row_numbers (tokens_of p w.rest)) in
-    let seven = rows_long (table p) [] (tokens p) in
-    let eight = t.all in
-    let nine = t.many in
-    let ten = t.most in
+one_found : (p : Parts) (t : Token) (live nodes : List ℕ) (dead : ℕ) (live' nodes' : List ℕ) (dead' : ℕ) → IsFoundAt p t live nodes dead live' nodes' dead' → IsFoundAmong p (t ∷ []) live nodes dead live' nodes' dead'
+one_found p t live nodes dead live' nodes' dead' f =
+    let one = length-append (live_number (table p) t) [] in
+    let two = length-append (row_numbers_at t) [] in
+    let three = f.dead_is in
+    record {
+      live_is = f.live_is ∙ ap (λ (q : List ℕ). live ++ q) (sym (append-nil (live_number (table p) t)));
+      nodes_are = f.nodes_are;
+      dead_is = omega arith;
+    }
+
+pub found_nothing : (p : Parts) (live nodes : List ℕ) (dead : ℕ) → IsFoundAmong p [] live nodes dead live nodes dead
+found_nothing p live nodes dead = record { live_is = sym (append-nil live); nodes_are = sym (append-nil nodes); dead_is = refl }
+
+-- one more item of those that are gone through
+pub found_next : (p : Parts) (items : List Item) (k : ℕ) → k < length items → (live nodes : List ℕ) (dead : ℕ) (live' nodes' : List ℕ) (dead' : ℕ) (live'' nodes'' : List ℕ) (dead'' : ℕ)
+    → IsFoundAmong p (tokens_of p (take k items)) live nodes dead live' nodes' dead' → IsFoundAt p (token_of p (get_or items k nothing)) live' nodes' dead' live'' nodes'' dead''
+    → IsFoundAmong p (tokens_of p (take (k + 1) items)) live nodes dead live'' nodes'' dead''
+found_next p items k b live nodes dead live' nodes' dead' live'' nodes'' dead'' f g =
+    subst (λ (ts : List Token). IsFoundAmong p ts live nodes dead live'' nodes'' dead'') (sym (map_more (token_of p) items k nothing b))
+    (both_found p (tokens_of p (take k items)) (token_of p (get_or items k nothing) ∷ []) live nodes dead live' nodes' dead' live'' nodes'' dead'' f
+    (one_found p (token_of p (get_or items k nothing)) live' nodes' dead' live'' nodes'' dead'' g))
+
+abbrev rows_in : Parts → List Item → ℕ
+rows_in p items = length (row_numbers (tokens_of p items))
+
+rows_in-append : (p : Parts) (xs ys : List Item) → rows_in p (xs ++ ys) ≡ rows_in p xs + rows_in p ys
+rows_in-append p xs ys =
+    ap (λ (ts : List Token). length (row_numbers ts)) (tokens-append p xs ys) ∙ ap (λ (rs : List ℕ). length rs) (row_numbers-append (tokens_of p xs) (tokens_of p ys))
+    ∙ length-append (row_numbers (tokens_of p xs)) (row_numbers (tokens_of p ys))
+
+-- some of them have no more rows than all
+pub dead_below : (p : Parts) (items : List Item) (k : ℕ) (live nodes : List ℕ) (dead : ℕ) (live' nodes' : List ℕ) (dead' : ℕ) → dead + length (row_numbers (tokens_of p items)) ≤ 2 ^ 30
+    → IsFoundAmong p (tokens_of p (take k items)) live nodes dead live' nodes' dead' → dead' < 2 ^ 31
+dead_below p items k live nodes dead live' nodes' dead' few f =
+    let one = ap (rows_in p) (take-append-drop k items) in
+    let two = rows_in-append p (take k items) (drop k items) in
+    let three = f.dead_is in
+    omega arith
+
+-- the items that follow
+pub found_more : (p : Parts) (done items : List Item) (live nodes : List ℕ) (dead : ℕ) (live' nodes' : List ℕ) (dead' : ℕ) → IsFound p (tokens_of p done) live nodes dead
+    → IsFoundAmong p (tokens_of p items) live nodes dead live' nodes' dead' → IsFound p (tokens_of p (done ++ items)) live' nodes' dead'
+found_more p done items live nodes dead live' nodes' dead' f g =
+    let was = ap (λ (xs : List ℕ). length xs) f.live_is in
+    let count = f.dead_is in
+    let old : IsFoundAmong p (tokens_of p done) [] [] 0 live nodes dead = record { live_is = f.live_is; nodes_are = f.nodes_are; dead_is = omega arith } in
+    let all = both_found p (tokens_of p done) (tokens_of p items) [] [] 0 live nodes dead live' nodes' dead' old g in
+    let now = ap (λ (xs : List ℕ). length xs) all.live_is in
+    let sum = all.dead_is in
+    subst (λ (ts : List Token). IsFound p ts live' nodes' dead') (sym (tokens-append p done items))
+    (record { live_is = all.live_is; nodes_are = all.nodes_are; dead_is = omega (arith, now, sum) })
+
+-- the tombstones that were found, and the rows of items that follow, are no more than there are rows
+pub rows_few : (p : Parts) (t : IsTree p) (first end : Option ℕ) (s : IsStretch p first end) (at : Option ℕ) (w : Walked p s.inner s.back at) (items more : List Item) → w.rest ≡ items ++ more
+    → (live nodes : List ℕ) (dead : ℕ) → IsFound p (tokens_of p w.done) live nodes dead → dead + length (row_numbers (tokens_of p items)) ≤ 2 ^ 30
+rows_few p t first end s at w items more e live nodes dead f =
+    let all = ap (rows_in p) (s.is ∙ ap (λ (xs : List Item). s.front ++ (xs ++ s.back)) (w.is ∙ ap (λ (xs : List Item). w.done ++ xs) e)) in
+    let one = rows_in-append p s.front ((w.done ++ (items ++ more)) ++ s.back) in
+    let two = rows_in-append p (w.done ++ (items ++ more)) s.back in
+    let three = rows_in-append p w.done (items ++ more) in
+    let four = rows_in-append p items more in
+    let five = rows_long (table p) [] (tokens p) in
+    let six = t.all in
+    let seven = t.many in
+    let eight = t.most in
     let found = f.dead_is in
     omega arith
 

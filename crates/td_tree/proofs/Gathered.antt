@@ -50,10 +50,10 @@ place_in (y ∷ xs) x i =
     more : (j n : ℕ) → j < n → suc j < suc n
     more j n h = omega arith
 
-pub in_place : (xs : List ℕ) (j : ℕ) → j < length xs → In (get_or xs j 0) xs
-in_place [] j h = absurd (omega arith)
-in_place (x ∷ xs) zero h = inl refl
-in_place (x ∷ xs) (suc j) h = inr (in_place xs j (omega arith))
+pub in_place : {X : Type 0} (xs : List X) (d : X) (j : ℕ) → j < length xs → In (get_or xs j d) xs
+in_place [] d j h = absurd (omega arith)
+in_place (x ∷ xs) d zero h = inl refl
+in_place (x ∷ xs) d (suc j) h = inr (in_place xs d j (omega arith))
 
 -- the rows of leaves are live
 pub leaf_live_in : (table : ℕ → Entry) (ts : List Token) (rs : List ℕ) (s : ℕ) → In (Leaf rs) ts → In s rs → In s (live_numbers table ts)
@@ -256,7 +256,7 @@ module _ (p : Parts) (t : IsTree p) (front mid back : List Item) (is : p.items �
         }
 
     live_known : (j : ℕ) → j < n → get_or L j 0 < length p.rows
-    live_known j m = number_known p t mid in_mid (get_or L j 0) (live_number_in (get_or L j 0) (in_place L j m))
+    live_known j m = number_known p t mid in_mid (get_or L j 0) (live_number_in (get_or L j 0) (in_place L 0 j m))
 
     top_known : 0 < n → row_of_array q a (0 + n / 2) < length q.rows
     top_known s =
@@ -295,7 +295,7 @@ module _ (p : Parts) (t : IsTree p) (front mid back : List Item) (is : p.items �
     beside_apart = apart-ends front mid back (subst AreApart is t.apart)
 
     top_in : 0 < n → In (row_of_array q a (0 + n / 2)) (numbers_of W)
-    top_in s = subst (λ (xs : List ℕ). In (get_or xs (0 + n / 2) 0) (numbers_of W)) (sym new_array) (live_number_in (get_or L (0 + n / 2) 0) (in_place L (0 + n / 2) (omega arith)))
+    top_in s = subst (λ (xs : List ℕ). In (get_or xs (0 + n / 2) 0) (numbers_of W)) (sym new_array) (live_number_in (get_or L (0 + n / 2) 0) (in_place L 0 (0 + n / 2) (omega arith)))
 
     pub piece_new : AreNew piece (front ++ back)
     piece_new x i j =

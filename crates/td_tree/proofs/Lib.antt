@@ -35,6 +35,7 @@ pub mod DeletedTree
 pub mod Gathered
 pub mod SetStates
 pub mod FoundRows
+pub mod Lent
 pub mod SlotStretches
 pub mod GivenBack
 pub mod Wholes

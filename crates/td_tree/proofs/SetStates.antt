@@ -44,4 +44,4 @@ own_state states now numbers k s m l is apart h j b =
     earlier j k b n = ⊎_elim (λ (e : j ≡ k). absurd (n e)) (λ (e : j ≢ k). omega arith) (cases_eq j k)
 
 pub away : (numbers : List ℕ) (k r : ℕ) → k < length numbers → (In r numbers → ⊥) → r ≢ get_or numbers k 0
-away numbers k r l n e = n (subst (λ (y : ℕ). In y numbers) (sym e) (in_place numbers k l))
+away numbers k r l n e = n (subst (λ (y : ℕ). In y numbers) (sym e) (in_place numbers 0 k l))

@@ -52,8 +52,8 @@ open_or_live table (Leaf rs ∷ ts) r i =
 pub apart_places : (table : ℕ → Entry) (xs : List ℕ) → Successive (λ (r s : ℕ). (table r).id ≢ (table s).id) xs → (i j : ℕ) → i < length xs → j < length xs → get_or xs i 0 ≡ get_or xs j 0 → i ≡ j
 apart_places table [] a i j l m e = absurd (omega arith)
 apart_places table (x ∷ xs) a zero zero l m e = refl
-apart_places table (x ∷ xs) a zero (suc j) l m e = absurd (all_in (λ (y : ℕ). (table x).id ≢ (table y).id) xs a.0 (get_or xs j 0) (in_place xs j (omega arith)) (ap (λ (y : ℕ). (table y).id) e))
-apart_places table (x ∷ xs) a (suc i) zero l m e = absurd (all_in (λ (y : ℕ). (table x).id ≢ (table y).id) xs a.0 (get_or xs i 0) (in_place xs i (omega arith)) (ap (λ (y : ℕ). (table y).id) (sym e)))
+apart_places table (x ∷ xs) a zero (suc j) l m e = absurd (all_in (λ (y : ℕ). (table x).id ≢ (table y).id) xs a.0 (get_or xs j 0) (in_place xs 0 j (omega arith)) (ap (λ (y : ℕ). (table y).id) e))
+apart_places table (x ∷ xs) a (suc i) zero l m e = absurd (all_in (λ (y : ℕ). (table x).id ≢ (table y).id) xs a.0 (get_or xs i 0) (in_place xs 0 i (omega arith)) (ap (λ (y : ℕ). (table y).id) (sym e)))
 apart_places table (x ∷ xs) a (suc i) (suc j) l m e = ap suc (apart_places table xs a.1 i j (omega arith) (omega arith) e)
 
 -- the leaf as that of the array
@@ -136,7 +136,7 @@ module _ (p : Parts) (t : IsTree p) (slot : Slot) (first : ℕ) (end : Option �
   in_inner i m = subst (In i) (sym st.is) (In-back i st.front (st.inner ++ st.back) (In-front i st.inner st.back m))
 
   pub live_below : (k : ℕ) → k < length L → get_or L k 0 < length p.rows
-  live_below k m = number_known p t st.inner in_inner (get_or L k 0) (live_number_in p t st.front st.inner st.back st.is s.word slot s.flat (get_or L k 0) (in_place L k m))
+  live_below k m = number_known p t st.inner in_inner (get_or L k 0) (live_number_in p t st.front st.inner st.back st.is s.word slot s.flat (get_or L k 0) (in_place L 0 k m))
 
   pub live_few : length L ≤ 2 ^ 30
   live_few =
@@ -167,7 +167,7 @@ module _ (p : Parts) (t : IsTree p) (slot : Slot) (first : ℕ) (end : Option �
           let k = map_In (λ (y : Item). y.name) x (st.front ++ st.back) j in
           let top : ℕ = get_or L (length L / 2) 0 in
           alone p t st.front st.inner st.back st.is s.word slot s.flat k.0 (In-append k.0 st.front st.back k.1) top
-          (live_number_in p t st.front st.inner st.back st.is s.word slot s.flat top (in_place L (length L / 2) (half (length L) n.0))) (inl (third top k.0.name x n.1 k.2))
+          (live_number_in p t st.front st.inner st.back st.is s.word slot s.flat top (in_place L 0 (length L / 2) (half (length L) n.0))) (inl (third top k.0.name x n.1 k.2))
         where
           half : (n : ℕ) → 0 < n → n / 2 < n
           half n h = omega arith

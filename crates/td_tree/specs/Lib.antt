@@ -6,4 +6,5 @@ pub mod Walks
 pub mod Stretches
 pub mod Nodes
 pub mod KeptAtom
+pub mod KeptState
 pub mod Deletes

@@ -1,8 +1,9 @@
 -- A stretch of the tokens of a tree, gathered in one leaf.
-use Rattle.std.specs.Prelude.{◌≡◌, ◌+◌, ◌/◌, ◌<◌, ◌++◌, ℕ, List, [], ◌∷◌, length, get_or, Option, Some}
+use Rattle.std.specs.Prelude.{◌≡◌, ◌+◌, ◌/◌, ◌<◌, ◌++◌, ℕ, List, [], ◌∷◌, length, get_or, Option, Some, None}
 use Rattle.td_path.specs.declared.slot.Slot.{Slot}
 use Rattle.td_doc.specs.Flatten.{flatten}
 use Rattle.td_list.specs.declared.item.Item.{Item}
+use Rattle.td_list.specs.Items.{items_before}
 use Rattle.td_brackets.specs.Brackets.{Token, Open, Atom, Close, Leaf, rows_of, IsWord}
 use Rattle.td_brackets.specs.Laws.{live_number, live_numbers, leaf_word}
 use Rattle.td_brackets.specs.RowNumbers.{row_numbers_at, row_numbers}
@@ -29,6 +30,18 @@ pub record IsFoundAt (p : Parts) (t : Token) (live nodes : List ℕ) (dead : ℕ
   pub live_is : live' ≡ live ++ live_number (table p) t
   pub nodes_are : nodes' ≡ nodes ++ open_numbers (t ∷ [])
   pub dead_is : dead' + length (live_number (table p) t) ≡ dead + length (row_numbers_at t)
+
+-- all that some tokens add
+pub record IsFoundAmong (p : Parts) (ts : List Token) (live nodes : List ℕ) (dead : ℕ) (live' nodes' : List ℕ)
+    (dead' : ℕ) : Type 0 where
+  pub live_is : live' ≡ live ++ live_numbers (table p) ts
+  pub nodes_are : nodes' ≡ nodes ++ open_numbers ts
+  pub dead_is : dead' + length (live_numbers (table p) ts) ≡ dead + length (row_numbers ts)
+
+-- the items before an end: all, where it is none of them
+abbrev pub items_up_to : Option ℕ → List Item → List Item
+items_up_to None items = items
+items_up_to (Some x) items = items_before x items
 
 -- the leaf of some rows; none where there are none
 abbrev pub leaf_of : List ℕ → List Item

@@ -1,15 +1,15 @@
 // The dots of the deletes that named a row, in little room.
-ghost use Rattle.std.specs.Prelude.{◌≡◌, ◌<◌, ◌^◌, [], length, IfOk, OnOk, OnErr};
+ghost use Rattle.std.specs.Prelude.{◌≡◌, ◌<◌, ◌^◌, ◌∷◌, [], length, IfOk, OnOk, OnErr};
 ghost use Rattle.td_doc.specs.Deletion.{add_dot};
 ghost use Rattle.td_tree.specs.Deletes.{dots_of, IsShort};
 
 use std::alloc::Global;
 use std::marker::Model;
-use std::mem;
+use std::{mem, slice};
 use td_base::{Dot, Memory};
 use td_doc::add_dot;
 
-/// Dots in their order, in 16 bytes where there are none, as for most rows. Contracts see the list of them.
+/// Dots in their order, in 16 bytes where there are none or one, as for most rows. Contracts see the list of them.
 #[derive(Debug, Drop)]
 pub struct Deletes {
     named: Named,
@@ -18,6 +18,7 @@ pub struct Deletes {
 #[derive(Debug, Drop)]
 enum Named {
     Never,
+    Once(Dot),
     By(Box<Vec<Dot>>),
 }
 
@@ -50,11 +51,12 @@ impl Deletes {
     {
         match &self.named {
             Named::Never => &[],
+            Named::Once(dot) => slice::from_ref(dot),
             Named::By(dots) => dots.as_slice(),
         }
     }
 
-    /// Adds a dot, unless it is there.
+    /// Adds a dot, unless it is there. The first takes no memory.
     pub fn add(&mut self, alloc: Global, by: Dot) -> Result<(), Memory>
         ensures ok { OnOk result (self.new ≡ add_dot by self.old) }
         ensures err { OnErr result (self.new ≡ self.old) }
@@ -74,10 +76,8 @@ fn with_dot(alloc: Global, named: Named, by: Dot) -> (Named, Result<(), Memory>)
     ensures err { OnErr result.1 (dots_of result.0 ≡ dots_of named) }
 {
     match named {
-        Named::Never => match only_dot(alloc, by) {
-            Ok(dots) => (Named::By(dots), Ok(())),
-            Err(error) => (Named::Never, Err(error)),
-        },
+        Named::Never => (Named::Once(by), Ok(())),
+        Named::Once(dot) => with_second(alloc, dot, by),
         Named::By(mut dots) => {
             let added = add_dot(&mut dots, by);
             (Named::By(dots), added)
@@ -85,11 +85,28 @@ fn with_dot(alloc: Global, named: Named, by: Dot) -> (Named, Result<(), Memory>)
     }
 }
 
-fn only_dot(alloc: Global, by: Dot) -> Result<Box<Vec<Dot>>, Memory>
+// A dot with another, or as it is where that is the same or memory runs out.
+fn with_second(alloc: Global, dot: Dot, by: Dot) -> (Named, Result<(), Memory>)
+    ensures short { IsShort result.0 }
+    ensures ok { OnOk result.1 (dots_of result.0 ≡ add_dot by (dot ∷ [])) }
+    ensures err { OnErr result.1 (dots_of result.0 ≡ dot ∷ []) }
+{
+    if dot == by {
+        return (Named::Once(dot), Ok(()));
+    }
+    match two_dots(alloc, dot, by) {
+        Ok(dots) => (Named::By(dots), Ok(())),
+        Err(error) => (Named::Once(dot), Err(error)),
+    }
+}
+
+// A dot, and another in its place beside it.
+fn two_dots(alloc: Global, dot: Dot, by: Dot) -> Result<Box<Vec<Dot>>, Memory>
     ensures few { IfOk result (λ dots. length dots.value.items < 2 ^ 32) }
-    ensures dot { IfOk result (λ dots. dots.value.items ≡ add_dot by []) }
+    ensures dots { IfOk result (λ dots. dots.value.items ≡ add_dot by (dot ∷ [])) }
 {
     let mut dots = Vec::new(alloc);
+    dots.push(dot)?;
     add_dot(&mut dots, by)?;
     Ok(Box::new(alloc, dots)?)
 }

@@ -10,6 +10,7 @@ ghost use Rattle.td_tree.specs.Stretches.{leaf_of, IsSlotItems, IsSlotStretch};
 ghost use Rattle.td_tree.specs.Walks.{IsStretch};
 
 use crate::item_of::atom_item;
+use crate::kept_state::MOST_ARRAYS;
 use crate::side::{side_end, side_start};
 use crate::states::{bury, gather};
 use crate::tokens::Tokens;
@@ -91,7 +92,7 @@ impl Tokens {
         ensures err { OnErr result (self.new ≡ self.old) }
     {
         let found = self.found_in(Some(first), end)?;
-        if self.arrays.len() >= u32::MAX as usize {
+        if self.arrays.len() >= MOST_ARRAYS as usize {
             return Err(Memory);
         }
         self.arrays.reserve(1)?;

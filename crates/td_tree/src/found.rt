@@ -1,18 +1,17 @@
 // What stands in a stretch of tokens.
-ghost use Rattle.std.specs.Prelude.{◌≡◌, ◌<◌, ◌≤◌, ◌+◌, ◌/◌, ◌%◌, ◌^◌, ◌*◌, ◌≢◌, ◌∷◌, ℕ, length, false, Some, IsTrue, IfOk, OnOk};
+ghost use Rattle.std.specs.Prelude.{◌≡◌, ◌<◌, ◌≤◌, ◌+◌, ◌%◌, ◌^◌, length, IfOk, OnOk};
 ghost use Rattle.td_base.specs.Lists.{In};
+ghost use Rattle.td_brackets.specs.RowNumbers.{row_numbers};
 ghost use Rattle.td_list.specs.declared.item.Item.{Item};
-ghost use Rattle.td_list.specs.Items.{IsItem};
-ghost use Rattle.td_doc.specs.Document.{is_empty_list};
-ghost use Rattle.td_tree.specs.Parts.{table, array_at, part, token_of, tokens_of, IsTree};
-ghost use Rattle.td_tree.specs.Stretches.{IsFound, IsFoundAt};
+ghost use Rattle.td_tree.specs.Parts.{array_at, part, token_of, tokens_of, IsTree};
+ghost use Rattle.td_tree.specs.Stretches.{IsFound, IsFoundAt, IsFoundAmong, items_up_to};
 ghost use Rattle.td_tree.specs.Walks.{IsStretch};
 
 use crate::stretch::Stretch;
 use crate::tokens::Tokens;
 use crate::tree_row::RowState;
 use td_base::Memory;
-use td_list::Sequence;
+use td_list::Item;
 
 /// The rows of a stretch: the live ones in their order, those with brackets, and how many tombstones.
 #[derive(Debug, Drop)]
@@ -36,50 +35,70 @@ impl Tokens {
             dead: 0,
         };
         let mut at = first;
-        let mut near = 0;
         'walk: while at != end {
             let Some(name) = at else {
                 return Ok(found);
             };
-            self.find_at(&mut found, name, near)?;
-            at = self.next_near(name, &mut near);
+            let (lent, behind) = self.list.lend_from(name);
+            let items = items_up_to(lent, end);
+            self.find_all(&mut found, items)?;
+            at = if items.len() < lent.len() {
+                end
+            } else {
+                behind
+            };
         }
         Ok(found)
     }
 
-    // Adds what a token is. It is looked for at a place of its chunk first.
-    fn find_at(&self, found: &mut Found, name: u32, near: usize) -> Result<(), Memory>
+    // Adds what some tokens are.
+    fn find_all(&self, found: &mut Found, items: &[Item]) -> Result<(), Memory>
         requires tree { IsTree self.now }
-        requires there { IsItem name self.now.items }
-        requires few { found.old.dead < 2 ^ 31 }
-        ensures { OnOk result ((i : Item) → In i self.now.items → i.name ≡ name
-            → IsFoundAt self.now (token_of self.now i) found.old.live.items found.old.nodes.items found.old.dead
+        requires there { (i : Item) → In i items.now → In i self.now.items }
+        requires few { found.old.dead + length (row_numbers (tokens_of self.now items.now)) ≤ 2 ^ 30 }
+        ensures { OnOk result (IsFoundAmong self.now (tokens_of self.now items.now)
+            found.old.live.items found.old.nodes.items found.old.dead
             found.new.live.items found.new.nodes.items found.new.dead) }
     {
-        match name % 3 {
+        for k in 0..items.len() {
+            self.find_item(found, items[k])?;
+        }
+        Ok(())
+    }
+
+    // Adds what a token is.
+    fn find_item(&self, found: &mut Found, item: Item) -> Result<(), Memory>
+        requires tree { IsTree self.now }
+        requires there { In item self.now.items }
+        requires few { found.old.dead < 2 ^ 31 }
+        ensures { OnOk result (IsFoundAt self.now (token_of self.now item)
+            found.old.live.items found.old.nodes.items found.old.dead
+            found.new.live.items found.new.nodes.items found.new.dead) }
+    {
+        match item.name % 3 {
             0 => {
-                found.nodes.push(name / 3)?;
+                found.nodes.push(item.name / 3)?;
                 Ok(())
             }
-            1 => self.find_row(found, name, near),
+            1 => self.find_row(found, item),
             _ => Ok(()),
         }
     }
 
-    // Adds a row, or the rows of the leaf of which it is the top.
-    fn find_row(&self, found: &mut Found, name: u32, near: usize) -> Result<(), Memory>
+    // Adds a row, or the rows of the leaf of which it is the top. A row in brackets weighs where no delete named it.
+    fn find_row(&self, found: &mut Found, item: Item) -> Result<(), Memory>
         requires tree { IsTree self.now }
-        requires there { IsItem name self.now.items }
-        requires kind { name % 3 ≡ 1 }
+        requires there { In item self.now.items }
+        requires kind { item.name % 3 ≡ 1 }
         requires few { found.old.dead < 2 ^ 31 }
-        ensures { OnOk result ((i : Item) → In i self.now.items → i.name ≡ name
-            → IsFoundAt self.now (token_of self.now i) found.old.live.items found.old.nodes.items found.old.dead
+        ensures { OnOk result (IsFoundAt self.now (token_of self.now item)
+            found.old.live.items found.old.nodes.items found.old.dead
             found.new.live.items found.new.nodes.items found.new.dead) }
     {
-        let row = name / 3;
+        let row = item.name / 3;
         match self.state(row) {
             RowState::InArray { array, index } => {
-                let len = self.list.get_near(name, near).weight;
+                let len = item.weight;
                 let from = index - len / 2;
                 found
                     .live
@@ -87,7 +106,7 @@ impl Tokens {
                 Ok(())
             }
             _ => {
-                if self.is_bare(row) {
+                if item.weight > 0 {
                     found.live.push(row)?;
                 } else {
                     found.dead += 1;
@@ -106,12 +125,19 @@ impl Tokens {
         let rows = &self.arrays[place.array as usize].rows;
         &rows[place.from as usize..place.from as usize + place.len as usize]
     }
+}
 
-    // Whether no delete named a row.
-    fn is_bare(&self, row: u32) -> bool
-        requires { row < length self.now.rows }
-        ensures { result ≡ is_empty_list (table self.now row).deletes }
-    {
-        self.row(row).deletes.as_slice().is_empty()
+// The items before an end; all where it is none of them.
+fn items_up_to(items: &[Item], end: Option<u32>) -> &[Item]
+    ensures { result.now ≡ items_up_to end items.now }
+{
+    let Some(name) = end else {
+        return items;
+    };
+    for place in 0..items.len() {
+        if items[place].name == name {
+            return &items[..place];
+        }
     }
+    items
 }

@@ -7,7 +7,9 @@ ghost use Rattle.td_path.specs.declared.slot.Slot.{Slot};
 ghost use Rattle.td_doc.specs.Document.{find_row};
 ghost use Rattle.td_doc.specs.Answers.{IsFresh};
 ghost use Rattle.td_list.specs.Items.{IsItem, AreApart, AreNew, weight_of};
+ghost use Rattle.td_tree.specs.declared.kept_state.TheConstants.{MOST_ARRAYS};
 ghost use Rattle.td_tree.specs.declared.tree_row.RowState.TheVariants.{InArray};
+ghost use Rattle.td_tree.specs.KeptState.{FitsKept};
 ghost use Rattle.td_tree.specs.Parts.{doc_rows, IsTree};
 ghost use Rattle.td_tree.specs.Places.{IsNewPlace, IsPut, IsRunPut, put_at, run_entries, top_id};
 
@@ -15,6 +17,7 @@ use crate::deletes::Deletes;
 use crate::flatten::push_array;
 use crate::item_of::{atom_item, close_item, open_item};
 use crate::kept_atom::KeptAtom;
+use crate::kept_state::{KeptState, MOST_ARRAYS};
 use crate::tokens::Tokens;
 use crate::tree_row::{Array, RowState, TreeRow};
 use std::alloc::Global;
@@ -71,7 +74,7 @@ impl Tokens {
 // Makes room for so many more rows.
 fn make_room(
     rows: &mut Vec<TreeRow>,
-    states: &mut Vec<RowState>,
+    states: &mut Vec<KeptState>,
     count: usize,
 ) -> Result<(), Memory>
     requires { count < 2 ^ 30 }
@@ -92,10 +95,10 @@ fn make_room(
 // Makes room for one more array.
 fn make_array_room(arrays: &mut Vec<Array>) -> Result<(), Memory>
     ensures arrays { arrays.new.items ≡ arrays.old.items }
-    ensures few { OnOk result (length arrays.old.items < 2 ^ 32) }
+    ensures few { OnOk result (length arrays.old.items < MOST_ARRAYS) }
     ensures room { OnOk result (vec_len arrays.new < vec_capacity arrays.new) }
 {
-    if arrays.len() > u32::MAX as usize {
+    if arrays.len() >= MOST_ARRAYS as usize {
         return Err(Memory);
     }
     arrays.reserve(1)?;
@@ -148,8 +151,9 @@ fn push_row(rows: &mut Vec<TreeRow>, id: AtomId, atom: KeptAtom)
 }
 
 // Adds the states of the rows of an array, in the room that there is.
-fn push_states(states: &mut Vec<RowState>, array: u32, count: u32)
-    requires { vec_len states.old + count ≤ vec_capacity states.old }
+fn push_states(states: &mut Vec<KeptState>, array: u32, count: u32)
+    requires array { array < MOST_ARRAYS }
+    requires room { vec_len states.old + count ≤ vec_capacity states.old }
     ensures { states.new.items ≡ states.old.items ++ map (InArray array) (range_with_len 0 count) }
 {
     for index in 0..count {
@@ -158,13 +162,14 @@ fn push_states(states: &mut Vec<RowState>, array: u32, count: u32)
 }
 
 // Adds where a row is, in the room that there is.
-fn push_state(states: &mut Vec<RowState>, state: RowState)
-    requires { vec_len states.old < vec_capacity states.old }
+fn push_state(states: &mut Vec<KeptState>, state: RowState)
+    requires fits { FitsKept state }
+    requires room { vec_len states.old < vec_capacity states.old }
     ensures state { states.new.items ≡ states.old.items ++ state ∷ [] }
     ensures room { vec_capacity states.old ≤ vec_capacity states.new }
     ensures long { vec_len states.new ≡ vec_len states.old + 1 }
 {
-    states.push(state).unwrap();
+    states.push(KeptState::of(state)).unwrap();
 }
 
 // Puts a piece before an item, or at the end.

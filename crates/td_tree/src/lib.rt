@@ -15,6 +15,7 @@ mod found;
 mod growth;
 mod item_of;
 mod kept_atom;
+mod kept_state;
 mod known;
 mod leaf;
 mod lookup;

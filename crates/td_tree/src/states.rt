@@ -1,12 +1,14 @@
 // Where many rows are from now on.
 ghost use Rattle.std.specs.Prelude.{◌≡◌, ◌≢◌, ◌<◌, ◌^◌, ℕ, length, get_or};
 ghost use Rattle.td_base.specs.Lists.{In};
+ghost use Rattle.td_tree.specs.declared.kept_state.TheConstants.{MOST_ARRAYS};
 ghost use Rattle.td_tree.specs.declared.tree_row.RowState.TheVariants.{InArray, Gone};
 
+use crate::kept_state::KeptState;
 use crate::tree_row::{RowState, set_state};
 
 /// These rows are gone.
-pub fn bury(states: &mut Vec<RowState>, numbers: &[u32])
+pub fn bury(states: &mut Vec<KeptState>, numbers: &[u32])
     requires { (r : ℕ) → In r numbers.now → r < length states.old.items }
     ensures long { length states.new.items ≡ length states.old.items }
     ensures gone { (r : ℕ) → In r numbers.now → get_or states.new.items r Gone ≡ Gone }
@@ -19,7 +21,8 @@ pub fn bury(states: &mut Vec<RowState>, numbers: &[u32])
 }
 
 /// These rows are an array.
-pub fn gather(states: &mut Vec<RowState>, array: u32, numbers: &[u32])
+pub fn gather(states: &mut Vec<KeptState>, array: u32, numbers: &[u32])
+    requires array { array < MOST_ARRAYS }
     requires known { (r : ℕ) → In r numbers.now → r < length states.old.items }
     requires apart { (i j : ℕ) → i < length numbers.now → j < length numbers.now
         → get_or numbers.now i 0 ≡ get_or numbers.now j 0 → i ≡ j }

@@ -3,6 +3,7 @@ ghost use Rattle.std.specs.Prelude.{◌≡◌, ◌<◌, ◌≤◌, ◌^◌, [], 
 ghost use Rattle.td_list.specs.Items.{IsItem, items_after, first_name};
 ghost use Rattle.td_tree.specs.Parts.{state_at, table, doc_rows, nodes_of, tokens, IsTree};
 
+use crate::kept_state::KeptState;
 use crate::tree_row::{Array, RowState, TreeRow};
 use std::alloc::Global;
 use std::marker::Model;
@@ -17,7 +18,7 @@ pub struct Tokens {
     // by number, in the order in which they came
     pub(crate) rows: Vec<TreeRow>,
     // where each of them is, by number too: a walk reads this of each row, and of most no more
-    pub(crate) states: Vec<RowState>,
+    pub(crate) states: Vec<KeptState>,
     pub(crate) arrays: Vec<Array>,
     // how many rows have brackets
     pub(crate) nodes: u32,
@@ -67,7 +68,7 @@ impl Tokens {
         requires { row < length self.now.rows }
         ensures { result ≡ state_at self.now row }
     {
-        self.states[row as usize]
+        self.states[row as usize].state()
     }
 
     /// A row.

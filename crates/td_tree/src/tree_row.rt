@@ -1,9 +1,11 @@
 // The rows of a tree by number, where they are, and the arrays of its leaves.
 ghost use Rattle.std.specs.Prelude.{◌≡◌, ◌<◌, ◌^◌, length, set, OnOk, OnErr};
 ghost use Rattle.td_doc.specs.Deletion.{add_dot};
+ghost use Rattle.td_tree.specs.KeptState.{FitsKept};
 
 use crate::deletes::Deletes;
 use crate::kept_atom::KeptAtom;
+use crate::kept_state::KeptState;
 use std::alloc::Global;
 use std::marker::Model;
 use td_base::{AtomId, Dot, Memory};
@@ -58,9 +60,10 @@ impl Model for Array {
 }
 
 /// Says where a row is from now on.
-pub fn set_state(states: &mut Vec<RowState>, row: u32, state: RowState)
-    requires { row < length states.old.items }
+pub fn set_state(states: &mut Vec<KeptState>, row: u32, state: RowState)
+    requires row { row < length states.old.items }
+    requires fits { FitsKept state }
     ensures { states.new.items ≡ set states.old.items row state }
 {
-    states[row as usize] = state;
+    states[row as usize] = KeptState::of(state);
 }

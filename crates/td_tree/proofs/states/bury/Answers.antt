@@ -5,9 +5,9 @@ use Rattle.td_tree.proofs.Gathered.{in_place, place_in}
 use Rattle.td_tree.proofs.SetStates.{step_long, step_other, same_state, away}
 use Rattle.td_tree.proofs.states.bury.Goals as goal
 
-pub set_state-requires : goal.set_state-requires
-set_state-requires c =
-    let known = c.requires (get_or c.args.numbers.now c.loop-k.k 0) (in_place c.args.numbers.now c.loop-k.k c.loop-k-test.true) in
+pub set_state-requires-clause-row : goal.set_state-requires-clause-row
+set_state-requires-clause-row c =
+    let known = c.requires (get_or c.args.numbers.now c.loop-k.k 0) (in_place c.args.numbers.now 0 c.loop-k.k c.loop-k-test.true) in
     let long = c.loop-k.invariant.long in
     omega arith
 
@@ -19,7 +19,7 @@ loop-k-preserved c =
     let k : ℕ = c.loop-k.k in
     let i = c.loop-k.invariant in
     let low : k < length numbers = c.loop-k-test.true in
-    let known = c.requires (get_or numbers k 0) (in_place numbers k low) in
+    let known = c.requires (get_or numbers k 0) (in_place numbers 0 k low) in
     let long = i.long in
     let l : get_or numbers k 0 < length states = omega arith in
     record {

@@ -1,10 +1,27 @@
-use Rattle.std.proofs.Common.{ℕ, List, [], refl, sym, subst}
+use Rattle.std.proofs.Common.{◌≡◌, ◌++◌, ℕ, List, [], refl, sym, subst}
 use Rattle.td_list.specs.declared.item.Item.{Item}
+use Rattle.td_list.specs.Items.{IsItem, items_from}
 use Rattle.td_tree.specs.Parts.{Parts, tokens_of}
 use Rattle.td_tree.specs.Stretches.{IsFound}
-use Rattle.td_tree.proofs.Walked.{step, goes_on, ended, shorter}
-use Rattle.td_tree.proofs.FoundRows.{found_none, found_more, dead_few, same_end, other_end, item_there, all_done}
+use Rattle.td_tree.specs.Walks.{IsStretch}
+use Rattle.td_tree.proofs.Walked.{ended}
+use Rattle.td_tree.proofs.Lent.{Lending, to_end, to_behind, next_ones, are_there, walked_on, fewer_left}
+use Rattle.td_tree.proofs.FoundRows.{found_none, found_more, rows_few, same_end, other_end, item_there, all_done}
 use Rattle.td_tree.proofs.tokens.Tokens.found_in.Goals as goal
+use Rattle.td_tree.proofs.tokens.Tokens.found_in.Goals.{After-items_up_to-items}
+
+abbrev lending : (c : After-items_up_to-items) (s : IsStretch c.args.self.now c.args.first c.args.end) → Lending c.args.self.now c.args.first c.args.end s c.walk.at (c.walk.invariant s).0
+lending c s = record {
+  tree = c.requires.tree;
+  name = c.in-Some.name;
+  is = c.in-Some.is;
+  other = other_end c.walk.at c.args.end (sym c.walk-test.ensures);
+  lent = c.lend_from-behind.result.0.now;
+  behind = c.lend_from-behind.ensures.parts.0;
+  from = subst (λ (q : Parts). items_from c.in-Some.name q.items ≡ c.lend_from-behind.result.0.now ++ c.lend_from-behind.ensures.parts.0) c.self.view_is c.lend_from-behind.ensures.parts.1;
+  items = c.items_up_to-items.result.now;
+  cut = c.items_up_to-items.ensures;
+}
 
 pub walk-init : goal.walk-init
 walk-init c = λ s. (
@@ -12,37 +29,48 @@ walk-init c = λ s. (
   subst (λ (x : List ℕ × List ℕ). IsFound c.args.self.now [] x.0 x.1 0) (λ i. (sym c.new.ensures.items i, sym c.new-2.ensures.items i)) (found_none c.args.self.now),
 )
 
-pub find_at-requires-clause-there : goal.find_at-requires-clause-there
-find_at-requires-clause-there c =
+pub lend_from-behind-requires : goal.lend_from-behind-requires
+lend_from-behind-requires c =
     let s = c.requires.stretch in
-    item_there c.args.self.now c.requires.tree c.args.first c.args.end s c.walk.at c.in-Some.name c.in-Some.is (other_end c.walk.at c.args.end (sym c.walk-test.ensures)) (c.walk.invariant s).0
+    subst (λ (q : Parts). IsItem c.in-Some.name q.items) (sym c.self.view_is)
+    (item_there c.args.self.now c.requires.tree c.args.first c.args.end s c.walk.at c.in-Some.name c.in-Some.is (other_end c.walk.at c.args.end (sym c.walk-test.ensures)) (c.walk.invariant s).0)
 
-pub find_at-requires-clause-few : goal.find_at-requires-clause-few
-find_at-requires-clause-few c =
+pub find_all-requires-clause-there : goal.find_all-requires-clause-there
+find_all-requires-clause-there c = are_there (lending (goal.at.find_all-requires-clause-there c).After-items_up_to-items c.requires.stretch)
+
+pub find_all-requires-clause-few : goal.find_all-requires-clause-few
+find_all-requires-clause-few c =
     let s = c.requires.stretch in
     let w = c.walk.invariant s in
-    dead_few c.args.self.now c.requires.tree c.args.first c.args.end s c.walk.at w.0 c.walk.found.live.items c.walk.found.nodes.items c.walk.found.dead w.1
+    let ones = next_ones (lending (goal.at.find_all-requires-clause-few c).After-items_up_to-items s) in
+    rows_few c.args.self.now c.requires.tree c.args.first c.args.end s c.walk.at w.0 c.items_up_to-items.result.now ones.0 ones.1 c.walk.found.live.items c.walk.found.nodes.items c.walk.found.dead w.1
 
-pub next_near-at-requires : goal.next_near-at-requires
-next_near-at-requires c =
-    let s = c.requires.stretch in
-    item_there c.args.self.now c.requires.tree c.args.first c.args.end s c.walk.at c.in-Some.name c.in-Some.is (other_end c.walk.at c.args.end (sym c.walk-test.ensures)) (c.walk.invariant s).0
+pub walk-smaller-then-items-lent : goal.walk-smaller-then-items-lent
+walk-smaller-then-items-lent c =
+    let l = lending (goal.at.walk-smaller-then-items-lent c).After-items_up_to-items c.requires.stretch in
+    fewer_left l c.args.end (to_end l c.if-items-lent.true) c.lend_from-behind.ensures.some
+
+pub walk-preserved-then-items-lent : goal.walk-preserved-then-items-lent
+walk-preserved-then-items-lent c = λ s.
+    let w = c.walk.invariant s in
+    let l = lending (goal.at.walk-preserved-then-items-lent c).After-items_up_to-items s in (
+      walked_on l c.args.end (to_end l c.if-items-lent.true),
+      found_more c.args.self.now w.0.done c.items_up_to-items.result.now c.walk.found.live.items c.walk.found.nodes.items c.walk.found.dead c.find_all.new.found.live.items c.find_all.new.found.nodes.items c.find_all.new.found.dead w.1 c.in_ok-find_all.ensures,
+    )
 
 pub walk-smaller : goal.walk-smaller
 walk-smaller c =
-    let s = c.requires.stretch in
-    let w = (c.walk.invariant s).0 in
-    let k = step c.args.self.now c.requires.tree c.args.first c.args.end s c.walk.at c.in-Some.name c.in-Some.is (other_end c.walk.at c.args.end (sym c.walk-test.ensures)) w in
-    shorter c.args.self.now c.requires.tree c.args.first c.args.end s c.walk.at c.in-Some.name c.in-Some.is w k c.next_near-at.result c.next_near-at.ensures
+    let l = lending (goal.at.walk-smaller c).After-items_up_to-items c.requires.stretch in
+    let next = c.lend_from-behind.result.1 in
+    fewer_left l next (to_behind l next c.lend_from-behind.ensures.parts.2 c.if-items-lent.false) c.lend_from-behind.ensures.some
 
 pub walk-preserved : goal.walk-preserved
 walk-preserved c = λ s.
-    let p : Parts = c.args.self.now in
     let w = c.walk.invariant s in
-    let k = step p c.requires.tree c.args.first c.args.end s c.walk.at c.in-Some.name c.in-Some.is (other_end c.walk.at c.args.end (sym c.walk-test.ensures)) w.0 in (
-      goes_on p c.requires.tree c.args.first c.args.end s c.walk.at c.in-Some.name w.0 k c.next_near-at.result c.next_near-at.ensures,
-      found_more p w.0.done k.item c.walk.found.live.items c.walk.found.nodes.items c.walk.found.dead c.find_at.new.found.live.items c.find_at.new.found.nodes.items c.find_at.new.found.dead w.1
-          (c.in_ok-find_at.ensures k.item k.there k.named),
+    let l = lending (goal.at.walk-preserved c).After-items_up_to-items s in
+    let next = c.lend_from-behind.result.1 in (
+      walked_on l next (to_behind l next c.lend_from-behind.ensures.parts.2 c.if-items-lent.false),
+      found_more c.args.self.now w.0.done c.items_up_to-items.result.now c.walk.found.live.items c.walk.found.nodes.items c.walk.found.dead c.find_all.new.found.live.items c.find_all.new.found.nodes.items c.find_all.new.found.dead w.1 c.in_ok-find_all.ensures,
     )
 
 pub returns : goal.returns

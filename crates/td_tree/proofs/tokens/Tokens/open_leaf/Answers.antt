@@ -49,9 +49,9 @@ put_node-requires-clause-light c =
     subst (λ (x : ℕ). x < 2 ^ 32) (λ i. weight_of (k.items i) + weight_of (node_items (k.top i) (k.before i) (k.after i)))
     (ready_light c.args.self.now c.requires.tree c.args.leaf.array c.args.leaf.from c.args.leaf.len c.requires.part c.requires.there)
 
-pub set_state-requires : goal.set_state-requires
-set_state-requires c =
-    let k = put (goal.at.set_state-requires c).After-leaf_item-after in
+pub set_state-requires-clause-row : goal.set_state-requires-clause-row
+set_state-requires-clause-row c =
+    let k = put (goal.at.set_state-requires-clause-row c).After-leaf_item-after in
     let p : Parts = c.args.self.now in
     let top : row_of_array p c.args.leaf.array (c.args.leaf.from + c.args.leaf.len / 2) < length p.rows =
     few_top p c.requires.tree c.args.leaf.array c.args.leaf.from c.args.leaf.len c.requires.part c.requires.there in
