@@ -53,9 +53,18 @@ impl<D: Doc> Replica<D> {
         ensures ok { OnOk result (self.new ≡ after_step input self.old) }
         ensures err { OnErr result (self.new ≡ self.old) }
     {
+        self.step_on(&input)
+    }
+
+    /// The same, of an input that is lent: one has some hundreds of bytes.
+    pub fn step_on(&mut self, input: &Input) -> Result<Reply, Memory>
+        ensures reply { IfOk result (λ reply. reply ≡ (step self.old.machine input.now).reply) }
+        ensures ok { OnOk result (self.new ≡ after_step input.now self.old) }
+        ensures err { OnErr result (self.new ≡ self.old) }
+    {
         input.is_in_range();
-        let done = self.state.answer_input(&input)?;
-        self.state.enter(&input, &done.reply, done.number);
+        let done = self.state.answer_input(input)?;
+        self.state.enter(input, &done.reply, done.number);
         self.change = done.change;
         Ok(done.reply)
     }

@@ -52,8 +52,8 @@ impl<D: Doc> World<D> {
         Ok(given)
     }
 
-    /// Gives a site the message with the number, where there is one, it is for the site, and is not known there; and then
-    /// takes what waits there and is ready. None where it is not given.
+    /// Gives a site the message with the number, where there is one, it is for the site, and is not known there; and
+    /// then takes what waits there and is ready. None where it is not given.
     pub fn offer(&mut self, to: Site, number: u64) -> Result<Option<Given>, Memory>
         requires { to ≤ size self.old }
         ensures given { IfOk result (λ given. given ≡ offered to number self.old) }
@@ -122,7 +122,7 @@ impl<D: Doc> World<D> {
         ensures world { IsWorld self.new }
         ensures some { 1 ≤ to }
     {
-        let reply = self.step(to, Input::Take(*message))?;
+        let reply = self.step(to, &Input::Take(*message))?;
         let next = self.go_on(to)?;
         Ok(Given::Took { reply, next })
     }
@@ -140,7 +140,7 @@ impl<D: Doc> World<D> {
             if !self.replica(site).ready() {
                 return Ok(k);
             }
-            self.step(site, Input::Next)?;
+            self.step(site, &Input::Next)?;
         }
         Ok(waiting)
     }
@@ -174,8 +174,8 @@ impl<D: Doc> World<D> {
         Ok(())
     }
 
-    // Gives the message at the place, where it is wanted. Where all before it need not be looked at again, and it neither,
-    // that is noted.
+    // Gives the message at the place, where it is wanted. Where all before it need not be looked at again, and it
+    // neither, that is noted.
     fn offer_at(&mut self, to: Site, k: usize, message: &Message) -> Result<Option<Given>, Memory>
         requires within { to ≤ size self.old }
         requires sent { slice_get self.old.sent k ≡ Some message.now }

@@ -31,24 +31,24 @@ pub fn replica_of<D: Doc>(replicas: &[Replica<D>], site: Site) -> &Replica<D>
 pub fn step_of<D: Doc>(
     replicas: &mut Vec<Replica<D>>,
     site: Site,
-    input: Input,
+    input: &Input,
 ) -> Result<Done, Memory>
     requires { site ≤ length replicas.old.items }
-    ensures done { IfOk result (λ done. IsDone (replica_from replicas.old.items (site - 1)) input done) }
+    ensures done { IfOk result (λ done. IsDone (replica_from replicas.old.items (site - 1)) input.now done) }
     ensures ok { OnOk result (replicas.new.items
-        ≡ set replicas.old.items (site - 1) (after_step input (replica_from replicas.old.items (site - 1)))) }
+        ≡ set replicas.old.items (site - 1) (after_step input.now (replica_from replicas.old.items (site - 1)))) }
     ensures err { OnErr result (replicas.new.items ≡ replicas.old.items) }
 {
     step_one(&mut replicas[place_of(site)], input)
 }
 
-fn step_one<D: Doc>(replica: &mut Replica<D>, input: Input) -> Result<Done, Memory>
-    ensures done { IfOk result (λ done. IsDone replica.old input done) }
-    ensures ok { OnOk result (replica.new ≡ after_step input replica.old) }
+fn step_one<D: Doc>(replica: &mut Replica<D>, input: &Input) -> Result<Done, Memory>
+    ensures done { IfOk result (λ done. IsDone replica.old input.now done) }
+    ensures ok { OnOk result (replica.new ≡ after_step input.now replica.old) }
     ensures err { OnErr result (replica.new ≡ replica.old) }
 {
     let before = replica.sent();
-    let reply = replica.step(input)?;
+    let reply = replica.step_on(input)?;
     Ok(Done {
         reply,
         before,

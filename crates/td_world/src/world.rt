@@ -109,15 +109,15 @@ impl<D: Doc> World<D> {
         ensures promises { IsPromised self.new }
         ensures nobody { OnOk result (NobodyReady self.old → NobodyReady self.new) }
     {
-        self.step(site, Input::Local(request))
+        self.step(site, &Input::Local(request))
     }
 
     // One step of a site. What it sends comes after all that was sent before.
-    pub(crate) fn step(&mut self, site: Site, input: Input) -> Result<Reply, Memory>
+    pub(crate) fn step(&mut self, site: Site, input: &Input) -> Result<Reply, Memory>
         requires within { site ≤ size self.old }
-        requires came { MayTake site input self.old }
-        ensures reply { IfOk result (λ reply. reply ≡ reply_to (record { site = site; input = input }) self.old) }
-        ensures ok { OnOk result (self.new ≡ moved (record { site = site; input = input }) self.old) }
+        requires came { MayTake site input.now self.old }
+        ensures reply { IfOk result (λ reply. reply ≡ reply_to (record { site = site; input = input.now }) self.old) }
+        ensures ok { OnOk result (self.new ≡ moved (record { site = site; input = input.now }) self.old) }
         ensures err { OnErr result (self.new ≡ self.old) }
         ensures was { IsWorld self.old }
         ensures some { 1 ≤ site }

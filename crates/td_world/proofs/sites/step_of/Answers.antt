@@ -9,7 +9,7 @@ use Rattle.td_world.proofs.sites.step_of.Goals as goal
 
 pub returns-clause-done : goal.returns-clause-done
 returns-clause-done g c =
-    subst (λ (r : ReplicaValue). IfOk c.step_one.result (λ done. IsDone r c.args.input done))
+    subst (λ (r : ReplicaValue). IfOk c.step_one.result (λ done. IsDone r c.args.input.now done))
     (at_site c.args.replicas.now.items c.args.site c.place_of.result c.index_mut.result.now c.place_of.ensures.place
     c.place_of.ensures.least c.requires c.index_mut.ensures.value) c.step_one.ensures.done
 
@@ -19,9 +19,9 @@ returns-clause-ok g c =
     at_site c.args.replicas.now.items c.args.site c.place_of.result c.index_mut.result.now c.place_of.ensures.place
     c.place_of.ensures.least c.requires c.index_mut.ensures.value in
     on_ok_weaker c.step_one.result
-    (λ (e : c.step_one.new.replica ≡ after_step c.args.input c.index_mut.result.now) i.
+    (λ (e : c.step_one.new.replica ≡ after_step c.args.input.now c.index_mut.result.now) i.
     set c.args.replicas.now.items (c.place_of.ensures.place i)
-    ((e ∙ ap (λ (r : ReplicaValue). after_step c.args.input r) same) i)) c.step_one.ensures.ok
+    ((e ∙ ap (λ (r : ReplicaValue). after_step c.args.input.now r) same) i)) c.step_one.ensures.ok
 
 pub returns-clause-err : goal.returns-clause-err
 returns-clause-err g c =

@@ -8,7 +8,7 @@ use Rattle.td_machine.specs.Step.{step}
 use Rattle.td_replica.specs.Parts.{StateValue}
 use Rattle.td_replica.specs.Replica.{ReplicaValue, IsReplica, after_step}
 use Rattle.td_replica.proofs.Legal.{built, goes_on}
-use Rattle.td_replica.proofs.replica.Replica.step.Goals as goal
+use Rattle.td_replica.proofs.replica.Replica.step_on.Goals as goal
 
 pub answer_input-requires-clause-built : goal.answer_input-requires-clause-built
 answer_input-requires-clause-built g c =
@@ -27,13 +27,13 @@ invariant_of-self-2 g c =
       entries = c.self.inside.state.entries;
       change = c.self.inside.change;
     } in
-    let m : c.enter.new.self.machine ≡ (step r.machine c.args.input).machine =
+    let m : c.enter.new.self.machine ≡ (step r.machine c.args.input.now).machine =
     ap (λ (s : StateValue). s.machine) c.enter.ensures ∙ c.in_ok-done.ensures.ok.machine in
-    let entry : ◌≡◌ {A = Entry} (record { input = c.args.input; reply = c.in_ok-done.done.reply })
-    (record { input = c.args.input; reply = (step r.machine c.args.input).reply }) =
-    λ i. record { input = c.args.input; reply = c.in_ok-done.ensures.ok.reply i } in
+    let entry : ◌≡◌ {A = Entry} (record { input = c.args.input.now; reply = c.in_ok-done.done.reply })
+    (record { input = c.args.input.now; reply = (step r.machine c.args.input.now).reply }) =
+    λ i. record { input = c.args.input.now; reply = c.in_ok-done.ensures.ok.reply i } in
     let entries : c.enter.new.self.entries
-    ≡ r.entries ++ record { input = c.args.input; reply = (step r.machine c.args.input).reply } ∷ [] =
+    ≡ r.entries ++ record { input = c.args.input.now; reply = (step r.machine c.args.input.now).reply } ∷ [] =
     ap (λ (s : StateValue). s.entries) c.enter.ensures
     ∙ (λ i. c.in_ok-done.ensures.ok.entries i ++ entry i ∷ []) in
     let same : ◌≡◌ {A = ReplicaValue}
@@ -42,6 +42,6 @@ invariant_of-self-2 g c =
       entries = c.enter.new.self.entries;
       change = c.in_ok-done.done.change;
     })
-    (after_step c.args.input r) =
+    (after_step c.args.input.now r) =
     λ i. record { machine = m i; entries = entries i; change = c.in_ok-done.ensures.ok.change i } in
-    subst IsReplica (sym same) (goes_on r c.self.invariant c.args.input c.is_in_range.ensures)
+    subst IsReplica (sym same) (goes_on r c.self.invariant c.args.input.now c.is_in_range.ensures)
