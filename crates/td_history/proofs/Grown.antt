@@ -13,7 +13,8 @@ use Rattle.td_history.specs.declared.entries.CompactEntry.{CompactEntry}
 use Rattle.td_history.specs.declared.message.CompactMessage.{CompactMessage}
 use Rattle.td_history.specs.declared.message.CompactMessage.TheVariants.{Op as CompactOp, Vote as CompactVote}
 use Rattle.td_history.specs.Standing.{IsGrown}
-use Rattle.td_history.specs.Inputs.{run_of, run_at, put_input, input_of}
+use Rattle.td_history.specs.Inputs.{put_input, input_of}
+use Rattle.td_history.specs.Texts.{run_of, run_at}
 use Rattle.td_history.specs.Entries.{entry_among}
 use Rattle.td_history.specs.Replies.{reply_of}
 use Rattle.td_history.specs.Messages.{message_of}

@@ -1,9 +1,7 @@
 -- The input that a compact one stands for.
-use Rattle.std.specs.Prelude.{ℕ, List, Option, Some, None}
+use Rattle.std.specs.Prelude.{ℕ, List, Option, Some}
 use Rattle.std.specs.List.{slice_get}
 use Rattle.std.specs.Option.{option_map, option_and_then}
-use Rattle.td_op.specs.declared.body.Body.{Body}
-use Rattle.td_op.specs.declared.body.Body.TheVariants.{Insert, Delete, Propose, Commit, Abort}
 use Rattle.td_op.specs.declared.request.Request.TheVariants.{Delete as AskDelete, DeleteAtom as AskDeleteAtom, Propose as AskPropose, ProposeAt as AskProposeAt, Cancel as AskCancel}
 use Rattle.td_op.specs.declared.input.Input.{Input}
 use Rattle.td_op.specs.declared.input.Input.TheVariants.{Local, Take, Next}
@@ -14,19 +12,8 @@ use Rattle.td_history.specs.declared.put.CompactPut.{CompactPut}
 use Rattle.td_history.specs.declared.input.CompactInput.{CompactInput}
 use Rattle.td_history.specs.declared.input.CompactInput.TheVariants.{Done, Refused, Delete as CompactDelete, DeleteAtom as CompactDeleteAtom, Propose as CompactPropose, ProposeAt as CompactProposeAt, Cancel as CompactCancel, Taken, Offered, Vote as CompactVote, Next as CompactNext}
 use Rattle.td_history.specs.Puts.{put_of}
+use Rattle.td_history.specs.Texts.{run_at}
 use Rattle.td_history.specs.Votes.{vote_of}
-
--- the text of an insert
-abbrev pub run_of : Body → Option (List (List ℕ))
-run_of (Insert slot run) = Some run
-run_of (Delete target) = None
-run_of (Propose slot) = None
-run_of (Commit proposal) = None
-run_of (Abort proposal) = None
-
--- the text of the operation of a number
-abbrev pub run_at : List OpValue → ℕ → Option (List (List ℕ))
-run_at ops number = option_and_then (λ (x : OpValue). run_of x.body) (slice_get ops number)
 
 -- a text, put where a compact request says
 abbrev pub put_input : CompactPut → Option (List (List ℕ)) → Option Input

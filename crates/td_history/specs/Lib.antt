@@ -1,3 +1,4 @@
+pub mod Texts
 pub mod Past
 pub mod Standing
 pub mod Votes

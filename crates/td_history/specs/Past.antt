@@ -14,6 +14,7 @@ use Rattle.td_op.specs.declared.reply.Reply.{Reply}
 use Rattle.td_op.specs.Op.{OpValue}
 use Rattle.td_machine.specs.Counts.{ops_of}
 use Rattle.td_machine.specs.Log.{proposed_slot, decision}
+use Rattle.td_history.specs.Texts.{run_at, text_of}
 
 pub record Past : Type 0 where
   -- its own site, and the number of sites
@@ -102,12 +103,12 @@ pub record IsNextIn (size site : ℕ) (log : List OpValue) (x : OpValue) : Type 
   pub next : x.dot.seq ≡ length (ops_of x.dot.site log) + 1
   pub decides : IfSome (decided_by x.body) (IsUndecided log)
 
--- an operation that is taken with an entry is the one of that number
-abbrev pub IsTakenAs : List OpValue → Input → ℕ → Type 0
-IsTakenAs ops (Take (Op x)) k = slice_get ops k ≡ Some x
-IsTakenAs ops (Take (AVote v)) k = Unit {0}
-IsTakenAs ops (Local request) k = Unit {0}
-IsTakenAs ops Next k = Unit {0}
+-- an operation that is taken with an entry is the one of that number, and one that is made has the text of its request
+abbrev pub IsDoneAs : List OpValue → Input → ℕ → Type 0
+IsDoneAs ops (Take (Op x)) k = slice_get ops k ≡ Some x
+IsDoneAs ops (Take (AVote v)) k = Unit {0}
+IsDoneAs ops (Local request) k = IfSome (text_of request) (λ text. run_at ops k ≡ Some text)
+IsDoneAs ops Next k = Unit {0}
 
 -- the k-th of a list, counted from 1
 abbrev pub kth : {X : Type 0} → ℕ → List X → Option X

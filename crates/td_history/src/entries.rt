@@ -2,7 +2,8 @@ ghost use Rattle.std.specs.Prelude.{◌≡◌, ◌<◌, ◌≤◌, ◌-◌, ◌�
 ghost use Rattle.std.specs.List.{slice_get};
 ghost use Rattle.std.specs.Option.{option_and_then};
 ghost use Rattle.td_op.specs.declared.entry.Entry.{Entry};
-ghost use Rattle.td_history.specs.Past.{IsTakenAs};
+ghost use Rattle.td_op.specs.Op.{OpValue};
+ghost use Rattle.td_history.specs.Past.{IsDoneAs};
 ghost use Rattle.td_history.specs.Standing.{StandFor};
 ghost use Rattle.td_history.specs.Entries.{entry_among, entry_of};
 
@@ -96,15 +97,15 @@ impl Entries {
     }
 
     /// Adds an entry.
-    pub fn push(&mut self, log: &Log, input: &Input, reply: &Reply, number: Option<u32>)
+    pub fn push(&mut self, input: &Input, reply: &Reply, number: Option<u32>)
         requires room { 1 ≤ self.old.room }
-        requires taken { IfSome number (IsTakenAs log.now.ops input.now) }
-        ensures entries { (list : List Entry) → StandFor (entry_of log.now.ops self.old) self.old.entries list
-            → StandFor (entry_of log.now.ops self.new) self.new.entries
+        ensures entries { (ops : List OpValue) (list : List Entry) → IfSome number (IsDoneAs ops input.now)
+            → StandFor (entry_of ops self.old) self.old.entries list
+            → StandFor (entry_of ops self.new) self.new.entries
             (list ++ record { input = input.now; reply = reply.now } ∷ []) }
         ensures room { self.new.room ≡ self.old.room - 1 }
     {
-        let input = keep_input(log, &mut self.texts, &mut self.offered, input, number);
+        let input = keep_input(&mut self.texts, &mut self.offered, input, number);
         let reply = CompactReply::of(reply);
         self.entries.push_reserved(CompactEntry { input, reply });
         self.room -= 1;

@@ -7,7 +7,7 @@ ghost use Rattle.td_machine.specs.Log.{decision, proposed_slot};
 ghost use Rattle.td_machine.specs.Ready.{is_dot_of};
 ghost use Rattle.td_history.specs.Past.{IsAsBefore, empty_past, kept, resumed, taken, made, voted, entered};
 ghost use Rattle.td_history.specs.Messages.{message_of};
-ghost use Rattle.td_history.specs.Past.{IsNextIn, IsTakenAs, kth};
+ghost use Rattle.td_history.specs.Past.{IsNextIn, IsDoneAs, kth};
 
 use crate::entries::Entries;
 use crate::log::Log;
@@ -19,8 +19,11 @@ use td_base::{Dot, Memory, Site};
 use td_op::{Entry, Input, Message, Op, Reply};
 use td_path::Slot;
 
-// For how many more things `reserve` makes room.
-const MORE: u32 = 8;
+// For so many things a step needs room.
+const STEP: u32 = 8;
+
+// For how many more things `reserve` makes room, so that not each step looks at each list.
+const MORE: u32 = 64;
 
 /// What the replica of a site keeps of its past. Contracts see a `Past`. There is room for so many more things of any
 /// kind, with operations of one site: they are noted without memory.
@@ -81,6 +84,9 @@ impl History {
         ensures room { OnOk result (8 ≤ self.new.room) }
         ensures site { OnOk result (self.new.room_site ≡ of) }
     {
+        if self.room >= STEP && self.log.room_site() == of {
+            return Ok(());
+        }
         self.room = 0;
         self.log.reserve(of, MORE)?;
         self.sent.reserve(MORE as usize)?;
@@ -149,10 +155,10 @@ impl History {
     pub fn enter(&mut self, input: &Input, reply: &Reply, number: Option<u32>)
         requires room { 1 ≤ self.old.room }
         requires kept { IfSome number (λ k. k < length self.old.ops) }
-        requires taken { IfSome number (IsTakenAs self.old.ops input.now) }
+        requires done { IfSome number (IsDoneAs self.old.ops input.now) }
         ensures { self.new ≡ entered input.now reply.now self.old }
     {
-        self.entries.push(&self.log, input, reply, number);
+        self.entries.push(input, reply, number);
         self.room -= 1;
     }
 

@@ -70,6 +70,13 @@ impl Index {
         Ok(())
     }
 
+    /// The site of whose operations there is room for more.
+    pub fn room_site(&self) -> Site
+        ensures { result ≡ self.now.room_site }
+    {
+        self.room_site
+    }
+
     /// Adds an operation at the end of the list of the site that there is room for.
     pub fn push(&mut self, number: u32)
         requires { 1 ≤ self.old.room }

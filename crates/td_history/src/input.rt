@@ -1,18 +1,19 @@
-ghost use Rattle.std.specs.Prelude.{◌≡◌, ◌<◌, ◌≤◌, ◌+◌, ◌^◌, ℕ, List, length, IfSome, Some, true, vec_len, vec_capacity};
+ghost use Rattle.std.specs.Prelude.{◌≡◌, ◌<◌, ◌≤◌, ◌+◌, ◌^◌, ◌∷◌, [], ℕ, List, IfSome, Some, vec_len, vec_capacity};
 ghost use Rattle.std.specs.Option.{option_map};
 ghost use Rattle.std.specs.List.{slice_get};
 ghost use Rattle.td_op.specs.declared.input.Input.TheVariants.{Local, Take};
 ghost use Rattle.td_op.specs.declared.message.Message.TheVariants.{Op as AnOp};
 ghost use Rattle.td_op.specs.Op.{OpValue};
-ghost use Rattle.td_history.specs.Past.{IsTakenAs};
+ghost use Rattle.td_history.specs.Past.{IsDoneAs};
 ghost use Rattle.td_history.specs.Puts.{put_of};
-ghost use Rattle.td_history.specs.Inputs.{input_of, run_at, put_input, taken_input};
+ghost use Rattle.td_history.specs.Inputs.{input_of, put_input, taken_input};
+ghost use Rattle.td_history.specs.Texts.{run_at};
 ghost use Rattle.td_history.specs.Standing.{IsGrown};
 
 use crate::log::Log;
 use crate::put::{CompactPut, compact_id};
 use crate::vote::CompactVote;
-use td_base::{Bit, Run};
+use td_base::{Atom, Bit, Run};
 use td_op::{Input, Message, Op, Request};
 use td_store::{CompactDot, CompactId, CompactSlot, Runs};
 
@@ -68,10 +69,9 @@ impl CompactInput {
     }
 }
 
-/// The input, made compact. Where no operation of the log has its text or is its operation, that is added to the texts
-/// or to the operations offered, in the room that they have.
+/// The input, made compact. Where there is no number of the operation that it makes or takes, its text is added to the
+/// texts, or its operation to those offered, in the room that they have.
 pub fn keep_input(
-    log: &Log,
     texts: &mut Runs,
     offered: &mut Vec<Op>,
     input: &Input,
@@ -80,106 +80,106 @@ pub fn keep_input(
     requires texts_room { 1 ≤ texts.old.room }
     requires offered_room { vec_len offered.old < vec_capacity offered.old }
     requires few { vec_len offered.old < 2 ^ 32 }
-    requires taken { IfSome number (IsTakenAs log.now.ops input.now) }
-    ensures input { input_of log.now.ops texts.new.runs offered.new.items result ≡ Some input.now }
+    ensures input { (ops : List OpValue) → IfSome number (IsDoneAs ops input.now)
+        → input_of ops texts.new.runs offered.new.items result ≡ Some input.now }
     ensures texts { IsGrown texts.old.runs texts.new.runs }
     ensures texts_room { texts.old.room ≤ texts.new.room + 1 }
     ensures offered { IsGrown offered.old.items offered.new.items }
     ensures offered_len { vec_len offered.new ≤ vec_len offered.old + 1 }
     ensures capacity { vec_capacity offered.new ≡ vec_capacity offered.old }
 {
-    match *input {
-        Input::Local(request) => keep_request(log, texts, &request, number),
-        Input::Take(Message::Op(op)) => keep_op(offered, &op, number),
+    match input {
+        Input::Local(request) => keep_request(texts, request, number),
+        Input::Take(Message::Op(op)) => keep_op(offered, op, number),
         Input::Take(Message::Vote(vote)) => CompactInput::Vote {
-            vote: CompactVote::of(&vote),
+            vote: CompactVote::of(vote),
         },
         Input::Next => CompactInput::Next,
     }
 }
 
 // The request, made compact.
-fn keep_request(log: &Log, texts: &mut Runs, request: &Request, number: Option<u32>) -> CompactInput
+fn keep_request(texts: &mut Runs, request: &Request, number: Option<u32>) -> CompactInput
     requires { 1 ≤ texts.old.room }
-    ensures input { (offered : List OpValue) → input_of log.now.ops texts.new.runs offered result
-        ≡ Some (Local request.now) }
+    ensures input { (ops offered : List OpValue) → IfSome number (IsDoneAs ops (Local request.now))
+        → input_of ops texts.new.runs offered result ≡ Some (Local request.now) }
     ensures texts { IsGrown texts.old.runs texts.new.runs }
     ensures room { texts.old.room ≤ texts.new.room + 1 }
 {
-    match *request {
+    match request {
         Request::Insert { index, atom } => {
-            let put = CompactPut::Insert { index };
-            keep_text(log, texts, &put, &Run::one(atom), number)
+            let put = CompactPut::Insert { index: *index };
+            keep_atom(texts, put, atom, number)
         }
         Request::InsertAfter { after, atom } => {
-            let after = compact_id(after);
-            let put = CompactPut::InsertAfter { after };
-            keep_text(log, texts, &put, &Run::one(atom), number)
+            let after = compact_id(*after);
+            keep_atom(texts, CompactPut::InsertAfter { after }, atom, number)
         }
         Request::Paste { index, run } => {
-            keep_text(log, texts, &CompactPut::Paste { index }, &run, number)
+            let put = CompactPut::Paste { index: *index };
+            keep_run(texts, put, run, number)
         }
         Request::PasteAfter { after, run } => {
-            let after = compact_id(after);
-            keep_text(log, texts, &CompactPut::PasteAfter { after }, &run, number)
+            let after = compact_id(*after);
+            keep_run(texts, CompactPut::PasteAfter { after }, run, number)
         }
-        Request::Delete { index } => CompactInput::Delete { index },
+        Request::Delete { index } => CompactInput::Delete { index: *index },
         Request::DeleteAtom { id } => CompactInput::DeleteAtom {
-            id: CompactId::of(id),
+            id: CompactId::of(*id),
         },
         Request::Propose { slot } => CompactInput::Propose {
-            slot: CompactSlot::of(&slot),
+            slot: CompactSlot::of(slot),
         },
-        Request::ProposeAt { index, bit } => CompactInput::ProposeAt { bit, index },
+        Request::ProposeAt { index, bit } => CompactInput::ProposeAt {
+            bit: *bit,
+            index: *index,
+        },
         Request::Cancel { proposal } => CompactInput::Cancel {
-            proposal: CompactDot::of(proposal),
+            proposal: CompactDot::of(*proposal),
         },
     }
 }
 
-// A request that puts this text, made compact: the text is that of the operation, where it has it.
-fn keep_text(
-    log: &Log,
-    texts: &mut Runs,
-    put: &CompactPut,
-    text: &Run,
-    number: Option<u32>,
-) -> CompactInput
+// A request that puts one atom, made compact. The atom is the text of the operation, where there is one.
+fn keep_atom(texts: &mut Runs, put: CompactPut, atom: &Atom, number: Option<u32>) -> CompactInput
     requires { 1 ≤ texts.old.room }
-    ensures input { (offered : List OpValue) → input_of log.now.ops texts.new.runs offered result
-        ≡ option_map Local (put_of text.now put.now) }
+    ensures input { (ops offered : List OpValue)
+        → IfSome number (λ k. run_at ops k ≡ Some (atom.now ∷ []))
+        → input_of ops texts.new.runs offered result ≡ option_map Local (put_of (atom.now ∷ []) put) }
     ensures texts { IsGrown texts.old.runs texts.new.runs }
     ensures room { texts.old.room ≤ texts.new.room + 1 }
 {
-    let put = *put;
     match number {
-        Some(number) if has_text(log, number, text) => CompactInput::Done { put, number },
-        _ => {
-            let number = texts.len();
-            texts.push(text);
-            CompactInput::Refused { put, text: number }
-        }
+        Some(number) => CompactInput::Done { put, number },
+        None => keep_text(texts, put, &Run::one(*atom)),
     }
 }
 
-// Whether this is the text of the operation of a number.
-fn has_text(log: &Log, number: u32, text: &Run) -> bool
-    ensures { result ≡ true → run_at log.now.ops number ≡ Some text.now }
+// The same of a run.
+fn keep_run(texts: &mut Runs, put: CompactPut, run: &Run, number: Option<u32>) -> CompactInput
+    requires { 1 ≤ texts.old.room }
+    ensures input { (ops offered : List OpValue) → IfSome number (λ k. run_at ops k ≡ Some run.now)
+        → input_of ops texts.new.runs offered result ≡ option_map Local (put_of run.now put) }
+    ensures texts { IsGrown texts.old.runs texts.new.runs }
+    ensures room { texts.old.room ≤ texts.new.room + 1 }
 {
-    match log.run(number) {
-        Some(run) => is_same(&run, text),
-        None => false,
+    match number {
+        Some(number) => CompactInput::Done { put, number },
+        None => keep_text(texts, put, run),
     }
 }
 
-// Whether two texts are one: the lengths differ sooner than the bytes.
-fn is_same(run: &Run, text: &Run) -> bool
-    ensures { result ≡ true → run.now ≡ text.now }
+// A request whose text no operation has, made compact.
+fn keep_text(texts: &mut Runs, put: CompactPut, text: &Run) -> CompactInput
+    requires { 1 ≤ texts.old.room }
+    ensures input { (ops offered : List OpValue)
+        → input_of ops texts.new.runs offered result ≡ option_map Local (put_of text.now put) }
+    ensures texts { IsGrown texts.old.runs texts.new.runs }
+    ensures room { texts.old.room ≤ texts.new.room + 1 }
 {
-    if run.len() != text.len() {
-        return false;
-    }
-    run == text
+    let number = texts.len();
+    texts.push(text);
+    CompactInput::Refused { put, text: number }
 }
 
 // An operation that is offered, made compact: it is the one of the number, where there is one.

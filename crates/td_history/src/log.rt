@@ -6,7 +6,7 @@ ghost use Rattle.td_machine.specs.Counts.{ops_of};
 ghost use Rattle.td_machine.specs.Log.{decision, proposed_slot};
 ghost use Rattle.td_machine.specs.Ready.{is_dot_of};
 ghost use Rattle.td_op.specs.Op.{OpValue};
-ghost use Rattle.td_history.specs.Inputs.{run_at};
+ghost use Rattle.td_history.specs.Texts.{run_at};
 ghost use Rattle.td_history.specs.Logs.{IsFoundAs};
 ghost use Rattle.td_history.specs.Standing.{Agree};
 ghost use Rattle.td_history.specs.Past.{IsNextIn, decided_by};
@@ -84,6 +84,13 @@ impl Log {
         self.index.reserve(of, more)?;
         self.room = more;
         Ok(())
+    }
+
+    /// The site of whose operations there is room for more.
+    pub fn room_site(&self) -> Site
+        ensures { result ≡ self.now.room_site }
+    {
+        self.index.room_site()
     }
 
     /// Keeps an operation under the next number, which it answers.

@@ -1,26 +1,24 @@
 -- What a machine knows of its open proposals, and what a decision of its own leaves.
-use Rattle.std.proofs.Common.{◌≡◌, ◌≢◌, ◌<◌, ◌≤◌, ◌+◌, ◌||◌, ◌⊎◌, ℕ, List, [], ◌∷◌, Bool, true, false, not, length, if◌then◌else◌, nat_eq, nat_lt, Option, Some, None, refl, sym, ap, ◌∙◌, subst, inl, inr, ⊎_elim, arith}
+use Rattle.std.proofs.Common.{◌≡◌, ◌≢◌, ◌<◌, ◌≤◌, ◌+◌, ◌||◌, ◌⊎◌, ℕ, List, ◌∷◌, Bool, true, false, not, if◌then◌else◌, nat_eq, nat_lt, Option, Some, None, refl, sym, ap, ◌∙◌, subst, inl, inr, ⊎_elim, arith}
 use Rattle.std.proofs.lemmas.Bool.{or_parts, leb-true, eqb-true, eq-eqb}
 use Rattle.std.proofs.lemmas.Bool.Decides.{nat_tests}
 use Rattle.std.proofs.lemmas.Option.{same_Some}
 use Rattle.std.specs.Prelude.{IsTrue, IfSome, find, is_some}
 use Rattle.std.specs.List.{list_any}
-use Rattle.std.specs.Option.{ForSome, option_or}
+use Rattle.std.specs.Option.{option_or}
 use Rattle.td_base.specs.Value.{DotValue}
-use Rattle.td_base.specs.Order.{dot_lt}
 use Rattle.td_base.specs.declared.dot.TheConstants.{MAX_SEQ}
-use Rattle.td_base.specs.Lists.{In}
 use Rattle.td_base.proofs.Equals.{same_dot_refl}
 use Rattle.td_base.proofs.Orders.{dot_lt_from}
 use Rattle.td_clock.specs.Vector.{vector_get, vector_has}
 use Rattle.td_path.specs.declared.slot.Slot.{Slot}
 use Rattle.td_op.specs.declared.body.Body.{Body}
-use Rattle.td_op.specs.declared.body.Body.TheVariants.{Insert, Delete, Propose, Commit, Abort}
+use Rattle.td_op.specs.declared.body.Body.TheVariants.{Propose, Commit, Abort}
 use Rattle.td_op.specs.declared.vote.Vote.{Vote}
-use Rattle.td_op.specs.Op.{OpValue, body_site}
+use Rattle.td_op.specs.Op.{body_site}
 use Rattle.td_doc.specs.Answers.{IsFresh}
 use Rattle.td_machine.specs.Counts.{IsNext}
-use Rattle.td_machine.specs.Decision.{Ballot, new_ballot, is_on, is_open, is_counted, counted, outcome, count_open, revise, close}
+use Rattle.td_machine.specs.Decision.{Ballot, new_ballot, is_on, counted, outcome, count_open, revise, close}
 use Rattle.td_machine.specs.Log.{proposed_slot, decision}
 use Rattle.td_machine.specs.Machine.{Machine, made, undecided, next_dot, next_op}
 use Rattle.td_machine.proofs.Ballots.{find_ballot, closes}

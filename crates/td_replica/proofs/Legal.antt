@@ -1,8 +1,7 @@
 -- A replica's history goes on with each step.
-use Rattle.std.proofs.Common.{◌≡◌, ◌<◌, ◌≤◌, ◌++◌, ℕ, List, [], ◌∷◌, Option, None, refl, sym, ap, ◌∙◌, subst}
+use Rattle.std.proofs.Common.{◌≡◌, ◌<◌, ◌≤◌, ◌++◌, ℕ, [], ◌∷◌, refl, sym, ap, ◌∙◌, subst}
 use Rattle.td_op.specs.declared.entry.Entry.{Entry}
 use Rattle.td_op.specs.declared.input.Input.{Input}
-use Rattle.td_op.specs.declared.message.Message.{Message}
 use Rattle.td_op.specs.Input.{IsInput}
 use Rattle.td_machine.specs.History.{History, after, IsLegalFrom, IsReached}
 use Rattle.td_machine.specs.Machine.{Machine, start}

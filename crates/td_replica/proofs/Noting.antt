@@ -1,5 +1,5 @@
 -- What an operation that comes into the log leaves of the parts.
-use Rattle.std.proofs.Common.{◌≡◌, ◌≢◌, ◌<◌, ◌≤◌, ◌+◌, ◌-◌, ◌++◌, ℕ, List, [], ◌∷◌, Bool, true, false, length, if◌then◌else◌, Option, Some, None, refl, sym, ap, ◌∙◌, subst, inl, inr, true≢false, arith}
+use Rattle.std.proofs.Common.{◌≡◌, ◌≢◌, ◌≤◌, ◌+◌, ◌-◌, ◌++◌, ℕ, List, [], ◌∷◌, Bool, true, length, if◌then◌else◌, Option, Some, None, refl, sym, ap, ◌∙◌, subst, inl, inr, arith}
 use Rattle.std.proofs.lemmas.Bool.{leb-true}
 use Rattle.std.specs.Prelude.{IsTrue, IfSome, IsSome, slice_get}
 use Rattle.std.specs.List.{AllByRecursion, filter_map, cons_option}
@@ -8,15 +8,14 @@ use Rattle.std.proofs.lemmas.Option.{slice_get_within}
 use Rattle.td_base.proofs.Elements.{get_front}
 use Rattle.std.specs.Option.{option_map, option_and_then, is_some}
 use Rattle.td_base.specs.Value.{DotValue}
-use Rattle.td_base.specs.Equality.{same_dot}
 use Rattle.td_base.specs.Lists.{In}
-use Rattle.td_base.proofs.Equals.{same_dot_true, same_dot_other}
+use Rattle.td_base.proofs.Equals.{same_dot_other}
 use Rattle.td_clock.specs.Vector.{vector_get, vector_has, vector_bump}
 use Rattle.td_path.specs.declared.slot.Slot.{Slot}
 use Rattle.td_op.specs.declared.body.Body.{Body}
 use Rattle.td_op.specs.declared.body.Body.TheVariants.{Insert, Delete, Propose, Commit, Abort}
 use Rattle.td_op.specs.Op.{OpValue}
-use Rattle.td_machine.specs.Counts.{counts, ops_of, IsNext, IsInTurn}
+use Rattle.td_machine.specs.Counts.{counts, IsNext, IsInTurn}
 use Rattle.td_machine.specs.Log.{Committed, commit_at, commit_in, commits, committed, proposed, proposed_slot}
 use Rattle.td_machine.proofs.Counting.{numbered}
 use Rattle.td_machine.proofs.OwnProposals.{had_counts, proposal_in}

@@ -1,5 +1,5 @@
 -- A proposal does nothing to the atoms shown, nor does the commit that may come with it.
-use Rattle.std.proofs.Common.{◌≡◌, ◌∷◌, Bool, true, false, Option, Some, None, refl}
+use Rattle.std.proofs.Common.{◌≡◌, Bool, true, false, Option, Some, None, refl}
 use Rattle.td_path.specs.declared.slot.Slot.{Slot}
 use Rattle.td_op.specs.declared.body.Body.TheVariants.{Propose, Commit, Abort}
 use Rattle.td_machine.specs.Decision.{new_ballot, outcome}

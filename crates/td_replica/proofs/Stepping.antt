@@ -1,25 +1,21 @@
 -- What a machine knows of what it makes, and what a step that makes nothing leaves.
-use Rattle.std.proofs.Common.{◌≡◌, ◌<◌, ◌≤◌, ◌+◌, ℕ, List, ◌∷◌, length, Option, Some, None, refl, sym, ap, ◌∙◌, subst, arith}
+use Rattle.std.proofs.Common.{◌≡◌, ◌≤◌, ℕ, ◌∷◌, length, Option, Some, None, refl, sym, ap, ◌∙◌, subst, arith}
 use Rattle.std.specs.Prelude.{IfSome}
 use Rattle.std.specs.Option.{option_and_then}
-use Rattle.td_base.specs.Value.{DotValue}
-use Rattle.td_base.specs.declared.dot.TheConstants.{MAX_SEQ}
 use Rattle.td_op.specs.declared.body.Body.{Body}
-use Rattle.td_op.specs.declared.change.Change.{Change}
 use Rattle.td_op.specs.declared.reply.Reply.{Reply}
 use Rattle.td_op.specs.Op.{OpValue, body_site}
 use Rattle.td_doc.specs.Answers.{IsFresh}
 use Rattle.td_machine.specs.Counts.{IsNext}
 use Rattle.td_machine.specs.Machine.{Machine, next_dot, next_op}
 use Rattle.td_machine.specs.Shown.{change_by, change_between, op_over}
-use Rattle.td_machine.specs.Taking.{Stepped, stepped}
+use Rattle.td_machine.specs.Taking.{stepped}
 use Rattle.td_machine.proofs.Induction.{Anything}
-use Rattle.td_machine.proofs.Parts.{IsBuilt, IsDone, Own, MayMake}
+use Rattle.td_machine.proofs.Parts.{IsBuilt, Own, MayMake}
 use Rattle.td_machine.proofs.Changes.{none_over, one_over, two_over}
 use Rattle.td_machine.proofs.Documents.{documents, fresh_next}
 use Rattle.td_machine.proofs.Naming.{own_site}
 use Rattle.td_machine.proofs.Turns.{length_have, comes_next}
-use Rattle.td_replica.specs.declared.making.Done.{Done}
 use Rattle.td_replica.specs.Parts.{StateValue, IsAsBefore}
 use Rattle.td_replica.specs.Steps.{IsStep}
 

@@ -1,5 +1,5 @@
 -- What an operation of another site leaves of a machine.
-use Rattle.std.proofs.Common.{◌≡◌, ◌≢◌, ◌&&◌, ℕ, List, ◌∷◌, Bool, true, false, if◌then◌else◌, nat_eq, Option, Some, None, refl, sym, ap, ◌∙◌, subst}
+use Rattle.std.proofs.Common.{◌≡◌, ◌≢◌, ◌&&◌, List, ◌∷◌, Bool, true, false, nat_eq, Option, Some, None, refl, sym, ap, ◌∙◌}
 use Rattle.std.proofs.lemmas.Bool.{and_parts, eqb-true}
 use Rattle.std.specs.Option.{is_some, is_none}
 use Rattle.td_base.specs.Value.{DotValue}
@@ -7,16 +7,13 @@ use Rattle.td_base.specs.Lists.{In}
 use Rattle.td_path.specs.declared.slot.Slot.{Slot}
 use Rattle.td_op.specs.declared.body.Body.{Body}
 use Rattle.td_op.specs.declared.body.Body.TheVariants.{Insert, Delete, Propose, Commit, Abort}
-use Rattle.td_op.specs.declared.reply.Why.{Why}
-use Rattle.td_op.specs.declared.reply.Why.TheVariants.{Proposal, Vote as NoHold}
 use Rattle.td_op.specs.Op.{OpValue}
-use Rattle.td_machine.specs.Hold.{is_held}
 use Rattle.td_doc.specs.Answers.{IsFresh}
 use Rattle.td_machine.specs.Counts.{IsNext}
-use Rattle.td_machine.specs.Decision.{Ballot, close, revise}
+use Rattle.td_machine.specs.Decision.{Ballot, close}
 use Rattle.td_machine.specs.Log.{proposed, proposed_slot, decision, is_undecided_of}
 use Rattle.td_machine.specs.Machine.{Machine}
-use Rattle.td_machine.specs.Making.{effect, holds_after, ballots_after, done}
+use Rattle.td_machine.specs.Making.{effect, ballots_after, done}
 use Rattle.td_machine.specs.Taking.{body_misfit, answer, vote_on, take_as, take}
 use Rattle.td_machine.proofs.Documents.{documents, fresh_next}
 use Rattle.td_machine.proofs.Induction.{Anything}

@@ -1,29 +1,36 @@
 -- What is judged first, and done then, is the machine's step.
-use Rattle.std.proofs.Common.{◌≡◌, ◌≤◌, ◌+◌, ◌||◌, ℕ, Bool, true, false, not, length, nat_eq, nat_lt, if◌then◌else◌, Option, Some, None, refl, sym, ap, ◌∙◌, subst, true≢false, arith}
+use Rattle.std.proofs.Common.{◌≡◌, ◌≤◌, ◌+◌, ◌||◌, ℕ, List, [], ◌∷◌, Bool, true, false, not, length, nat_eq, nat_lt, if◌then◌else◌, Option, Some, None, refl, sym, ap, ◌∙◌, subst, arith}
 use Rattle.std.proofs.lemmas.Bool.{ltb-false}
-use Rattle.td_base.specs.Value.{DotValue}
+use Rattle.std.specs.Prelude.{IfSome}
+use Rattle.td_base.specs.Value.{DotValue, AtomIdValue}
 use Rattle.td_base.specs.declared.dot.TheConstants.{MAX_SEQ}
 use Rattle.td_clock.specs.Vector.{vector_get}
 use Rattle.td_path.specs.declared.slot.Slot.{Slot}
 use Rattle.td_op.specs.declared.body.Body.{Body}
 use Rattle.td_op.specs.declared.body.Body.TheVariants.{Insert, Delete, Propose as ProposeIn, Commit, Abort}
+use Rattle.td_doc.specs.Allocation.{anchor}
+use Rattle.td_doc.specs.Answers.{is_live_id}
+use Rattle.td_op.specs.declared.input.Input.TheVariants.{Local}
 use Rattle.td_op.specs.declared.request.Request.{Request}
+use Rattle.td_op.specs.declared.request.Request.TheVariants.{Insert as AskInsert, InsertAfter, Paste, PasteAfter, Delete as AskDelete, DeleteAtom, Propose as AskPropose, ProposeAt, Cancel as AskCancel}
 use Rattle.td_op.specs.declared.reply.Reply.{Reply}
-use Rattle.td_op.specs.declared.reply.Reply.TheVariants.{Made, Held, Limit, New, Later, Repeat, Unfit}
+use Rattle.td_op.specs.declared.reply.Reply.TheVariants.{Made, Held, Position, Gone, Limit, New, Later, Repeat, Unfit}
 use Rattle.td_op.specs.declared.reply.Why.{Why}
 use Rattle.td_op.specs.declared.reply.Why.TheVariants.{Size, Own}
 use Rattle.td_op.specs.Input.{IsRequest}
 use Rattle.td_op.specs.Op.{OpValue}
 use Rattle.td_machine.specs.Machine.{Machine, made, undecided, next_dot}
-use Rattle.td_machine.specs.Making.{make, propose}
+use Rattle.td_machine.specs.Making.{make}
 use Rattle.td_machine.specs.Ready.{is_had, is_ready, waits}
-use Rattle.td_machine.specs.Request.{Aim, Refuse as RefuseAim, Do, GiveUp, Attempt, aim, aim_step, attempt_step, is_past_limit, perform, request_step}
+use Rattle.td_machine.specs.Request.{Aim, Refuse as RefuseAim, Do, GiveUp, Attempt, aim, aim_step, attempt_step, insert_aim, insert_aim_at, insert_aim_after, is_past_limit, len, perform, request_step}
 use Rattle.td_machine.specs.Taking.{Stepped, stepped, misfit, take, keep_waiting, fit_step, op_step}
 use Rattle.td_machine.proofs.Aims.{FitsAim, aimed}
 use Rattle.td_machine.proofs.Induction.{Anything}
 use Rattle.td_machine.proofs.Parts.{RoomFor, IsBuilt, MayMake, IsProposing}
 use Rattle.td_machine.proofs.Room.{room}
 use Rattle.td_machine.proofs.Turns.{placed}
+use Rattle.td_history.specs.Past.{IsDoneAs}
+use Rattle.td_history.specs.Texts.{run_of, run_at, text_of}
 use Rattle.td_replica.specs.declared.requests.Verdict.{Verdict}
 use Rattle.td_replica.specs.declared.requests.Verdict.TheVariants.{Answer, Make, Propose, Cancel}
 use Rattle.td_replica.specs.declared.operations.Judged.{Judged}
@@ -142,6 +149,68 @@ module _ (request : Request) (m : Machine) where
                   else stepped (Made (next_dot m)) (perform a.body m)) ≡ stepped reply m
               full true n = ap (λ (z : Reply). stepped z m) (same (Limit (made m) (undecided m)) n)
               full false n = absurd (none a.body n)
+
+-- ---- the text of what is made
+
+abbrev run_aimed : Aim → Option (List (List ℕ))
+run_aimed (RefuseAim reply) = None
+run_aimed (GiveUp p) = None
+run_aimed (Do a) = run_of a.body
+
+module _ (m : Machine) (a : Attempt) where
+  run_put : (run : List (List ℕ)) (after : Option AtomIdValue) → insert_aim run after m ≡ Do a
+      → run_of a.body ≡ Some run
+  run_put run after e = sym (ap run_aimed e)
+
+  run_at_index : (run : List (List ℕ)) (index : ℕ) → insert_aim_at run index m ≡ Do a → run_of a.body ≡ Some run
+  run_at_index run index e = at (nat_lt (len m) index) e
+    where
+      at : (b : Bool) → (if b then RefuseAim (Position (len m)) else insert_aim run (anchor m.doc index) m) ≡ Do a
+          → run_of a.body ≡ Some run
+      at true f = absurd cc
+      at false f = run_put run (anchor m.doc index) f
+
+  run_after : (run : List (List ℕ)) (after : Option AtomIdValue) → insert_aim_after run after m ≡ Do a
+      → run_of a.body ≡ Some run
+  run_after run None e = run_put run None e
+  run_after run (Some x) e = at (is_live_id m.doc x) e
+    where
+      at : (b : Bool) → (if b then insert_aim run (Some x) m else RefuseAim (Gone x)) ≡ Do a
+          → run_of a.body ≡ Some run
+      at true f = run_put run (Some x) f
+      at false f = absurd cc
+
+  run_aims : (request : Request) → aim request m ≡ Do a
+      → IfSome (text_of request) (λ text. run_of a.body ≡ Some text)
+  run_aims (AskInsert index atom) e = run_at_index (atom ∷ []) index e
+  run_aims (InsertAfter after atom) e = run_after (atom ∷ []) after e
+  run_aims (Paste index run) e = run_at_index run index e
+  run_aims (PasteAfter after run) e = run_after run after e
+  run_aims (AskDelete index) e = tt
+  run_aims (DeleteAtom x) e = tt
+  run_aims (AskPropose slot) e = tt
+  run_aims (ProposeAt index bit) e = tt
+  run_aims (AskCancel p) e = tt
+
+make_text : (request : Request) (m : Machine) (body : Body) → verdict request m ≡ Make body
+    → IfSome (text_of request) (λ text. run_of body ≡ Some text)
+make_text request m body e =
+    let k = allowed_of request m (Make body) tt e in
+    subst (λ (c : Body). IfSome (text_of request) (λ text. run_of c ≡ Some text))
+    (body_made request m k.attempt.body body k.is).0
+    (run_aims m k.attempt request k.aims)
+
+-- an edit that has the text of its body has that of its request
+pub made_as : (request : Request) (m : Machine) (body : Body) → verdict request m ≡ Make body → (ops : List OpValue)
+    (number : Option ℕ) → IfSome number (λ k. run_at ops k ≡ run_of body)
+    → IfSome number (IsDoneAs ops (Local request))
+made_as request m body e ops None h = tt
+made_as request m body e ops (Some k) h = texts (text_of request) (make_text request m body e)
+  where
+    texts : (text : Option (List (List ℕ))) → IfSome text (λ t. run_of body ≡ Some t)
+        → IfSome text (λ t. run_at ops k ≡ Some t)
+    texts None f = tt
+    texts (Some t) f = h ∙ f
 
 -- ---- what a machine that is built keeps
 

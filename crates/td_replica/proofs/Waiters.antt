@@ -1,6 +1,5 @@
 -- The least ready operation of those that wait: it was offered, and is taken where it fits.
-use Rattle.std.proofs.Common.{◌≡◌, ℕ, List, filter, Option, Some, None}
-use Rattle.td_base.specs.Lists.{In}
+use Rattle.std.proofs.Common.{◌≡◌, filter, Some, None}
 use Rattle.td_base.proofs.Lists.{In-filter}
 use Rattle.td_op.specs.Op.{OpValue}
 use Rattle.td_machine.specs.Machine.{Machine}

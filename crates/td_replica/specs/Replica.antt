@@ -1,5 +1,5 @@
 -- A replica as contracts see it: its machine, and the history that led there.
-use Rattle.std.specs.Prelude.{◌≡◌, ◌<◌, ◌≤◌, ◌++◌, ℕ, List, [], ◌∷◌, Bool, true, false, Option, None}
+use Rattle.std.specs.Prelude.{◌≡◌, ◌<◌, ◌≤◌, ◌++◌, ℕ, [], ◌∷◌, Bool, true, false, Option, None}
 use Rattle.td_base.specs.declared.site.TheConstants.{MAX_SITE}
 use Rattle.td_op.specs.declared.change.Change.{Change}
 use Rattle.td_op.specs.declared.entry.Entry.{Entry}

@@ -1,5 +1,5 @@
 -- What a step did, as the parts of a replica tell it.
-use Rattle.std.specs.Prelude.{◌≡◌, ◌<◌, ◌≤◌, ℕ, Bool, true, false, length, Option, None, Some, IfSome, find}
+use Rattle.std.specs.Prelude.{◌≡◌, ◌<◌, ◌≤◌, Bool, true, false, length, Option, None, Some, IfSome, find}
 use Rattle.std.specs.Option.{ForSome}
 use Rattle.td_base.specs.Value.{DotValue}
 use Rattle.td_op.specs.declared.vote.Vote.{Vote}

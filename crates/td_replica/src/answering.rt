@@ -6,7 +6,7 @@ ghost use Rattle.td_op.specs.Input.{IsInput};
 ghost use Rattle.td_machine.specs.Step.{step};
 ghost use Rattle.td_machine.proofs.Induction.{Anything};
 ghost use Rattle.td_machine.proofs.Parts.{IsBuilt};
-ghost use Rattle.td_history.specs.Past.{IsTakenAs};
+ghost use Rattle.td_history.specs.Past.{IsDoneAs};
 ghost use Rattle.td_replica.specs.Parts.{IsAsBefore};
 ghost use Rattle.td_replica.specs.Replica.{is_repeat};
 ghost use Rattle.td_replica.specs.Steps.{IsStep};
@@ -24,7 +24,7 @@ impl<D: Doc> State<D> {
         requires built { IsBuilt Anything self.old.machine.site self.old.machine.size self.old.machine }
         requires valid { IsInput input.now }
         ensures ok { IfOk result (λ done. IsStep (step self.old.machine input.now) self.old self.new done) }
-        ensures number { IfOk result (λ done. IfSome done.number (IsTakenAs self.new.ops input.now)) }
+        ensures number { IfOk result (λ done. IfSome done.number (IsDoneAs self.new.ops input.now)) }
         ensures err { OnErr result (IsAsBefore self.old self.new) }
     {
         match input {
@@ -39,7 +39,7 @@ impl<D: Doc> State<D> {
     pub(crate) fn enter(&mut self, input: &Input, reply: &Reply, number: Option<u32>)
         requires room { 1 ≤ self.old.room.things }
         requires stored { IfSome number (λ k. k < length self.old.ops) }
-        requires taken { IfSome number (IsTakenAs self.old.ops input.now) }
+        requires done { IfSome number (IsDoneAs self.old.ops input.now) }
         ensures { self.new ≡ record self.old {
           entries = self.old.entries ++ record { input = input.now; reply = reply.now } ∷ [];
           room = record self.old.room { things = self.old.room.things - 1 };

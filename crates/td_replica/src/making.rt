@@ -1,6 +1,7 @@
 // What a replica makes: edits, proposals and decisions.
-ghost use Rattle.std.specs.Prelude.{◌≡◌, ◌≢◌, ◌<◌, ◌≤◌, Some, None, true, false, IfOk, OnErr, IsTrue};
+ghost use Rattle.std.specs.Prelude.{◌≡◌, ◌≢◌, ◌<◌, ◌≤◌, Some, None, true, false, IfOk, OnErr, IfSome, IsTrue};
 ghost use Rattle.td_op.specs.declared.body.Body.TheVariants.{Commit, Abort};
+ghost use Rattle.td_op.specs.declared.input.Input.TheVariants.{Local};
 ghost use Rattle.td_op.specs.declared.reply.Reply.TheVariants.{Made, Cancelled, New};
 ghost use Rattle.td_op.specs.Input.{IsRequest};
 ghost use Rattle.td_machine.specs.Decision.{Ballot};
@@ -11,6 +12,8 @@ ghost use Rattle.td_machine.specs.Step.{IsRefusal};
 ghost use Rattle.td_machine.specs.Taking.{stepped, vote_step};
 ghost use Rattle.td_machine.proofs.Induction.{Anything};
 ghost use Rattle.td_machine.proofs.Parts.{IsBuilt, MayMake, IsProposing, IsOpenAt, IsCounting};
+ghost use Rattle.td_history.specs.Past.{IsDoneAs};
+ghost use Rattle.td_history.specs.Texts.{run_of, run_at};
 ghost use Rattle.td_replica.specs.Parts.{IsAsBefore};
 ghost use Rattle.td_replica.specs.Steps.{IsStep, IsEdit, IsDue};
 
@@ -55,6 +58,8 @@ impl<D: Doc> State<D> {
         ensures ok { IfOk result (λ done.
             IsStep (stepped (Made (next_dot self.old.machine)) (make body.now self.old.machine))
             self.old self.new done) }
+        ensures number { IfOk result (λ done.
+            IfSome done.number (λ k. run_at self.new.ops k ≡ run_of body.now)) }
         ensures err { OnErr result (IsAsBefore self.old self.new) }
     {
         self.reserve(self.site)?;
@@ -76,6 +81,7 @@ impl<D: Doc> State<D> {
         ensures ok { IfOk result (λ done.
             IsStep (stepped (Made (next_dot self.old.machine)) (propose slot.now self.old.machine))
             self.old self.new done) }
+        ensures number { IfOk result (λ done. done.number ≡ None) }
         ensures err { OnErr result (IsAsBefore self.old self.new) }
     {
         if self.have.size() == 1 {
@@ -93,6 +99,7 @@ impl<D: Doc> State<D> {
         ensures ok { IfOk result (λ done.
             IsStep (stepped (Made (next_dot self.old.machine)) (propose slot.now self.old.machine))
             self.old self.new done) }
+        ensures number { IfOk result (λ done. done.number ≡ None) }
         ensures err { OnErr result (IsAsBefore self.old self.new) }
     {
         self.reserve(self.site)?;
@@ -116,6 +123,7 @@ impl<D: Doc> State<D> {
         ensures ok { IfOk result (λ done.
             IsStep (stepped (Made (next_dot self.old.machine)) (propose slot.now self.old.machine))
             self.old self.new done) }
+        ensures number { IfOk result (λ done. done.number ≡ None) }
         ensures err { OnErr result (IsAsBefore self.old self.new) }
     {
         self.reserve(self.site)?;
@@ -140,6 +148,7 @@ impl<D: Doc> State<D> {
         requires may { IsOpenAt proposal self.old.machine }
         ensures ok { IfOk result (λ done. IsStep (stepped Cancelled (decide proposal (Some false) self.old.machine))
             self.old self.new done) }
+        ensures number { IfOk result (λ done. done.number ≡ None) }
         ensures err { OnErr result (IsAsBefore self.old self.new) }
     {
         self.reserve(self.site)?;
@@ -178,6 +187,7 @@ impl<D: Doc> State<D> {
         requires built { IsBuilt Anything self.old.machine.site self.old.machine.size self.old.machine }
         requires valid { IsRequest request.now }
         ensures ok { IfOk result (λ done. IsStep (request_step request.now self.old.machine) self.old self.new done) }
+        ensures number { IfOk result (λ done. IfSome done.number (IsDoneAs self.new.ops (Local request.now))) }
         ensures err { OnErr result (IsAsBefore self.old self.new) }
     {
         match self.verdict(request) {

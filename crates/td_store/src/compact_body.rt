@@ -26,26 +26,26 @@ impl CompactBody {
         ensures runs { take (length runs.old.runs) runs.new.runs ≡ runs.old.runs }
         ensures room { runs.old.room ≤ runs.new.room + 1 }
     {
-        match *body {
+        match body {
             Body::Insert { slot, run } => {
                 let number = runs.len();
-                runs.push(&run);
+                runs.push(run);
                 CompactBody::Insert {
-                    slot: CompactSlot::of(&slot),
+                    slot: CompactSlot::of(slot),
                     run: number,
                 }
             }
             Body::Delete { target } => CompactBody::Delete {
-                target: CompactId::of(target),
+                target: CompactId::of(*target),
             },
             Body::Propose { slot } => CompactBody::Propose {
-                slot: CompactSlot::of(&slot),
+                slot: CompactSlot::of(slot),
             },
             Body::Commit { proposal } => CompactBody::Commit {
-                proposal: CompactDot::of(proposal),
+                proposal: CompactDot::of(*proposal),
             },
             Body::Abort { proposal } => CompactBody::Abort {
-                proposal: CompactDot::of(proposal),
+                proposal: CompactDot::of(*proposal),
             },
         }
     }

@@ -1,9 +1,7 @@
-use Rattle.std.proofs.Common.{◌≡◌, ◌∙◌, List, ℕ, sym}
+use Rattle.std.proofs.Common.{◌≡◌, ◌∙◌, sym}
 use Rattle.std.proofs.lemmas.Bool.{not-false}
-use Rattle.td_base.specs.Value.{DotValue}
 use Rattle.td_base.proofs.Equals.{same_dot_true}
 use Rattle.td_clock.proofs.VectorLemmas.{same_vector_true}
-use Rattle.td_op.specs.declared.body.Body.{Body}
 use Rattle.td_replica.proofs.same.same_op.Goals as goal
 
 pub returns : goal.returns

@@ -1,4 +1,6 @@
-use Rattle.std.proofs.Common.{◌++◌, ◌∷◌, [], ◌-◌, arith}
+use Rattle.std.proofs.Common.{◌++◌, ◌∷◌, [], ◌-◌, sym, subst, arith}
+use Rattle.std.specs.Prelude.{IfSome}
+use Rattle.td_history.specs.Past.{Past, IsDoneAs}
 use Rattle.td_history.specs.Standing.{StandFor}
 use Rattle.td_history.specs.Entries.{entry_of}
 use Rattle.td_history.specs.HistoryParts.{sent_of, entries_of}
@@ -9,7 +11,10 @@ use Rattle.td_history.proofs.history.History.enter.Goals as goal
 entering : (c : goal.After-self-1)
     → StandFor (entry_of c.self.inside.log.ops c.push.new.self) c.push.new.self.entries
     (entries_of c.self.inside.log.ops c.self.inside.entries ++ record { input = c.args.input.now; reply = c.args.reply.now } ∷ [])
-entering c = c.push.ensures.entries _ c.self.invariant.entering
+entering c =
+    c.push.ensures.entries _ _
+    (subst (λ (past : Past). IfSome c.args.number (IsDoneAs past.ops c.args.input.now)) (sym c.self.view_is) c.requires.done)
+    c.self.invariant.entering
 
 pub invariant_of-self : goal.invariant_of-self
 invariant_of-self c =

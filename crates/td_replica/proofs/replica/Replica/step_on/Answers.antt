@@ -1,9 +1,5 @@
-use Rattle.std.proofs.Common.{◌≡◌, ◌++◌, List, [], ◌∷◌, Option, sym, ap, ◌∙◌, subst}
-use Rattle.td_op.specs.declared.change.Change.{Change}
+use Rattle.std.proofs.Common.{◌≡◌, ◌++◌, [], ◌∷◌, sym, ap, ◌∙◌, subst}
 use Rattle.td_op.specs.declared.entry.Entry.{Entry}
-use Rattle.td_machine.specs.History.{History}
-use Rattle.td_machine.specs.Machine.{Machine}
-use Rattle.td_machine.specs.Shown.{change_between}
 use Rattle.td_machine.specs.Step.{step}
 use Rattle.td_replica.specs.Parts.{StateValue}
 use Rattle.td_replica.specs.Replica.{ReplicaValue, IsReplica, after_step}

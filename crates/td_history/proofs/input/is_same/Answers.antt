@@ -1,6 +1,0 @@
-use Rattle.std.proofs.Common.{◌∙◌, sym}
-use Rattle.td_base.proofs.SameRuns.{same_run}
-use Rattle.td_history.proofs.input.is_same.Goals as goal
-
-pub returns : goal.returns
-returns c = λ h. same_run _ _ c.len.ensures.run c.len-2.ensures.run (sym c.eq.ensures ∙ h)
