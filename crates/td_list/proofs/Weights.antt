@@ -49,3 +49,13 @@ weight-cut from to items h =
   where
     sum : (from to : ℕ) → from ≤ to → from + (to - from) ≡ to
     sum from to h = omega arith
+
+-- others in place of some
+pub weight-lay : (from to : ℕ) (items over : List Item) → from ≤ to
+    → weight_of (take from items ++ over ++ drop to items) + weight_of (take (to - from) (drop from items)) ≡ weight_of items + weight_of over
+weight-lay from to items over h =
+    let whole = weight-append (take from items ++ over) (drop to items) in
+    let front = weight-append (take from items) over in
+    let ends = weight-append (take from items) (drop to items) in
+    let parts = weight-cut from to items h in
+    omega arith

@@ -4,7 +4,7 @@ ghost use Rattle.td_list.specs.Items.{IsItem, AreApart, place_of, has_mark, weig
 ghost use Rattle.td_list.specs.Index.{summary};
 ghost use Rattle.td_list.specs.Places.{nothing};
 
-use crate::edit::{put_each, take_out};
+use crate::edit::{lay_over, put_each, take_out};
 use crate::item::Item;
 use crate::scan::{has_mark, place_from, place_of, weight_of};
 use std::alloc::Global;
@@ -81,6 +81,7 @@ impl Chunk {
         requires apart { AreApart self.now }
         ensures value { result ≡ place_of name self.now }
         ensures bound { result < length self.now }
+        ensures few { result < usize.MAX }
     {
         match place_from(&self.items, name, self.near) {
             Some(place) => place,
@@ -94,6 +95,7 @@ impl Chunk {
         requires apart { AreApart self.now }
         ensures value { result ≡ place_of name self.now }
         ensures bound { result < length self.now }
+        ensures few { result < usize.MAX }
     {
         if near < self.items.len() && self.items[near].name == name {
             return near;
@@ -136,12 +138,29 @@ impl Chunk {
         ensures ok { OnOk result (self.new ≡ take from self.old ++ piece.now ++ drop to self.old) }
         ensures err { OnErr result (self.new ≡ self.old) }
     {
-        self.put(to, piece)?;
-        if from < to {
+        if piece.len() < to - from {
+            self.put(to, piece)?;
             self.cut(from, to);
+        } else {
+            let (over, more) = piece.split_at(to - from);
+            self.put(to, more)?;
+            self.lay(from, to, over);
         }
         self.near = from;
         Ok(())
+    }
+
+    // Lays items over those from a place up to another.
+    fn lay(&mut self, from: usize, to: usize, over: &[Item])
+        requires long { from + length over.now ≡ to }
+        requires within { to ≤ length self.old }
+        requires light { weight_of self.old + weight_of over.now < 2 ^ 32 }
+        ensures { self.new ≡ take from self.old ++ over.now ++ drop to self.old }
+    {
+        let gone = weight_of(&self.items[from..to]);
+        lay_over(&mut self.items, from, to, over);
+        self.weight = self.weight - gone + weight_of(over);
+        self.marked = has_mark(&self.items);
     }
 
     /// Takes out the items from a place up to another.

@@ -4,7 +4,7 @@ ghost use Rattle.td_list.specs.declared.item.Item.{Item};
 ghost use Rattle.td_list.specs.Items.{IsItem, AreApart, AreNew, items_before, items_from, items_after, items_from_end, put_before, replace, without, renew, place_of, first_name, last_name, first_marked, share_at, weight_of};
 ghost use Rattle.td_list.specs.Index.{all_items, chunk_at, chunks_before, chunks_after, IsIndex};
 
-use crate::index::Index;
+use crate::index::{FULL, Index};
 use crate::item::{Item, Share};
 use crate::line::Line;
 use crate::scan::{first_marked, share_at};
@@ -59,8 +59,7 @@ impl<S: Sequence> Sequence for Chunked<S> {
     }
 
     fn insert_before(&mut self, name: u32, piece: &[Item]) -> Result<(), Memory> {
-        self.make_room(name)?;
-        let seat = self.index.seat(name);
+        let seat = self.index.seat_with_room(name)?;
         self.index.splice(seat.chunk, seat.place, seat.place, piece)
     }
 
@@ -167,6 +166,21 @@ impl<S: Sequence> Chunked<S> {
         }
     }
 
+    /// Puts a piece in place of one item.
+    pub fn replace_one(&mut self, name: u32, piece: &[Item]) -> Result<(), Memory>
+        requires there { IsItem name self.old }
+        requires some { 0 < length piece.now }
+        requires apart { AreApart piece.now }
+        requires new { AreNew piece.now (items_before name self.old ++ items_after name self.old) }
+        requires light { weight_of self.old + weight_of piece.now < 2 ^ 32 }
+        ensures ok { OnOk result (self.new ≡ items_before name self.old ++ (piece.now ++ items_after name self.old)) }
+        ensures err { OnErr result (self.new ≡ self.old) }
+    {
+        let seat = self.index.seat_with_room(name)?;
+        self.index
+            .splice(seat.chunk, seat.place, seat.place + 1, piece)
+    }
+
     /// The item that follows an item. Who goes from item to item keeps `near`, the place of the item in its chunk: the
     /// item is looked for there first, and `near` is the place of the next one then. Any other place serves too.
     pub fn next_near(&self, name: u32, near: &mut usize) -> Option<u32>
@@ -205,18 +219,6 @@ impl<S: Sequence> Chunked<S> {
         (items, self.index.head_after(seat.chunk))
     }
 
-    // Parts the chunk of an item where it is full.
-    fn make_room(&mut self, name: u32) -> Result<(), Memory>
-        requires { IsItem name self.old }
-        ensures { self.new ≡ self.old }
-    {
-        let seat = self.index.seat(name);
-        if self.index.items_of(seat.chunk).len() < FULL {
-            return Ok(());
-        }
-        self.index.split(seat.chunk)
-    }
-
     // Puts a piece at the end, as a chunk of its own.
     fn begin(&mut self, piece: &[Item]) -> Result<(), Memory>
         requires apart { AreApart piece.now }
@@ -231,6 +233,3 @@ impl<S: Sequence> Chunked<S> {
         self.index.begin(piece)
     }
 }
-
-// So many items stand in a chunk at most, but for those of a piece.
-const FULL: usize = 64;

@@ -16,6 +16,15 @@ pub fn put_each(items: &mut Vec<Item>, place: usize, piece: &[Item])
     items[place..behind].copy_from_slice(piece);
 }
 
+/// Lays others over the items from a place up to another.
+pub fn lay_over(items: &mut Vec<Item>, from: usize, to: usize, over: &[Item])
+    requires long { from + length over.now ≡ to }
+    requires within { to ≤ length items.old.items }
+    ensures { items.new.items ≡ take from items.old.items ++ over.now ++ drop to items.old.items }
+{
+    items[from..to].copy_from_slice(over);
+}
+
 /// Takes out the items from a place up to another.
 pub fn take_out(items: &mut Vec<Item>, from: usize, to: usize)
     requires from { from ≤ to }

@@ -117,6 +117,7 @@ impl<S: Sequence> Index<S> {
         ensures there { IsItem name (chunk_at self.now.chunks result.chunk) }
         ensures place { result.place ≡ place_of name (chunk_at self.now.chunks result.chunk) }
         ensures bound { result.place < length (chunk_at self.now.chunks result.chunk) }
+        ensures few { result.place < usize.MAX }
     {
         let chunk = self.homes[name as usize];
         let place = self.numbered(chunk).place_of(name);
@@ -132,10 +133,31 @@ impl<S: Sequence> Index<S> {
         ensures there { IsItem name (chunk_at self.now.chunks result.chunk) }
         ensures place { result.place ≡ place_of name (chunk_at self.now.chunks result.chunk) }
         ensures bound { result.place < length (chunk_at self.now.chunks result.chunk) }
+        ensures few { result.place < usize.MAX }
     {
         let chunk = self.homes[name as usize];
         let place = self.numbered(chunk).place_near(name, near);
         Seat { chunk, place }
+    }
+
+    /// Where an item is, in a chunk that has room for more: one that is full is parted.
+    pub fn seat_with_room(&mut self, name: u32) -> Result<Seat, Memory>
+        requires index { IsIndex self.old }
+        requires there { IsItem name (all_items self.old) }
+        ensures index { IsIndex self.new }
+        ensures all { all_items self.new ≡ all_items self.old }
+        ensures chunk { IfOk result (λ seat. IsItem seat.chunk self.new.order) }
+        ensures there { IfOk result (λ seat. IsItem name (chunk_at self.new.chunks seat.chunk)) }
+        ensures place { IfOk result (λ seat. seat.place ≡ place_of name (chunk_at self.new.chunks seat.chunk)) }
+        ensures bound { IfOk result (λ seat. seat.place < length (chunk_at self.new.chunks seat.chunk)) }
+        ensures few { IfOk result (λ seat. seat.place < usize.MAX) }
+    {
+        let seat = self.seat(name);
+        if self.items_of(seat.chunk).len() < FULL {
+            return Ok(seat);
+        }
+        self.split(seat.chunk)?;
+        Ok(self.seat(name))
     }
 
     /// Puts a piece in a chunk, in place of the items from a place up to another.
@@ -364,3 +386,6 @@ fn is_same(a: Item, b: Item) -> bool
 {
     a == b
 }
+
+/// So many items stand in a chunk at most, but for those of a piece.
+pub const FULL: usize = 64;

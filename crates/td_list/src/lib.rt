@@ -20,6 +20,7 @@ mod scan;
 mod sequence;
 
 pub use chunked::{Chunked, List};
+pub use edit::put_each;
 pub use item::{Item, Share};
 pub use line::Line;
 pub use sequence::Sequence;

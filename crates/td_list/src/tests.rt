@@ -107,6 +107,25 @@ fn a_stretch_is_replaced(rt: HostRuntime) -> Result<(), Memory> {
     Ok(())
 }
 
+#[test]
+fn an_item_is_replaced(rt: HostRuntime) -> Result<(), Memory> {
+    let mut list = List::empty(rt.alloc())?;
+    list.push(&[item(5, 2, false), item(8, 4, true), item(9, 1, true)])?;
+    list.replace_one(8, &[item(3, 1, true), item(8, 1, true), item(4, 2, true)])?;
+    list.replace_one(4, &[item(6, 7, true)])?;
+    assert_eq!(rt;
+        (
+            list.next(5),
+            list.next(3),
+            list.next(8),
+            list.next(6),
+            list.weight()
+        ),
+        (Some(3), Some(8), Some(6), Some(9), 12)
+    );
+    Ok(())
+}
+
 fn item(name: u32, weight: u32, marked: bool) -> Item
     ensures { result ≡ record { name = name; weight = weight; marked = marked } }
 {
