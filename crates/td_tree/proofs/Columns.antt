@@ -1,12 +1,14 @@
 -- The rows by number, kept in two columns: their entries, and where they are.
 use Rattle.std.proofs.Common.{◌≡◌, ◌++◌, ◌+◌, ℕ, zero, suc, List, [], ◌∷◌, length, map, set, get_or, refl, sym, ap, ◌∙◌, arith}
+use Rattle.std.proofs.lemmas.List.{length-set}
 use Rattle.std.specs.List.{range_with_len}
 use Rattle.td_base.specs.Value.{DotValue}
 use Rattle.td_brackets.specs.Brackets.{Entry}
 use Rattle.td_tree.specs.declared.tree_row.RowState.{RowState}
-use Rattle.td_tree.specs.declared.tree_row.RowState.TheVariants.{InArray, Gone}
+use Rattle.td_tree.specs.declared.tree_row.RowState.TheVariants.{Node, InArray, Gone}
 use Rattle.td_tree.specs.Parts.{RowValue, nobody, rows_with}
 use Rattle.td_tree.specs.Places.{run_rows, run_entries}
+use Rattle.td_tree.specs.Ways.{nodes_at, node_states}
 
 -- there is a row for each entry
 pub rows_long : (es : List Entry) (ss : List RowState) → length es ≡ length ss → length (rows_with es ss) ≡ length es
@@ -45,6 +47,15 @@ state_set [] ss same r s = refl
 state_set (e ∷ es) [] same r s = absurd (omega arith)
 state_set (e ∷ es) (x ∷ ss) same zero s = refl
 state_set (e ∷ es) (x ∷ ss) same (suc r) s = ap (λ (rows : List RowValue). record { entry = e; state = x } ∷ rows) (state_set es ss (omega arith) r s)
+
+-- and so are those of rows that are nodes
+pub nodes_long : (tops : List ℕ) (ss : List RowState) → length (node_states tops ss) ≡ length ss
+nodes_long [] ss = refl
+nodes_long (r ∷ tops) ss = nodes_long tops (set ss r Node) ∙ length-set ss r Node
+
+pub nodes_set : (es : List Entry) (tops : List ℕ) (ss : List RowState) → length es ≡ length ss → rows_with es (node_states tops ss) ≡ nodes_at tops (rows_with es ss)
+nodes_set es [] ss same = refl
+nodes_set es (r ∷ tops) ss same = nodes_set es tops (set ss r Node) (same ∙ sym (length-set ss r Node)) ∙ ap (nodes_at tops) (state_set es ss same r Node)
 
 -- and so is an entry
 pub entry_set : (es : List Entry) (ss : List RowState) → length es ≡ length ss → (r : ℕ) (e : Entry)

@@ -9,6 +9,7 @@ pub mod Opened
 pub mod Lists
 pub mod Opening
 pub mod Openings
+pub mod Ways
 pub mod Down
 pub mod Shown
 pub mod Places

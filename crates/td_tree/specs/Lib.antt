@@ -5,6 +5,7 @@ pub mod Whole
 pub mod Walks
 pub mod Stretches
 pub mod Nodes
+pub mod Ways
 pub mod KeptAtom
 pub mod KeptState
 pub mod Deletes

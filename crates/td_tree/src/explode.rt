@@ -1,17 +1,19 @@
 // Leaves are opened on the way of an edit.
-ghost use Rattle.std.specs.Prelude.{◌≡◌, ◌≢◌, ◌<◌, ◌≤◌, ◌+◌, ◌*◌, ◌/◌, ◌^◌, ◌++◌, ℕ, List, [], length, OnOk, OnErr, Option};
+ghost use Rattle.std.specs.Prelude.{◌≡◌, ◌≢◌, ◌<◌, ◌≤◌, ◌+◌, ◌*◌, ◌/◌, ◌^◌, ◌++◌, ◌∷◌, ℕ, List, [], length, take, drop, IfOk, OnOk, Option};
 ghost use Rattle.td_base.specs.Lists.{In};
-ghost use Rattle.td_list.specs.Items.{IsItem, AreApart, AreNew, items_before, items_after, items_from_end, first_name, replace, weight_of};
 ghost use Rattle.td_brackets.specs.Brackets.{Leaf};
 ghost use Rattle.td_tree.specs.declared.tree_row.RowState.TheVariants.{Node, Gone};
-ghost use Rattle.td_tree.specs.Parts.{state_at, tokens, array_at, row_of_array, leaf_item, leaf_items, node_items, option_items, IsPart, IsTree, IsOpened, IsMoreOpen};
+ghost use Rattle.td_tree.specs.Parts.{state_at, tokens, array_at, row_of_array, leaf_item, leaf_items, option_items, IsPart, IsTree, IsMoreOpen};
+ghost use Rattle.td_tree.specs.Ways.{opened_items, IsWay};
 
-use crate::item_of::{atom_item, close_item, open_item};
+use crate::item_of::atom_item;
+use crate::states::make_nodes;
 use crate::stretch::Stretch;
 use crate::tokens::Tokens;
-use crate::tree_row::{RowState, set_state};
+use crate::tree_row::RowState;
+use crate::way::Way;
 use td_base::Memory;
-use td_list::{Item, List, Sequence};
+use td_list::Item;
 
 impl Tokens {
     /// Opens the leaf of a row down to it, so that it is a node. What a want of memory leaves undone changes no row.
@@ -35,40 +37,66 @@ impl Tokens {
     }
 
     // Opens a leaf down to the row at an index of its array.
-    fn open_down(&mut self, whole: Stretch, index: u32) -> Result<(), Memory>
-        requires tree { IsTree self.old }
-        requires part { IsPart self.old whole.array whole.from whole.len }
-        requires there { In (leaf_item self.old whole.array whole.from whole.len) self.old.items }
-        requires low { whole.from ≤ index }
-        requires high { index < whole.from + whole.len }
-        ensures kept { IsMoreOpen self.old self.new }
-        ensures node { OnOk result (state_at self.new (row_of_array self.old whole.array index) ≡ Node) }
-        ensures few { (d : ℕ) → whole.len < 2 ^ d → self.new.nodes ≤ self.old.nodes + d }
-    {
-        let mut leaf = whole;
-        while leaf.middle() != index {
-            self.open_leaf(leaf)?;
-            leaf = leaf.half_with(index);
-        }
-        self.open_leaf(leaf)?;
-        Ok(())
-    }
-
-    /// Opens a leaf one step: its middle row becomes a node, with what stood before it and after it as leaves.
-    pub fn open_leaf(&mut self, leaf: Stretch) -> Result<(), Memory>
+    fn open_down(&mut self, leaf: Stretch, index: u32) -> Result<(), Memory>
         requires tree { IsTree self.old }
         requires part { IsPart self.old leaf.array leaf.from leaf.len }
         requires there { In (leaf_item self.old leaf.array leaf.from leaf.len) self.old.items }
-        ensures ok { OnOk result (IsOpened self.old self.new leaf.array leaf.from leaf.len) }
-        ensures err { OnErr result (self.new ≡ self.old) }
+        requires low { leaf.from ≤ index }
+        requires high { index < leaf.from + leaf.len }
+        ensures kept { IsMoreOpen self.old self.new }
+        ensures node { OnOk result (state_at self.new (row_of_array self.old leaf.array index) ≡ Node) }
+        ensures few { (d : ℕ) → leaf.len < 2 ^ d → self.new.nodes ≤ self.old.nodes + d }
+    {
+        let name = self.whole(leaf).name;
+        let way = self.way_down(leaf, index)?;
+        self.list.replace_one(name, &way.piece)?;
+        make_nodes(&mut self.states, &way.tops);
+        self.nodes += way.tops.len() as u32;
+        Ok(())
+    }
+
+    // What comes in place of a leaf where it is opened down to a row: step by step the leaf with the row in it is
+    // opened.
+    fn way_down(&self, whole: Stretch, index: u32) -> Result<Way, Memory>
+        requires tree { IsTree self.now }
+        requires part { IsPart self.now whole.array whole.from whole.len }
+        requires there { In (leaf_item self.now whole.array whole.from whole.len) self.now.items }
+        requires low { whole.from ≤ index }
+        requires high { index < whole.from + whole.len }
+        ensures { IfOk result (λ way. IsWay self.now whole index way.piece.items way.tops.items) }
+    {
+        let mut way = Way::new(self.alloc, self.whole(whole))?;
+        let mut leaf = whole;
+        let mut place = 0;
+        while leaf.middle() != index {
+            self.open_in(&mut way, place, leaf)?;
+            place += leaf.tokens_before_half(index);
+            leaf = leaf.half_with(index);
+        }
+        self.open_in(&mut way, place, leaf)?;
+        Ok(way)
+    }
+
+    // Opens a leaf at a place of the piece one step: its middle row becomes a node, with what stood before it and
+    // after it as leaves.
+    fn open_in(&self, way: &mut Way, place: usize, leaf: Stretch) -> Result<(), Memory>
+        requires tree { IsTree self.now }
+        requires array { leaf.array < length self.now.arrays }
+        requires some { 0 < leaf.len }
+        requires within { leaf.from + leaf.len ≤ length (array_at self.now leaf.array) }
+        requires place { place < length way.old.piece.items }
+        ensures piece { OnOk result (way.new.piece.items ≡ take place way.old.piece.items
+            ++ opened_items self.now leaf.array leaf.from leaf.len ++ drop (place + 1) way.old.piece.items) }
+        ensures tops { OnOk result (way.new.tops.items
+            ≡ way.old.tops.items ++ row_of_array self.now leaf.array (leaf.from + leaf.len / 2) ∷ []) }
     {
         let top = self.row_in(leaf.array, leaf.middle());
-        let before = self.leaf_item(leaf.before());
-        let after = self.leaf_item(leaf.after());
-        put_node(&mut self.list, top, before, after)?;
-        set_state(&mut self.states, top, RowState::Node);
-        self.nodes += 1;
-        Ok(())
+        way.open(
+            place,
+            top,
+            self.leaf_item(leaf.before()),
+            self.leaf_item(leaf.after()),
+        )
     }
 
     /// The row at a place of an array.
@@ -90,49 +118,17 @@ impl Tokens {
         if part.len == 0 {
             return None;
         }
-        Some(atom_item(self.row_in(part.array, part.middle()), part.len))
+        Some(self.whole(part))
     }
-}
 
-// Puts the items of a row, with what stands on its sides, in place of its leaf.
-fn put_node(
-    list: &mut List,
-    top: u32,
-    before: Option<Item>,
-    after: Option<Item>,
-) -> Result<(), Memory>
-    requires few { top < 2 ^ 30 }
-    requires there { IsItem (3 * top + 1) list.old }
-    requires all { AreApart list.old }
-    requires apart { AreApart (node_items top (option_items before) (option_items after)) }
-    requires new { AreNew (node_items top (option_items before) (option_items after))
-        (items_before (3 * top + 1) list.old ++ items_after (3 * top + 1) list.old) }
-    requires light { weight_of list.old + weight_of (node_items top (option_items before) (option_items after))
-        < 2 ^ 32 }
-    ensures ok { OnOk result (list.new ≡ items_before (3 * top + 1) list.old
-        ++ (node_items top (option_items before) (option_items after) ++ items_after (3 * top + 1) list.old)) }
-    ensures err { OnErr result (list.new ≡ list.old) }
-{
-    let (open, atom, close) = (open_item(top), atom_item(top, 1), close_item(top));
-    match (before, after) {
-        (None, None) => swap(list, atom.name, &[open, atom, close]),
-        (None, Some(right)) => swap(list, atom.name, &[open, atom, right, close]),
-        (Some(left), None) => swap(list, atom.name, &[open, left, atom, close]),
-        (Some(left), Some(right)) => swap(list, atom.name, &[open, left, atom, right, close]),
+    // The item of a leaf.
+    fn whole(&self, leaf: Stretch) -> Item
+        requires tree { IsTree self.now }
+        requires array { leaf.array < length self.now.arrays }
+        requires some { 0 < leaf.len }
+        requires within { leaf.from + leaf.len ≤ length (array_at self.now leaf.array) }
+        ensures { result ≡ leaf_item self.now leaf.array leaf.from leaf.len }
+    {
+        atom_item(self.row_in(leaf.array, leaf.middle()), leaf.len)
     }
-}
-
-// Puts a piece in place of an item.
-fn swap(list: &mut List, name: u32, piece: &[Item]) -> Result<(), Memory>
-    requires there { IsItem name list.old }
-    requires all { AreApart list.old }
-    requires apart { AreApart piece.now }
-    requires new { AreNew piece.now (items_before name list.old ++ items_after name list.old) }
-    requires light { weight_of list.old + weight_of piece.now < 2 ^ 32 }
-    ensures ok { OnOk result (list.new ≡ items_before name list.old ++ (piece.now ++ items_after name list.old)) }
-    ensures err { OnErr result (list.new ≡ list.old) }
-{
-    let end = list.next(name);
-    list.replace(name, end, piece)?;
-    Ok(())
 }

@@ -32,6 +32,7 @@ mod tokens;
 mod told;
 mod tree;
 mod tree_row;
+mod way;
 
 pub use tree::Tree;
 

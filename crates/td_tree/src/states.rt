@@ -3,6 +3,7 @@ ghost use Rattle.std.specs.Prelude.{◌≡◌, ◌≢◌, ◌<◌, ◌^◌, ℕ,
 ghost use Rattle.td_base.specs.Lists.{In};
 ghost use Rattle.td_tree.specs.declared.kept_state.TheConstants.{MOST_ARRAYS};
 ghost use Rattle.td_tree.specs.declared.tree_row.RowState.TheVariants.{InArray, Gone};
+ghost use Rattle.td_tree.specs.Ways.{node_states};
 
 use crate::kept_state::KeptState;
 use crate::tree_row::{RowState, set_state};
@@ -17,6 +18,16 @@ pub fn bury(states: &mut Vec<KeptState>, numbers: &[u32])
 {
     for k in 0..numbers.len() {
         set_state(states, numbers[k], RowState::Gone);
+    }
+}
+
+/// These rows are nodes.
+pub fn make_nodes(states: &mut Vec<KeptState>, numbers: &[u32])
+    requires { (r : ℕ) → In r numbers.now → r < length states.old.items }
+    ensures { states.new.items ≡ node_states numbers.now states.old.items }
+{
+    for k in 0..numbers.len() {
+        set_state(states, numbers[k], RowState::Node);
     }
 }
 

@@ -64,4 +64,13 @@ impl Stretch {
             self.after()
         }
     }
+
+    /// How many tokens stand before that half where the row in the middle is opened: its bracket, and with the half
+    /// before it and the row itself three.
+    pub fn tokens_before_half(self, index: u32) -> usize
+        requires { self.from + self.len < 2 ^ 32 }
+        ensures { result ≡ (if nat_lt index (self.from + self.len / 2) then 1 else 3) }
+    {
+        if index < self.middle() { 1 } else { 3 }
+    }
 }
