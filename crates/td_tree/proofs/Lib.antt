@@ -44,3 +44,5 @@ pub mod LeafNodes
 pub mod SlotItems
 pub mod FlatWholes
 pub mod FreshRows
+pub mod LastRow
+pub mod PlaceIndex

@@ -149,4 +149,4 @@ module _ (p : Parts) (t : IsTree p) (at : Option ℕ) (id : AtomIdValue) (atom :
         ∙ put_rows_are (table p) (table q) (tokens p) t.brackets n id atom agrees entry unknown (tokens_of p pl.front) (tokens_of p pl.back) was pl.stack slot standing_now after_now there
 
   pub is_put : IsNone (find_row id (doc_rows p)) → length p.rows < 2 ^ 30 → IsPut p with_row at id atom
-  is_put unknown few = record { rows = refl; nodes = refl; there = λ slot place rooted. (row_tree slot place unknown few rooted, row_rows slot place unknown few rooted) }
+  is_put unknown few = record { rows = refl; items = refl; nodes = refl; there = λ slot place rooted. (row_tree slot place unknown few rooted, row_rows slot place unknown few rooted) }

@@ -123,7 +123,7 @@ run_at id n count x o r true e f =
     number r i a e f = let g = same (n + (a - id.offset)) r f in omega arith
 run_at id n count x o r false e f = inr (sym (ap (λ (b : Bool). if b then Some (n + (x.offset - id.offset)) else o) e) ∙ f)
 
-run_new : (id : AtomIdValue) (n count i : ℕ) (o : Option ℕ) → i < count → with_run id (record { first = n; count = count }) (later id i) o ≡ Some (n + i)
+pub run_new : (id : AtomIdValue) (n count i : ℕ) (o : Option ℕ) → i < count → with_run id (record { first = n; count = count }) (later id i) o ≡ Some (n + i)
 run_new id n count i o l =
     let same : n + (id.offset + i - id.offset) ≡ n + i = omega arith in
     ap (λ (b : Bool). if b then Some (n + (id.offset + i - id.offset)) else o) (run_here id count i l) ∙ ap Some same

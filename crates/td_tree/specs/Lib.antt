@@ -2,6 +2,7 @@ pub mod Parts
 pub mod Reading
 pub mod Places
 pub mod Whole
+pub mod Last
 pub mod Walks
 pub mod Stretches
 pub mod Nodes

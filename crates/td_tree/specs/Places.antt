@@ -16,7 +16,7 @@ use Rattle.td_brackets.specs.Brackets.{Level, Entry, move_all, slot_of, rows_of,
 use Rattle.td_tree.specs.declared.tree_row.RowState.TheVariants.{Node, InArray}
 use Rattle.td_doc.specs.Answers.{is_rooted}
 use Rattle.td_doc.specs.Insertion.{insert_atom, insert_run}
-use Rattle.td_tree.specs.Parts.{RowValue, Parts, table, state_at, tokens_of, doc_rows, IsTree}
+use Rattle.td_tree.specs.Parts.{RowValue, Parts, table, state_at, tokens_of, doc_rows, node_items, IsTree}
 
 -- a place in the slot, before an item or at the end, before which each row stands before an atom x of the slot
 pub record IsPlace (p : Parts) (slot : Slot) (x : AtomIdValue) (at : Option ℕ) : Type 0 where
@@ -55,6 +55,7 @@ IsNotSmaller p id name =
 -- a new row in brackets of its own, at a place
 pub record IsPut (p q : Parts) (at : Option ℕ) (id : AtomIdValue) (atom : List ℕ) : Type 0 where
   pub rows : q.rows ≡ p.rows ++ record { entry = record { id = id; atom = atom; deletes = [] }; state = Node } ∷ []
+  pub items : q.items ≡ put_at at (node_items (length p.rows) [] []) p.items
   pub nodes : q.nodes ≡ p.nodes + 1
   pub there : (slot : Slot) → IsNewPlace p slot id at → IsTrue (is_rooted (doc_rows p) slot)
       → IsTree q × (doc_rows q ≡ insert_atom slot id atom (doc_rows p))

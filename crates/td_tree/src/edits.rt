@@ -1,13 +1,17 @@
 // What inserts do in turn: find a place, and put rows there.
 ghost use Rattle.std.specs.Prelude.{◌≡◌, ◌+◌, IsTrue, IsNone, IfOk, IfErr, OnOk, OnErr};
+ghost use Rattle.std.specs.Option.{ForSome};
 ghost use Rattle.td_doc.specs.Document.{find_row};
 ghost use Rattle.td_doc.specs.Answers.{IsFresh, IsSlotFault, is_rooted};
 ghost use Rattle.td_doc.specs.Insertion.{insert_atom, insert_run};
+ghost use Rattle.td_list.specs.Items.{IsItem, weight_of};
 ghost use Rattle.td_path.specs.declared.slot.Slot.{Slot};
 ghost use Rattle.td_tree.specs.Nodes.{AddsFewIn};
 ghost use Rattle.td_tree.specs.Places.{IsNewPlace, top_id};
 ghost use Rattle.td_tree.specs.Parts.{doc_rows, nodes_of, tokens};
+ghost use Rattle.td_tree.specs.Stretches.{items_up_to};
 
+use crate::last::Last;
 use crate::tree::Tree;
 use td_base::{Atom, AtomId, Dot, Memory, Run};
 use td_doc::DocFault;
@@ -35,6 +39,17 @@ impl Tree {
         }
     }
 
+    // The number of live rows before a place: right behind the row put last it is one more than before that row.
+    fn index_at(&self, at: Option<u32>) -> u32
+        requires there { ForSome at (λ x. IsItem x self.now.items) }
+        ensures { result ≡ weight_of (items_up_to at self.now.items) }
+    {
+        match self.last {
+            Some(last) if self.tokens.is_behind(last.row, at) => last.index + 1,
+            _ => self.tokens.index_at(at),
+        }
+    }
+
     /// Puts a new row at its place.
     pub(crate) fn put(&mut self, at: Option<u32>, id: AtomId, atom: Atom) -> Result<(), Memory>
         requires new { IsNone (find_row id (doc_rows self.old)) }
@@ -46,11 +61,13 @@ impl Tree {
         ensures nodes { OnOk result (nodes_of (tokens self.new) ≡ nodes_of (tokens self.old) + 1) }
         ensures err { OnErr result (self.new ≡ self.old) }
     {
+        let index = self.index_at(at);
         self.identities.make_room(id.dot)?;
         let row = self.tokens.next_row();
         self.tokens.put_row(at, id, atom)?;
         self.identities.put(id, row, 1);
         self.seen.add(id.dot);
+        self.last = Some(Last { id, row, index });
         Ok(())
     }
 
@@ -70,6 +87,7 @@ impl Tree {
         self.tokens.put_run(at, dot, run)?;
         self.identities.put(AtomId::of(dot), row, run.len());
         self.seen.add(dot);
+        self.last = None;
         Ok(())
     }
 }

@@ -1,9 +1,10 @@
 //! The fast document: its rows as one list of tokens with handles, so that no call walks a tree, however deep it is.
 //!
 //! `Tree` is the document. `tokens` keeps the tokens, the rows by number and the arrays of leaves; `explode` opens
-//! leaves on the way of an edit, `place` finds where a new row goes, `growth`, `deletion` and `flatten` change the
-//! rows, and `order`, `side`, `known` and `text` read them. Begin at `specs/Parts.antt`, which says what the parts of a
-//! tree are and what holds of them; what the tokens mean stands in `td_brackets`.
+//! leaves on the way of an edit, by the piece that `way` gathers; `place` finds where a new row goes, `growth`,
+//! `deletion` and `flatten` change the rows, and `order`, `side`, `known` and `text` read them; `last` is what a tree
+//! remembers of the row put last. Begin at `specs/Parts.antt`, which says what the parts of a tree are and what holds
+//! of them; what the tokens mean stands in `td_brackets`.
 #![tactic(auto)]
 
 mod deletes;
@@ -17,6 +18,7 @@ mod item_of;
 mod kept_atom;
 mod kept_state;
 mod known;
+mod last;
 mod leaf;
 mod lookup;
 mod order;

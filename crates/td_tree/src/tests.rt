@@ -4,6 +4,7 @@ ghost use Rattle.std.specs.Prelude.{◌≡◌, IfOk};
 mod drawn;
 mod large;
 mod runs;
+mod typing;
 
 use super::*;
 use std::alloc::Global;

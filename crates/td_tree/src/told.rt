@@ -1,15 +1,18 @@
 // What is told of a row.
-ghost use Rattle.std.specs.Prelude.{◌≡◌, ◌≢◌, ◌<◌, ◌++◌, ◌∷◌, [], List, Some, length};
+ghost use Rattle.std.specs.Prelude.{◌≡◌, ◌≢◌, ◌<◌, ◌+◌, ◌*◌, ◌++◌, ◌∷◌, [], List, Some, length, IsTrue};
+ghost use Rattle.std.specs.Option.{ForSome};
 ghost use Rattle.td_doc.specs.Document.{DocRow, find_row};
 ghost use Rattle.td_doc.specs.Slots.{own_slot};
 ghost use Rattle.td_doc.specs.Answers.{row_told, live_before};
 ghost use Rattle.td_list.specs.declared.item.Item.{Item};
-ghost use Rattle.td_list.specs.Items.{IsItem};
+ghost use Rattle.td_list.specs.Items.{IsItem, items_after, first_name, weight_of};
 ghost use Rattle.td_brackets.specs.Brackets.{move_all, slot_round};
-ghost use Rattle.td_tree.specs.declared.tree_row.RowState.TheVariants.{Gone};
+ghost use Rattle.td_tree.specs.declared.tree_row.RowState.TheVariants.{Node, Gone};
 ghost use Rattle.td_tree.specs.Parts.{state_at, table, tokens_of, doc_rows, IsTree};
+ghost use Rattle.td_tree.specs.Stretches.{items_up_to};
 ghost use Rattle.td_tree.specs.Walks.{StepsOver, ended_side};
 
+use crate::item_of::{atom_item, close_item};
 use crate::tokens::Tokens;
 use crate::tree_row::RowState;
 use td_base::{Atom, Bit};
@@ -18,14 +21,14 @@ use td_list::Sequence;
 use td_path::Slot;
 
 impl Tokens {
-    /// What is told of a row.
-    pub fn told(&self, row: u32) -> Row
+    /// What is told of a row, whose index is known.
+    pub fn told(&self, row: u32, index: u32) -> Row
         requires tree { IsTree self.now }
         requires row { row < length self.now.rows }
         requires stands { state_at self.now row ≢ Gone }
+        requires index { index ≡ live_before (table self.now row).id (doc_rows self.now) }
         ensures { row_told (doc_rows self.now) (table self.now row).id ≡ Some result }
     {
-        let index = self.index(row);
         let slot = self.own_slot(row);
         Row {
             id: self.id(row),
@@ -50,8 +53,8 @@ impl Tokens {
         self.row(row).deletes.as_slice().len() as u32
     }
 
-    // The number of live rows before a row.
-    fn index(&self, row: u32) -> u32
+    /// The number of live rows before a row.
+    pub fn index(&self, row: u32) -> u32
         requires tree { IsTree self.now }
         requires row { row < length self.now.rows }
         requires stands { state_at self.now row ≢ Gone }
@@ -59,6 +62,28 @@ impl Tokens {
     {
         let place = self.place_of(row);
         self.list.weight_before(place.name) + place.rest
+    }
+
+    /// The number of live rows before a place.
+    pub fn index_at(&self, at: Option<u32>) -> u32
+        requires there { ForSome at (λ x. IsItem x self.now.items) }
+        ensures { result ≡ weight_of (items_up_to at self.now.items) }
+    {
+        match at {
+            Some(name) => self.list.weight_before(name),
+            None => self.list.weight(),
+        }
+    }
+
+    /// Whether a place is right behind the atom of a row, on whose right nothing stands.
+    pub fn is_behind(&self, row: u32, at: Option<u32>) -> bool
+        requires tree { IsTree self.now }
+        requires row { row < length self.now.rows }
+        requires there { ForSome at (λ x. IsItem x self.now.items) }
+        ensures node { IsTrue result → state_at self.now row ≡ Node }
+        ensures next { IsTrue result → first_name (items_after (3 * row + 1) self.now.items) ≡ at }
+    {
+        at == Some(close_item(row).name) && self.next(atom_item(row, 0).name) == at
     }
 
     // The slot in which a row stands.

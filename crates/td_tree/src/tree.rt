@@ -8,6 +8,7 @@ ghost use Rattle.td_path.specs.declared.slot.Slot.TheVariants.{Root};
 ghost use Rattle.td_tree.specs.Nodes.{AddsFew, AddsFewIn};
 ghost use Rattle.td_tree.specs.Parts.{doc_rows, nodes_of, tokens};
 
+use crate::last::Last;
 use crate::tokens::Tokens;
 use std::alloc::Global;
 use std::marker::Model;
@@ -23,9 +24,13 @@ pub struct Tree {
     pub(crate) tokens: Tokens,
     pub(crate) identities: Identities,
     pub(crate) seen: Seen,
+    // none where a run was put since, or a row deleted
+    pub(crate) last: Option<Last>,
 }
 
 impl Model for Tree {
+    ghost use Rattle.std.specs.Prelude.{IfSome};
+    ghost use Rattle.td_tree.specs.Last.{IsLast};
     ghost use Rattle.td_tree.specs.Parts.{Parts};
     ghost use Rattle.td_tree.specs.Whole.{IsWhole};
 
@@ -33,7 +38,7 @@ impl Model for Tree {
 
     ghost view = { λ t. t.tokens };
 
-    ghost invariant = { λ t. IsWhole t.tokens t.identities t.seen };
+    ghost invariant = { λ t. IsWhole t.tokens t.identities t.seen × IfSome t.last (IsLast t.tokens t.identities) };
 }
 
 impl Tree {
@@ -53,6 +58,7 @@ impl Doc for Tree {
             tokens: Tokens::empty(alloc)?,
             identities: Identities::empty(alloc),
             seen: Seen::new(),
+            last: None,
         })
     }
 
@@ -101,6 +107,7 @@ impl Doc for Tree {
                 self.tokens.open_to(row)?;
                 self.tokens.delete_row(row, by)?;
                 self.seen.add(by);
+                self.last = None;
                 Ok(())
             }
             None => Err(DocFault::Gone { id }),
@@ -140,15 +147,18 @@ impl Doc for Tree {
     }
 
     fn live_at(&self, index: u32) -> Option<AtomId> {
-        match self.tokens.live_row(index) {
-            Some(row) => Some(self.tokens.id(row)),
-            None => None,
+        match self.last {
+            Some(last) if last.index == index => Some(last.id),
+            _ => match self.tokens.live_row(index) {
+                Some(row) => Some(self.tokens.id(row)),
+                None => None,
+            },
         }
     }
 
     fn find(&self, id: AtomId) -> Option<Row> {
         match self.number(id) {
-            Some(row) => Some(self.tokens.told(row)),
+            Some(row) => Some(self.tokens.told(row, self.index(row))),
             None => None,
         }
     }

@@ -144,7 +144,17 @@ fn texts_alike(rt: &impl Abort, alloc: Global, rows: &Rows, tree: &Tree) -> Resu
     Ok(())
 }
 
-// The edit of both documents.
+// What is told of a row, and the row at its index.
+fn told_alike(rt: &impl Abort, rows: &Rows, tree: &Tree, atom: AtomId) {
+    let expected = rows.find(atom);
+    assert_eq!(rt; tree.find(atom), expected);
+    if let Some(row) = expected {
+        let expected = rows.live_at(row.index);
+        assert_eq!(rt; tree.live_at(row.index), expected);
+    }
+}
+
+// The edit of both documents, and what is told then of what it put and of its atom.
 fn apply_to_both(rt: &impl Abort, rows: &mut Rows, tree: &mut Tree, edit: &Edit)
     requires rows { IsFresh rows.old edit.now.dot }
     requires tree { IsFresh (doc_rows tree.old) edit.now.dot }
@@ -153,6 +163,8 @@ fn apply_to_both(rt: &impl Abort, rows: &mut Rows, tree: &mut Tree, edit: &Edit)
 {
     let expected = apply(rows, edit);
     assert_eq!(rt; apply(tree, edit), expected);
+    told_alike(rt, rows, tree, AtomId::of(edit.dot));
+    told_alike(rt, rows, tree, edit.atom);
 }
 
 // All that is told, from time to time.

@@ -8,13 +8,20 @@ use Rattle.td_tree.specs.Parts.{Parts, table, doc_rows, IsTree}
 use Rattle.td_tree.specs.Places.{IsNewPlace}
 use Rattle.td_tree.proofs.Wholes.{open_whole, is_row_at}
 use Rattle.td_tree.proofs.LeafNodes.{few_root, few_at, opened_at}
+use Rattle.td_tree.proofs.LastRow.{open_last}
 use Rattle.td_tree.proofs.tree.Tree.place_in.Goals as goal
 
 pub invariant_of-self : goal.invariant_of-self
-invariant_of-self c = open_whole c.self.inside.tokens c.open_to.new.self c.self.inside.identities c.self.inside.seen c.self.invariant c.open_to.ensures.kept
+invariant_of-self c = (
+  open_whole c.self.inside.tokens c.open_to.new.self c.self.inside.identities c.self.inside.seen c.self.invariant.0 c.open_to.ensures.kept,
+  open_last c.self.inside.tokens c.open_to.new.self c.self.inside.identities c.self.inside.last c.open_to.ensures.kept c.self.invariant.1,
+)
 
 pub invariant_of-self-in-Some : goal.invariant_of-self-in-Some
-invariant_of-self-in-Some c = open_whole c.self.inside.tokens c.open_to.new.self c.self.inside.identities c.self.inside.seen c.self.invariant c.open_to.ensures.kept
+invariant_of-self-in-Some c = (
+  open_whole c.self.inside.tokens c.open_to.new.self c.self.inside.identities c.self.inside.seen c.self.invariant.0 c.open_to.ensures.kept,
+  open_last c.self.inside.tokens c.open_to.new.self c.self.inside.identities c.self.inside.last c.open_to.ensures.kept c.self.invariant.1,
+)
 
 pub returns-in_ok-open_to-in-Some-clause-place : goal.returns-in_ok-open_to-in-Some-clause-place
 returns-in_ok-open_to-in-Some-clause-place c =
@@ -28,7 +35,7 @@ returns-in_ok-open_to-in-Some-clause-rooted c =
     let e = c.in-Some.ensures in
     let p = c.args.self.now in
     subst (λ (slot : Slot). IsTrue (is_rooted (doc_rows p) slot)) (sym c.in-At.is)
-    (is_row_at p (subst IsTree c.self.view_is c.self.invariant.tree) c.in-Some.row e.known e.stands c.in-At.atom e.named)
+    (is_row_at p (subst IsTree c.self.view_is c.self.invariant.0.tree) c.in-Some.row e.known e.stands c.in-At.atom e.named)
 
 pub returns-in-Root-clause-nodes : goal.returns-in-Root-clause-nodes
 returns-in-Root-clause-nodes c = few_root c.args.self.now c.args.self.now c.args.slot 0 c.in-Root.is
@@ -37,10 +44,10 @@ pub returns-in_err-open_to-in-Some-clause-nodes : goal.returns-in_err-open_to-in
 returns-in_err-open_to-in-Some-clause-nodes c =
     let e = c.in-Some.ensures in
     few_at c.args.self.now c.open_to.new.self c.args.slot c.in-At.atom c.in-At.bit 0 c.in-At.is
-    (opened_at c.self.inside.tokens c.args.self.now c.open_to.new.self c.self.inside.identities c.self.inside.seen c.self.view_is c.self.invariant c.in-Some.row e.known e.stands c.in-At.atom e.named c.open_to.ensures.kept.tree c.open_to.ensures.few)
+    (opened_at c.self.inside.tokens c.args.self.now c.open_to.new.self c.self.inside.identities c.self.inside.seen c.self.view_is c.self.invariant.0 c.in-Some.row e.known e.stands c.in-At.atom e.named c.open_to.ensures.kept.tree c.open_to.ensures.few)
 
 pub returns-in_ok-open_to-in-Some-clause-nodes : goal.returns-in_ok-open_to-in-Some-clause-nodes
 returns-in_ok-open_to-in-Some-clause-nodes c =
     let e = c.in-Some.ensures in
     few_at c.args.self.now c.open_to.new.self c.args.slot c.in-At.atom c.in-At.bit 0 c.in-At.is
-    (opened_at c.self.inside.tokens c.args.self.now c.open_to.new.self c.self.inside.identities c.self.inside.seen c.self.view_is c.self.invariant c.in-Some.row e.known e.stands c.in-At.atom e.named c.open_to.ensures.kept.tree c.open_to.ensures.few)
+    (opened_at c.self.inside.tokens c.args.self.now c.open_to.new.self c.self.inside.identities c.self.inside.seen c.self.view_is c.self.invariant.0 c.in-Some.row e.known e.stands c.in-At.atom e.named c.open_to.ensures.kept.tree c.open_to.ensures.few)

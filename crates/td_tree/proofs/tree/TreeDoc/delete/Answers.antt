@@ -1,4 +1,5 @@
 use Rattle.std.proofs.Common.{◌∙◌, List, sym, ap, subst, arith}
+use Rattle.std.specs.Prelude.{IfSome}
 use Rattle.td_base.specs.Value.{AtomIdValue}
 use Rattle.td_doc.specs.Document.{DocRow}
 use Rattle.td_doc.specs.Deletion.{delete}
@@ -7,21 +8,30 @@ use Rattle.td_tree.specs.Whole.{IsWhole}
 use Rattle.td_tree.proofs.Wholes.{open_whole, deleted_whole, is_row_at}
 use Rattle.td_tree.specs.Nodes.{AddsFew}
 use Rattle.td_tree.proofs.LeafNodes.{opened_at, few_more}
+use Rattle.td_tree.specs.Last.{IsLast}
+use Rattle.td_tree.proofs.LastRow.{open_last}
 use Rattle.td_tree.proofs.tree.TreeDoc.delete.Goals as goal
 
 pub invariant_of-self : goal.invariant_of-self
-invariant_of-self c = open_whole c.self.inside.tokens c.open_to.new.self c.self.inside.identities c.self.inside.seen c.self.invariant c.open_to.ensures.kept
+invariant_of-self c = (
+  open_whole c.self.inside.tokens c.open_to.new.self c.self.inside.identities c.self.inside.seen c.self.invariant.0 c.open_to.ensures.kept,
+  open_last c.self.inside.tokens c.open_to.new.self c.self.inside.identities c.self.inside.last c.open_to.ensures.kept c.self.invariant.1,
+)
 
 pub invariant_of-self-in_err-delete_row-in-Some : goal.invariant_of-self-in_err-delete_row-in-Some
 invariant_of-self-in_err-delete_row-in-Some c =
-    subst (λ (p : Parts). IsWhole p c.self.inside.identities c.self.inside.seen) (sym c.in_err-delete_row-in-Some.ensures.err)
-    (open_whole c.self.inside.tokens c.open_to.new.self c.self.inside.identities c.self.inside.seen c.self.invariant c.open_to.ensures.kept)
+    subst (λ (p : Parts). IsWhole p c.self.inside.identities c.self.inside.seen × IfSome c.self.inside.last (IsLast p c.self.inside.identities)) (sym c.in_err-delete_row-in-Some.ensures.err) (
+      open_whole c.self.inside.tokens c.open_to.new.self c.self.inside.identities c.self.inside.seen c.self.invariant.0 c.open_to.ensures.kept,
+      open_last c.self.inside.tokens c.open_to.new.self c.self.inside.identities c.self.inside.last c.open_to.ensures.kept c.self.invariant.1,
+    )
 
 pub invariant_of-self-in-Some : goal.invariant_of-self-in-Some
-invariant_of-self-in-Some c =
-    deleted_whole c.open_to.new.self c.delete_row.new.self c.self.inside.identities c.self.inside.seen c.add.new.self c.in-Some.row c.args.by
-    (open_whole c.self.inside.tokens c.open_to.new.self c.self.inside.identities c.self.inside.seen c.self.invariant c.open_to.ensures.kept)
-    c.in_ok-delete_row-in-Some.ensures.ok c.add.ensures.kept c.add.ensures.added
+invariant_of-self-in-Some c = (
+  deleted_whole c.open_to.new.self c.delete_row.new.self c.self.inside.identities c.self.inside.seen c.add.new.self c.in-Some.row c.args.by
+      (open_whole c.self.inside.tokens c.open_to.new.self c.self.inside.identities c.self.inside.seen c.self.invariant.0 c.open_to.ensures.kept)
+      c.in_ok-delete_row-in-Some.ensures.ok c.add.ensures.kept c.add.ensures.added,
+  tt,
+)
 
 pub returns-in_ok-delete_row-in-Some-clause-ok : goal.returns-in_ok-delete_row-in-Some-clause-ok
 returns-in_ok-delete_row-in-Some-clause-ok c =
@@ -29,7 +39,7 @@ returns-in_ok-delete_row-in-Some-clause-ok c =
     let e = c.in-Some.ensures in
     let k = c.open_to.ensures.kept in
     let d = c.in_ok-delete_row-in-Some.ensures.ok in (
-      is_row_at p (subst IsTree c.self.view_is c.self.invariant.tree) c.in-Some.row e.known e.stands c.args.id e.named,
+      is_row_at p (subst IsTree c.self.view_is c.self.invariant.0.tree) c.in-Some.row e.known e.stands c.args.id e.named,
       d.rows ∙ ap (λ (rows : List DocRow). delete (table c.open_to.new.self c.in-Some.row).id c.args.by rows) (k.rows ∙ ap doc_rows c.self.view_is)
           ∙ ap (λ (x : AtomIdValue). delete x c.args.by (doc_rows p)) ((λ i. (k.entries i c.in-Some.row).id) ∙ ap (λ (q : Parts). (table q c.in-Some.row).id) c.self.view_is ∙ e.named),
     )
@@ -37,14 +47,14 @@ returns-in_ok-delete_row-in-Some-clause-ok c =
 pub returns-in_err-open_to-in-Some-clause-nodes : goal.returns-in_err-open_to-in-Some-clause-nodes
 returns-in_err-open_to-in-Some-clause-nodes c =
     let e = c.in-Some.ensures in
-    opened_at c.self.inside.tokens c.args.self.now c.open_to.new.self c.self.inside.identities c.self.inside.seen c.self.view_is c.self.invariant c.in-Some.row e.known e.stands c.args.id e.named
+    opened_at c.self.inside.tokens c.args.self.now c.open_to.new.self c.self.inside.identities c.self.inside.seen c.self.view_is c.self.invariant.0 c.in-Some.row e.known e.stands c.args.id e.named
     c.open_to.ensures.kept.tree c.open_to.ensures.few
 
 pub returns-in_err-delete_row-in-Some-clause-nodes : goal.returns-in_err-delete_row-in-Some-clause-nodes
 returns-in_err-delete_row-in-Some-clause-nodes c =
     let e = c.in-Some.ensures in
     subst (λ (p : Parts). AddsFew c.args.self.now p c.args.id 0) (sym c.in_err-delete_row-in-Some.ensures.err)
-    (opened_at c.self.inside.tokens c.args.self.now c.open_to.new.self c.self.inside.identities c.self.inside.seen c.self.view_is c.self.invariant c.in-Some.row e.known e.stands c.args.id e.named
+    (opened_at c.self.inside.tokens c.args.self.now c.open_to.new.self c.self.inside.identities c.self.inside.seen c.self.view_is c.self.invariant.0 c.in-Some.row e.known e.stands c.args.id e.named
     c.open_to.ensures.kept.tree c.open_to.ensures.few)
 
 pub returns-in_ok-delete_row-in-Some-clause-nodes : goal.returns-in_ok-delete_row-in-Some-clause-nodes
@@ -55,5 +65,5 @@ returns-in_ok-delete_row-in-Some-clause-nodes c =
     let now = d.tree.counted in
     let same = d.nodes in
     few_more c.args.self.now c.open_to.new.self c.delete_row.new.self c.args.id 0
-    (opened_at c.self.inside.tokens c.args.self.now c.open_to.new.self c.self.inside.identities c.self.inside.seen c.self.view_is c.self.invariant c.in-Some.row e.known e.stands c.args.id e.named
+    (opened_at c.self.inside.tokens c.args.self.now c.open_to.new.self c.self.inside.identities c.self.inside.seen c.self.view_is c.self.invariant.0 c.in-Some.row e.known e.stands c.args.id e.named
     c.open_to.ensures.kept.tree c.open_to.ensures.few) (omega arith)
