@@ -4,7 +4,7 @@ ghost use Rattle.std.specs.List.{concat};
 use crate::code_point::code_point;
 use std::alloc::Global;
 use td_base::{Atom, Memory};
-use td_script::Atoms;
+use td_script::AtomList;
 
 /// What stands before the comment of a line.
 pub(crate) fn before_comment(line: &str) -> &str {
@@ -16,8 +16,8 @@ pub(crate) fn before_comment(line: &str) -> &str {
 
 /// What stands between one break of the sample and the next. `None` where it is no sample, or has a cluster that is no
 /// atom.
-pub(crate) fn clusters_of(alloc: Global, sample: &str) -> Result<Option<Atoms>, Memory> {
-    let mut clusters = Atoms::new(alloc);
+pub(crate) fn clusters_of(alloc: Global, sample: &str) -> Result<Option<AtomList>, Memory> {
+    let mut clusters = AtomList::new(alloc);
     let Some(inner) = between_outer_breaks(sample) else {
         return Ok(None);
     };
@@ -48,21 +48,21 @@ fn cluster_of(alloc: Global, words: &str) -> Result<Option<Atom>, Memory> {
 }
 
 /// The text that the atoms make up.
-pub(crate) fn text_of(alloc: Global, atoms: &[Atom]) -> Result<String, Memory>
+pub(crate) fn text_of(alloc: Global, atoms: &AtomList) -> Result<String, Memory>
     ensures { IfOk result (λ text. string_bytes text ≡ concat atoms.now) }
 {
     let mut text = String::new(alloc);
-    for atom in atoms {
+    for atom in atoms.iter() {
         text.push_str(str::from_utf8(atom.bytes()).unwrap())?;
     }
     Ok(text)
 }
 
 /// The sample that breaks between these atoms.
-pub(crate) fn sample_of(alloc: Global, atoms: &[Atom]) -> Result<String, Memory> {
+pub(crate) fn sample_of(alloc: Global, atoms: &AtomList) -> Result<String, Memory> {
     let mut sample = String::from_str(alloc, "÷")?;
-    for atom in atoms {
-        push_cluster(&mut sample, atom)?;
+    for atom in atoms.iter() {
+        push_cluster(&mut sample, &atom)?;
         sample.push_str(" ÷")?;
     }
     Ok(sample)

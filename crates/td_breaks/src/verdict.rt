@@ -1,11 +1,11 @@
-ghost use Rattle.std.specs.Prelude.{◌≡◌, ◌↔◌, true, IfOk};
+ghost use Rattle.std.specs.Prelude.{◌≡◌, ◌↔◌, true, IfOk, IsTrue};
 ghost use Rattle.std.specs.List.{concat};
 ghost use Rattle.unicode_segmentation.specs.Grapheme.{graphemes};
 ghost use Rattle.td_breaks.specs.declared.verdict.Verdict.TheVariants.{Same};
 
 use crate::sample::{before_comment, clusters_of, sample_of, text_of};
 use std::alloc::Global;
-use td_script::{Atoms, CutFault, cut};
+use td_script::{AtomList, CutFault, cut};
 
 /// What comes of a line.
 #[derive(Debug, Drop)]
@@ -33,14 +33,21 @@ pub(crate) fn judge(alloc: Global, line: &str) -> Result<Verdict, CutFault> {
 }
 
 // Cuts the text that the clusters make up, and compares.
-fn compare(alloc: Global, clusters: &Atoms) -> Result<Verdict, CutFault>
+fn compare(alloc: Global, clusters: &AtomList) -> Result<Verdict, CutFault>
     ensures { IfOk result (λ verdict. (verdict ≡ Same) ↔ (graphemes true (concat clusters.now) ≡ clusters.now)) }
 {
-    let text = text_of(alloc, clusters.as_slice())?;
+    let text = text_of(alloc, clusters)?;
     let atoms = cut(alloc, &text)?;
-    if atoms.as_slice() == clusters.as_slice() {
+    if are_same(&atoms, clusters) {
         return Ok(Verdict::Same);
     }
-    let found = sample_of(alloc, atoms.as_slice())?;
+    let found = sample_of(alloc, &atoms)?;
     Ok(Verdict::Otherwise(found))
+}
+
+// Whether the lists have the same atoms.
+fn are_same(a: &AtomList, b: &AtomList) -> bool
+    ensures { IsTrue result ↔ (a.now ≡ b.now) }
+{
+    a.lengths() == b.lengths() && a.bytes() == b.bytes()
 }

@@ -5,8 +5,7 @@ use std::alloc::Global;
 use std::fmt::Write;
 use std::process::Abort;
 use std::test::Fail;
-use td_base::Atom;
-use td_script::Command;
+use td_script::{AtomList, Command};
 
 #[test]
 fn the_words_are_those_of_pcg32(rt: HostRuntime) {
@@ -26,7 +25,7 @@ fn line_of(alloc: Global, command: &Command) -> Result<String, Fail> {
         Command::Ins { site, index, atoms } => {
             let site = site.number();
             write!(line, "ins {site} {index} ")?;
-            push_text(&mut line, atoms.as_slice())?;
+            push_text(&mut line, atoms)?;
         }
         Command::Del { site, index, count } => {
             let site = site.number();
@@ -42,8 +41,8 @@ fn line_of(alloc: Global, command: &Command) -> Result<String, Fail> {
     Ok(line)
 }
 
-fn push_text(line: &mut String, atoms: &[Atom]) -> Result<(), Fail> {
-    for atom in atoms {
+fn push_text(line: &mut String, atoms: &AtomList) -> Result<(), Fail> {
+    for atom in atoms.iter() {
         line.push_str(str::from_utf8(atom.bytes()).unwrap())?;
     }
     Ok(())

@@ -9,35 +9,35 @@ ghost use Rattle.td_world.specs.World.{size};
 
 use crate::outcome::{Outcome, is_made};
 use crate::player::Player;
-use crate::runs::{first_run, run_of};
-use td_base::{Atom, Memory, Site};
+use crate::runs::runs_of;
+use td_base::{Memory, Site};
 use td_doc::Doc;
 use td_op::Request;
 use td_report::{del_line, ins_line, paste_line};
-use td_script::Atoms;
+use td_script::AtomList;
 use td_world::World;
 
 impl<D: Doc> Player<D> {
     /// Inserts each cluster right behind the one before.
-    pub(crate) fn insert(&mut self, site: Site, index: u32, atoms: &Atoms) -> Result<(), Memory>
+    pub(crate) fn insert(&mut self, site: Site, index: u32, atoms: &AtomList) -> Result<(), Memory>
         requires { site ≤ size self.old.world }
         ensures { OnOk result (self.new ≡ and_then self.old (ins site index atoms.now self.old.world)) }
     {
         let all = atoms.len();
-        let outcome = insert_all(&mut self.world, site, index, atoms.as_slice())?;
+        let outcome = insert_all(&mut self.world, site, index, atoms)?;
         let line = ins_line(self.alloc, site, outcome.done, all, outcome.refused)?;
         self.print(&line)?;
         Ok(())
     }
 
     /// Pastes the clusters in runs, each right behind the one before.
-    pub(crate) fn paste(&mut self, site: Site, index: u32, atoms: &Atoms) -> Result<(), Memory>
+    pub(crate) fn paste(&mut self, site: Site, index: u32, atoms: &AtomList) -> Result<(), Memory>
         requires site { site ≤ size self.old.world }
         requires each { All IsAtom atoms.now }
         ensures { OnOk result (self.new ≡ and_then self.old (paste site index atoms.now self.old.world)) }
     {
         let all = atoms.len();
-        let outcome = paste_all(&mut self.world, site, index, atoms.as_slice())?;
+        let outcome = paste_all(&mut self.world, site, index, atoms)?;
         let line = paste_line(self.alloc, site, outcome.done, all, outcome.refused)?;
         self.print(&line)?;
         Ok(())
@@ -59,7 +59,7 @@ fn insert_all<D: Doc>(
     world: &mut World<D>,
     site: Site,
     index: u32,
-    atoms: &[Atom],
+    atoms: &AtomList,
 ) -> Result<Outcome, Memory>
     requires site { site ≤ size world.old }
     requires few { length atoms.now < 2 ^ 32 }
@@ -67,8 +67,8 @@ fn insert_all<D: Doc>(
 {
     let mut index = index;
     let mut done = 0;
-    for atom in atoms {
-        let reply = world.call(site, Request::Insert { index, atom: *atom })?;
+    for atom in atoms.iter() {
+        let reply = world.call(site, Request::Insert { index, atom })?;
         if !is_made(&reply) {
             return Ok(Outcome::refused(done, reply));
         }
@@ -82,7 +82,7 @@ fn paste_all<D: Doc>(
     world: &mut World<D>,
     site: Site,
     index: u32,
-    atoms: &[Atom],
+    atoms: &AtomList,
 ) -> Result<Outcome, Memory>
     requires site { site ≤ size world.old }
     requires each { All IsAtom atoms.now }
@@ -91,18 +91,14 @@ fn paste_all<D: Doc>(
 {
     let mut index = index;
     let mut done = 0;
-    let mut rest = atoms;
-    while !rest.is_empty() {
-        let count = first_run(rest);
-        let (run, others) = rest.split_at(count);
-        let run = run_of(run);
+    for run in runs_of(atoms) {
+        let len = u32::from(run.len());
         let reply = world.call(site, Request::Paste { index, run })?;
         if !is_made(&reply) {
             return Ok(Outcome::refused(done, reply));
         }
-        done += count as u32;
-        index = behind(index, count as u32)?;
-        rest = others;
+        done += len;
+        index = behind(index, len)?;
     }
     Ok(Outcome::all(done))
 }

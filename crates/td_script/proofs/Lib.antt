@@ -1,3 +1,4 @@
+pub mod AtomListLemmas
 pub mod Numbers
 pub mod Splitting
 pub mod NumberWords

@@ -10,3 +10,4 @@ pub use Rattle.td_base.specs.Atom
 pub mod Faults
 pub mod Script
 pub mod Answers
+pub mod AtomListParts

@@ -3,7 +3,7 @@ ghost use Rattle.unicode_segmentation.specs.Grapheme.{graphemes};
 ghost use Rattle.td_base.specs.Atom.{IsAtom};
 ghost use Rattle.td_script.specs.Texts.{IsCutFault};
 
-use crate::atoms::Atoms;
+use crate::atom_list::AtomList;
 use std::alloc::Global;
 use td_base::{Atom, Memory};
 use thiserror::Error;
@@ -31,12 +31,12 @@ impl From<Memory> for CutFault {
 }
 
 /// Cuts the text into extended grapheme clusters (UAX #29), an atom for each.
-pub fn cut(alloc: Global, text: &str) -> Result<Atoms, CutFault>
+pub fn cut(alloc: Global, text: &str) -> Result<AtomList, CutFault>
     ensures ok { IfOk result (λ atoms. atoms ≡ graphemes true text.now) }
     ensures atoms { IfOk result (All IsAtom) }
     ensures fault { IfErr result (IsCutFault (graphemes true text.now)) }
 {
-    let mut atoms = Atoms::new(alloc);
+    let mut atoms = AtomList::new(alloc);
     for cluster in text.graphemes(true) {
         match Atom::new(cluster.as_bytes()) {
             Ok(atom) => atoms.push(atom)?,

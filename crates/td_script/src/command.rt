@@ -1,4 +1,4 @@
-use crate::atoms::Atoms;
+use crate::atom_list::AtomList;
 use td_base::{Bit, Dot, Site};
 
 /// A command of a script. An index counts live atoms from 0, a message counts from 1.
@@ -12,13 +12,13 @@ pub enum Command {
     Ins {
         site: Site,
         index: u32,
-        atoms: Atoms,
+        atoms: AtomList,
     },
     /// `paste R I "text"`: inserts the clusters of the text in runs.
     Paste {
         site: Site,
         index: u32,
-        atoms: Atoms,
+        atoms: AtomList,
     },
     /// `del R I K`: deletes at the index, so many times.
     Del {

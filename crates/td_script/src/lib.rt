@@ -7,7 +7,7 @@
 #![tactic(auto)]
 
 mod argument;
-mod atoms;
+mod atom_list;
 mod before;
 mod clusters;
 mod command;
@@ -16,18 +16,20 @@ mod kind;
 mod language;
 mod laws;
 mod line;
+mod listed_atoms;
 mod number;
 mod quoted;
 mod read_line;
 mod script;
 mod word;
 
-pub use atoms::Atoms;
+pub use atom_list::AtomList;
 pub use clusters::{CutFault, cut};
 pub use command::{Command, Place};
 pub use commands::Commands;
 pub use kind::{Kind, ScriptFault};
 pub use laws::{scripts_have_no_fault, spelled_scripts_are_unique, written_scripts_are_read_again};
+pub use listed_atoms::ListedAtoms;
 pub use number::{MAX_DIGITS, number_of};
 pub use script::{
     MAX_LINE, MAX_MIDDLE_REQUESTS, MAX_SCRIPT, MAX_WIDE_REQUESTS, MAX_WIDE_SCRIPT, Script,

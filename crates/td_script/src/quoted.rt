@@ -4,14 +4,14 @@ ghost use Rattle.td_script.specs.Arguments.{behind, last, text_at};
 ghost use Rattle.td_script.specs.Texts.{unescaped, unquoted};
 
 use crate::argument::argument;
-use crate::atoms::Atoms;
+use crate::atom_list::AtomList;
 use crate::clusters::{CutFault, cut};
 use crate::kind::{Kind, LineFault};
 use std::alloc::Global;
 use td_base::Memory;
 
 /// The text in quotes that is the last argument of a line, in clusters.
-pub(crate) fn last_text(alloc: Global, rest: &str) -> Result<Atoms, LineFault>
+pub(crate) fn last_text(alloc: Global, rest: &str) -> Result<AtomList, LineFault>
     ensures { IsLineAnswer (behind (text_at rest.now) last) result }
 {
     let argument = argument(rest)?;

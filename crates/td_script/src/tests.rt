@@ -1,2 +1,3 @@
+mod atom_list;
 mod clusters;
 mod script;

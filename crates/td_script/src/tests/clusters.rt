@@ -51,11 +51,11 @@ fn is_cut_at_its_bars(rt: &impl Abort, alloc: Global, sample: &str) -> Result<()
     }
     let atoms = cut(alloc, &text)?;
     assert_eq!(rt;
-        atoms.as_slice().len(),
+        atoms.len() as usize,
         sample.split('|').count(),
         "at {sample:?}"
     );
-    for (atom, part) in atoms.as_slice().iter().zip(sample.split('|')) {
+    for (atom, part) in atoms.iter().zip(sample.split('|')) {
         assert_eq!(rt; atom.bytes(), part.as_bytes(), "at {sample:?}");
     }
     Ok(())

@@ -185,8 +185,8 @@ fn the_text_of_an_insert_is_cut_into_clusters(rt: HostRuntime) -> Result<(), Fai
         "\u{1f469}\u{200d}\u{1f469}\u{200d}\u{1f467}",
         "!",
     ];
-    assert_eq!(rt; atoms.as_slice().len(), wanted.len());
-    for (atom, wanted) in atoms.as_slice().iter().zip(wanted) {
+    assert_eq!(rt; atoms.len() as usize, wanted.len());
+    for (atom, wanted) in atoms.iter().zip(wanted) {
         assert_eq!(rt; atom.bytes(), wanted.as_bytes(), "at {wanted:?}");
     }
     Ok(())

@@ -1,43 +1,44 @@
-use Rattle.std.proofs.Common.{◌≡◌, ◌-◌, ℕ, true, ap, sym, subst, ◌∙◌, arith, rules, List, length, take, drop}
-use Rattle.std.specs.Prelude.{All}
-use Rattle.std.proofs.lemmas.List.Elements.{All-drop}
-use Rattle.std.proofs.lemmas.List.{length-drop}
-use Rattle.td_base.specs.Atom.{IsAtom}
+use Rattle.std.proofs.Common.{◌≡◌, ◌∷◌, ◌∙◌, ℕ, List, true, ap, sym, refl, arith, rules, length, length-append}
+use Rattle.std.specs.List.{flat_map}
 use Rattle.td_op.specs.declared.request.Request.TheVariants.{Paste}
 use Rattle.td_world.specs.World.{moved, reply_to}
 use Rattle.td_world.specs.Calls.{ask}
-use Rattle.td_run.specs.Asking.{ask_all, pastes, is_made}
+use Rattle.td_run.specs.Asking.{ask_all, done_before, is_made, pastes}
 use Rattle.td_run.specs.Runs.{runs_of}
-use Rattle.td_run.proofs.NextEdits.{pasted}
-use Rattle.td_run.proofs.RunLemmas.{first_is_run}
+use Rattle.td_run.proofs.NextEdits.{none_before, pasted}
+use Rattle.td_run.proofs.RunLemmas.{atoms_of_runs}
 use Rattle.td_run.proofs.edits.paste_all.Goals as goal
 
-pub run_of-run-requires-clause-run : goal.run_of-run-requires-clause-run
-run_of-run-requires-clause-run g c =
-    let run = first_is_run c.loop-rest.rest.now c.first_run-count.result c.loop-rest.invariant.each c.first_run-count.ensures.first in
-    search (rules, run)
+abbrev atoms_in : List (List (List ℕ)) → ℕ
+atoms_in runs = length (flat_map (λ (run : List (List ℕ)). run) runs)
 
-pub loop-rest-preserved : goal.loop-rest-preserved
-loop-rest-preserved g c =
-    let run_is : c.run_of-run.result ≡ take c.first_run-count.result c.loop-rest.rest.now = search rules in
-    let others_are : c.split_at.result.1.now ≡ drop c.first_run-count.result c.loop-rest.rest.now = search rules in
-    let made : is_made (reply_to (ask c.args.site (Paste c.loop-rest.index c.run_of-run.result)) c.loop-rest.world) ≡ true = search rules in
-    let after : c.call.new.self ≡ moved (ask c.args.site (Paste c.loop-rest.index c.run_of-run.result)) c.loop-rest.world = search rules in
+pub loop-run-init : goal.loop-run-init
+loop-run-init g c =
+    let atoms : List (List ℕ) = c.args.atoms.now in
+    let all : c.into_iter-run-iterator.result ≡ runs_of atoms = search rules in
     record {
-      same = search rules;
-      asked = pasted c.args.site c.loop-rest.index c.first_run-count.result c.loop-rest.done c.in_ok-index.index
-          c.loop-rest.rest.now c.run_of-run.result c.split_at.result.1.now c.loop-rest.world c.call.new.self
-          (ask_all c.args.site (pastes c.args.index (runs_of c.args.atoms.now)) c.args.world.now)
-          c.first_run-count.ensures.within c.first_run-count.ensures.first run_is others_are made after
-          c.in_ok-index.ensures c.loop-rest.invariant.asked;
-      each = subst (λ (l : List (List ℕ)). All IsAtom l) (sym others_are)
-          (All-drop IsAtom c.first_run-count.result c.loop-rest.rest.now c.loop-rest.invariant.each);
-      counted = search rules;
+      can = tt;
+      ends = tt;
+      same = refl;
+      asked = none_before (ask_all c.args.site (pastes c.args.index (runs_of atoms)) c.args.world.now)
+          ∙ ap (λ (runs : List (List (List ℕ))). done_before 0 (ask_all c.args.site (pastes c.args.index runs) c.args.world.now)) (sym all);
+      counted = omega (arith, ap atoms_in all, ap length (atoms_of_runs atoms));
     }
 
-pub loop-rest-smaller : goal.loop-rest-smaller
-loop-rest-smaller g c =
-    let others_are : c.split_at.result.1.now ≡ drop c.first_run-count.result c.loop-rest.rest.now = search rules in
-    let size : length c.split_at.result.1.now ≡ length c.loop-rest.rest.now - c.first_run-count.result =
-    ap length others_are ∙ length-drop c.first_run-count.result c.loop-rest.rest.now in
-    omega (arith, size, c.first_run-count.ensures.some, c.first_run-count.ensures.within)
+pub loop-run-preserved : goal.loop-run-preserved
+loop-run-preserved g c =
+    let run : List (List ℕ) = c.in-Some.run' in
+    let rest : List (List (List ℕ)) = c.next.new.self in
+    let left : c.loop-run.run-iterator ≡ run ∷ rest = c.in-Some.ensures.steps in
+    let size : c.from-len.result ≡ length run = search rules in
+    let made : is_made (reply_to (ask c.args.site (Paste c.loop-run.index run)) c.loop-run.world) ≡ true = search rules in
+    let after : c.call.new.self ≡ moved (ask c.args.site (Paste c.loop-run.index run)) c.loop-run.world = search rules in
+    record {
+      can = tt;
+      ends = tt;
+      same = search rules;
+      asked = pasted c.args.site c.loop-run.index c.loop-run.done c.from-len.result c.in_ok-index.index run rest c.loop-run.run-iterator
+          c.loop-run.world c.call.new.self (ask_all c.args.site (pastes c.args.index (runs_of c.args.atoms.now)) c.args.world.now)
+          left made after size c.in_ok-index.ensures c.loop-run.invariant.asked;
+      counted = omega (arith, c.loop-run.invariant.counted, ap atoms_in left, size, length-append run (flat_map (λ (r : List (List ℕ)). r) rest));
+    }

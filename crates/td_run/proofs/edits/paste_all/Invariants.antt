@@ -1,19 +1,16 @@
-use Rattle.std.proofs.Common.{◌≡◌, ◌+◌, length}
-use Rattle.std.specs.Prelude.{All}
-use Rattle.td_base.specs.Atom.{IsAtom}
+use Rattle.std.proofs.Common.{◌≡◌, ◌+◌, List, ℕ, length}
+use Rattle.std.specs.List.{flat_map}
 use Rattle.td_world.specs.World.{size}
 use Rattle.td_run.specs.Asking.{ask_all, done_before, pastes}
 use Rattle.td_run.specs.Runs.{runs_of}
 use Rattle.td_run.proofs.edits.paste_all.Given as goal
 
-abbrev pub invariant-loop-rest : goal.invariant-loop-rest
-invariant-loop-rest g l = record {
+abbrev pub invariant-loop-run : goal.invariant-loop-run
+invariant-loop-run g l = record {
+  can : (goal.iterator-loop-run g).can_next l.run-iterator;
+  ends : (goal.iterator-loop-run g).is_finite l.run-iterator;
   same : size l.world ≡ size l.fn.world;
   asked : ask_all l.site (pastes l.fn.index (runs_of l.atoms)) l.fn.world
-      ≡ done_before l.done (ask_all l.site (pastes l.index (runs_of l.rest)) l.world);
-  each : All IsAtom l.rest;
-  counted : l.done + length l.rest ≡ length l.atoms;
+      ≡ done_before l.done (ask_all l.site (pastes l.index l.run-iterator) l.world);
+  counted : l.done + length (flat_map (λ (run : List (List ℕ)). run) l.run-iterator) ≡ length l.atoms;
 }
-
-abbrev pub decreases-loop-rest : goal.decreases-loop-rest
-decreases-loop-rest g l = length l.rest

@@ -11,7 +11,7 @@ returns g c =
     let a : Asked = ask_all c.args.site (inserts c.args.index c.args.atoms.now) p.world in
     let view = c.self.view_is in
     let asked_is : asked c.insert_all.new.world c.in_ok-outcome.outcome ≡ a =
-    c.in_ok-outcome.ensures ∙ (λ i. ask_all c.args.site (inserts c.args.index (c.as_slice.ensures i)) (view i).world) in
+    c.in_ok-outcome.ensures ∙ (λ i. ask_all c.args.site (inserts c.args.index c.args.atoms.now) (view i).world) in
     let line : c.in_ok-line.line ≡ ins_line c.args.site a.done (length c.args.atoms.now) a.refused =
     c.in_ok-line.ensures ∙ (λ i. ins_line c.args.site (asked_is i).done (c.len-all.ensures i) (asked_is i).refused) in
     told_quietly p c.print.new.self a.world (ins_line c.args.site a.done (length c.args.atoms.now) a.refused)

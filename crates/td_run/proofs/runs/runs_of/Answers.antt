@@ -1,0 +1,10 @@
+use Rattle.td_run.proofs.RunLemmas.{runs_kept}
+use Rattle.td_run.proofs.runs.runs_of.Goals as goal
+
+pub invariant_of-result : goal.invariant_of-result
+invariant_of-result c =
+    (runs_kept c.args.atoms.now c.lengths.result.now c.bytes.result.now c.requires.each c.requires.few c.lengths.ensures c.bytes.ensures).0
+
+pub returns : goal.returns
+returns c =
+    (runs_kept c.args.atoms.now c.lengths.result.now c.bytes.result.now c.requires.each c.requires.few c.lengths.ensures c.bytes.ensures).1
