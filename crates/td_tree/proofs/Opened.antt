@@ -15,13 +15,27 @@ use Rattle.td_brackets.proofs.Leaves.{explode}
 use Rattle.td_brackets.proofs.Once.{explode_brackets}
 use Rattle.td_tree.specs.declared.tree_row.RowState.{RowState}
 use Rattle.td_tree.specs.declared.tree_row.RowState.TheVariants.{Node, InArray, Gone}
-use Rattle.td_tree.specs.Parts.{RowValue, Parts, nobody, row_at, state_at, table, array_at, part, row_of_array, token_of, tokens_of, tokens, doc_rows, nodes_of, IsPart, IsToken, open_item, atom_item, close_item, leaf_item, leaf_items, node_items, Cut, OneLeaf, NoRows, InTwo, IsAt, IsTree, IsOpened}
+use Rattle.td_tree.specs.Parts.{RowValue, Parts, nobody, row_at, state_at, table, array_at, part, row_of_array, token_of, tokens_of, tokens, doc_rows, nodes_of, IsPart, IsToken, open_item, atom_item, close_item, leaf_item, leaf_items, node_items, Cut, OneLeaf, NoRows, InTwo, IsAt, IsTree}
 use Rattle.td_tree.proofs.ArrayParts.{part_in, part_length, part_halves, part_place}
 use Rattle.td_tree.proofs.ItemTokens.{leaf_token, tokens-append, Grows, Unmoved, part_stays, item_stays, tokens_stay}
 use Rattle.td_tree.proofs.Cuts.{cut_map}
 use Rattle.td_tree.proofs.Pieces.{nodes-append, leaf_word_numbers, leaf_word_nodes, open_is_token, close_is_token, live_is_token, leaf_items_tokens, leaf_items_are, leaf_items_weigh, leaf_items_apart, leaf_items_name, leaf_items_in, node_items_tokens, node_items_in, node_items_names, node_items_weigh, OtherRows, node_items_apart}
 use Rattle.td_tree.proofs.Numbers.{number_inside, stands_once}
 use Rattle.td_tree.proofs.Trees.{array_index, own_number}
+
+-- a leaf opened: its middle row is a node, with what stood before it and after it as leaves
+pub record IsOpened (p q : Parts) (a from n : ℕ) : Type 0 where
+  pub tree : IsTree q
+  pub rows : doc_rows q ≡ doc_rows p
+  pub entries : table q ≡ table p
+  pub long : length q.rows ≡ length p.rows
+  pub node : state_at q (row_of_array p a (from + n / 2)) ≡ Node
+  pub others : (r : ℕ) → r ≢ row_of_array p a (from + n / 2) → row_at q r ≡ row_at p r
+  pub arrays : q.arrays ≡ p.arrays
+  pub before : 0 < n / 2 → IsPart q a from (n / 2) × In (leaf_item q a from (n / 2)) q.items
+  pub after : 0 < n - n / 2 - 1 → IsPart q a (from + n / 2 + 1) (n - n / 2 - 1)
+      × In (leaf_item q a (from + n / 2 + 1) (n - n / 2 - 1)) q.items
+  pub nodes : q.nodes ≡ p.nodes + 1
 
 node_no_array : (a i : ℕ) → Node ≡ InArray a i → ⊥
 node_no_array a i e = cc

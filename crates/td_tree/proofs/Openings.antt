@@ -7,9 +7,10 @@ use Rattle.td_base.proofs.Lists.{In-front, In-back, In-map, across}
 use Rattle.td_brackets.specs.Brackets.{Token, Leaf, Entry, numbers_at, numbers_of}
 use Rattle.td_tree.specs.declared.stretch.Stretch.{Stretch}
 use Rattle.td_tree.specs.declared.tree_row.RowState.TheVariants.{Node, InArray, Gone}
-use Rattle.td_tree.specs.Parts.{RowValue, Parts, state_at, array_at, part, row_of_array, table, token_of, tokens, IsPart, leaf_item, IsTree, IsOpened, IsMoreOpen}
+use Rattle.td_tree.specs.Parts.{RowValue, Parts, state_at, array_at, part, row_of_array, table, token_of, tokens, IsPart, leaf_item, IsTree, IsMoreOpen}
 use Rattle.td_tree.proofs.ArrayParts.{part_in, part_length}
 use Rattle.td_tree.proofs.ItemTokens.{leaf_token}
+use Rattle.td_tree.proofs.Opened.{IsOpened}
 
 pub not_opened : (p : Parts) → IsTree p → IsMoreOpen p p
 not_opened p t = record { tree = t; rows = refl; entries = refl; long = refl; gone = λ r e. e }

@@ -8,10 +8,10 @@ use Rattle.td_list.specs.Items.{IsItem, AreApart, items_before, items_after, wei
 use Rattle.td_list.proofs.Names.{weight-append, apart-parts, apart-front, apart-back, item-append, item-front}
 use Rattle.td_tree.specs.declared.stretch.Stretch.{Stretch}
 use Rattle.td_tree.specs.declared.tree_row.RowState.TheVariants.{Node}
-use Rattle.td_tree.specs.Parts.{RowValue, Parts, nobody, row_of_array, leaf_item, leaf_items, atom_item, open_item, close_item, node_items, IsPart, IsTree, IsOpened}
+use Rattle.td_tree.specs.Parts.{RowValue, Parts, nobody, row_of_array, leaf_item, leaf_items, atom_item, open_item, close_item, node_items, IsPart, IsTree}
 use Rattle.td_tree.specs.Ways.{nodes_at, opened_items, leaf_name, with_way, IsWay}
 use Rattle.td_tree.proofs.Lists.{PartedAt}
-use Rattle.td_tree.proofs.Opened.{is_opened, top_below}
+use Rattle.td_tree.proofs.Opened.{IsOpened, is_opened, top_below}
 use Rattle.td_tree.proofs.Opening.{parted_tree, more_nodes}
 use Rattle.td_tree.proofs.Pieces.{node_items_weigh, leaf_items_weigh}
 use Rattle.td_tree.proofs.Openings.{IsOnTheWay, begins, opened_more, goes_half, arrives, arrives_few}

@@ -195,20 +195,6 @@ pub record IsTree (p : Parts) : Type 0 where
   pub light : weight_of p.items ≤ length p.rows
   pub most : length p.rows ≤ 2 ^ 30
 
--- a leaf of these parts opened: its middle row is a node, with what stood before it and after it as leaves
-pub record IsOpened (p q : Parts) (a from n : ℕ) : Type 0 where
-  pub tree : IsTree q
-  pub rows : doc_rows q ≡ doc_rows p
-  pub entries : table q ≡ table p
-  pub long : length q.rows ≡ length p.rows
-  pub node : state_at q (row_of_array p a (from + n / 2)) ≡ Node
-  pub others : (r : ℕ) → r ≢ row_of_array p a (from + n / 2) → row_at q r ≡ row_at p r
-  pub arrays : q.arrays ≡ p.arrays
-  pub before : 0 < n / 2 → IsPart q a from (n / 2) × In (leaf_item q a from (n / 2)) q.items
-  pub after : 0 < n - n / 2 - 1 → IsPart q a (from + n / 2 + 1) (n - n / 2 - 1)
-      × In (leaf_item q a (from + n / 2 + 1) (n - n / 2 - 1)) q.items
-  pub nodes : q.nodes ≡ p.nodes + 1
-
 -- the same rows, and some more of them in brackets
 pub record IsMoreOpen (p q : Parts) : Type 0 where
   pub tree : IsTree q
