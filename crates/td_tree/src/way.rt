@@ -1,5 +1,5 @@
 // What comes in place of a leaf that is opened down to one of its rows.
-ghost use Rattle.std.specs.Prelude.{◌≡◌, ◌<◌, ◌+◌, ◌^◌, ◌++◌, ◌∷◌, [], length, take, drop, vec_len, vec_capacity, IfOk, OnOk, Option};
+ghost use Rattle.std.specs.Prelude.{◌≡◌, ◌<◌, ◌+◌, ◌^◌, ◌++◌, ◌∷◌, [], length, take, drop, IfOk, OnOk, Option};
 ghost use Rattle.td_tree.specs.Parts.{node_items, option_items};
 
 use crate::item_of::{atom_item, close_item, open_item};
