@@ -1,9 +1,7 @@
 -- How an `Atom` keeps its bytes.
-use Rattle.std.proofs.Common.{Result, Ok, Err, Some, ◌≡◌, ◌<◌, ◌≤◌, ◌-◌, ◌++◌, ℕ, List, length, take, drop, replicate, refl, sym, ap, ◌∙◌, arith, length-append}
+use Rattle.std.proofs.Common.{◌≡◌, ◌<◌, ◌≤◌, ◌-◌, ◌++◌, ℕ, List, length, take, drop, replicate, refl, sym, ap, ◌∙◌, arith, length-append}
 use Rattle.std.proofs.lemmas.List.{length-replicate, drop-replicate, take_at}
 use Rattle.std.specs.Str.{IsUtf8}
-use Rattle.std.specs.Result.{OkIff, result_ok}
-use Rattle.td_base.specs.Atom.{IsAtom}
 use Rattle.td_base.specs.AtomParts.{IsAtomParts, padded_with_zeros}
 
 padded_parts : (bytes : List ℕ) → 0 < length bytes → length bytes ≤ 64 → IsUtf8 bytes → IsAtomParts (length bytes) (padded_with_zeros bytes)
@@ -24,9 +22,3 @@ parts_of bytes copied zeros some short text same all =
     let array : copied ++ drop (length bytes) zeros ≡ padded_with_zeros bytes =
     λ i. same i ++ (ap (λ (z : List ℕ). drop (length bytes) z) all ∙ drop-replicate (length bytes) 64 0) i in
     rw array (padded_parts bytes some short text)
-
--- the bytes of an atom are read as the atom
-pub atom_read : {E : Type 0} (answer : Result (List ℕ) E) (piece atom : List ℕ) → OkIff answer (IsAtom piece) piece → piece ≡ atom
-    → IsAtom atom → result_ok answer ≡ Some atom
-atom_read (Ok x) piece atom h same is = ap Some (h.1 ∙ same)
-atom_read (Err e) piece atom h same is = absurd (h (rw same is))

@@ -9,5 +9,6 @@ pub mod RunPieces
 pub mod SameRuns
 pub mod FirstAtom
 pub mod RunIds
+pub mod OnlyAtom
 pub mod Orders
 pub mod Equals

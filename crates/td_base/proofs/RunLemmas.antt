@@ -11,6 +11,7 @@ use Rattle.std.proofs.lemmas.List.Elements.{All-head, All-tail, All-cons, All-ni
 use Rattle.td_base.specs.declared.atom.TheConstants.{MAX_ATOM_LEN}
 use Rattle.td_base.specs.declared.run.TheConstants.{MAX_RUN_LEN}
 use Rattle.td_base.specs.Atom.{IsAtom}
+use Rattle.td_base.specs.AtomParts.{padded_with_zeros}
 use Rattle.td_base.specs.Run.{IsRun}
 use Rattle.td_base.specs.RunParts.{IsRunParts, atoms_of, before_first, ends_of, bytes_of}
 
@@ -173,18 +174,16 @@ write_next atoms atom bytes start end kept at long within =
     let size : left ≡ MAX_RUN_LEN - length (done ++ atom) = omega (arith, length-append done atom) in
     rw (front, behind, whole, size) (sym (append_assoc done atom _))
 
--- one atom, copied to the front of an array of zeros
-pub one_parts : (w : ℕ) (atom copied zeros : List ℕ) → IsAtom atom → length atom ≤ w → copied ≡ atom → zeros ≡ replicate MAX_RUN_LEN 0
-    → IsRunParts (copied ++ drop (length atom) zeros) (1 * 2 ^ (length atom - 1) % 2 ^ w)
-    × (atoms_of (1 * 2 ^ (length atom - 1) % 2 ^ w) (copied ++ drop (length atom) zeros) ≡ atom ∷ [])
-one_parts w atom copied zeros is within same all =
+-- one atom, in an array with zeros behind it
+pub one_parts : (w : ℕ) (atom bytes : List ℕ) → IsAtom atom → length atom ≤ w → bytes ≡ padded_with_zeros atom
+    → IsRunParts bytes (1 * 2 ^ (length atom - 1) % 2 ^ w) × (atoms_of (1 * 2 ^ (length atom - 1) % 2 ^ w) bytes ≡ atom ∷ [])
+one_parts w atom bytes is within padded =
     let run : IsRun (atom ∷ []) = record {
       some = omega arith;
       short = rw append-nil (is.short);
       each = All-cons IsAtom atom [] is (All-nil IsAtom);
     } in
-    let array : copied ++ drop (length atom) zeros ≡ bytes_of (atom ∷ []) =
-    rw (append-nil, same, all) (ap (λ (z : List ℕ). atom ++ z) (drop-replicate (length atom) MAX_RUN_LEN 0)) in
+    let array : bytes ≡ bytes_of (atom ∷ []) = rw append-nil padded in
     parts_of (atom ∷ []) _ _ run array (one_shl (length atom - 1) w (omega (arith, is.some)) ∙ omega arith)
 
 -- ---- the atom at a place

@@ -1,6 +1,7 @@
-ghost use Rattle.std.specs.Prelude.{◌≡◌, IfErr};
+ghost use Rattle.std.specs.Prelude.{◌≡◌, take, IfErr};
 ghost use Rattle.std.specs.Result.{OkIff};
 ghost use Rattle.td_base.specs.Atom.{IsAtom, IsAtomFault};
+ghost use Rattle.td_base.specs.AtomParts.{IsAtomParts, padded_with_zeros};
 
 use std::marker::Model;
 
@@ -61,12 +62,28 @@ impl Atom {
                 at: error.valid_up_to(),
             });
         }
+        Ok(Atom::of(bytes))
+    }
+
+    /// The atom with these bytes, which are known to be one: they are not looked through. Takes no memory.
+    pub fn of(bytes: &[u8]) -> Atom
+        requires { IsAtom bytes.now }
+        ensures { result ≡ bytes.now }
+    {
         let mut all = [0; MAX_ATOM_LEN];
-        all[..len].copy_from_slice(bytes);
-        Ok(Atom {
-            len: len as u8,
+        all[..bytes.len()].copy_from_slice(bytes);
+        Atom {
+            len: bytes.len() as u8,
             bytes: all,
-        })
+        }
+    }
+
+    // The atom of the first bytes, behind which are zeros.
+    pub(crate) fn padded_to(len: u8, bytes: &[u8; MAX_ATOM_LEN]) -> Atom
+        requires { IsAtomParts len bytes.now }
+        ensures { result ≡ take len bytes.now }
+    {
+        Atom { len, bytes: *bytes }
     }
 
     /// Its bytes, 1 to `MAX_ATOM_LEN` of them.
@@ -75,5 +92,12 @@ impl Atom {
         ensures atom { IsAtom self.now }
     {
         &self.bytes[..self.len as usize]
+    }
+
+    /// Its bytes, and zeros behind them.
+    pub fn padded(&self) -> &[u8; MAX_ATOM_LEN]
+        ensures { result.now ≡ padded_with_zeros self.now }
+    {
+        &self.bytes
     }
 }

@@ -51,6 +51,6 @@ impl<'a> Iterator for Atoms<'a> {
         let (atom, rest) = self.bytes.split_at(last as usize + 1);
         self.bytes = rest;
         self.ends = self.ends >> last >> 1;
-        Atom::new(atom).ok()
+        Some(Atom::of(atom))
     }
 }

@@ -1,4 +1,4 @@
-ghost use Rattle.std.specs.Prelude.{◌≡◌, ◌<◌, ◌-◌, ◌^◌, ◌++◌, ◌∷◌, [], length, map, replicate, sum, All, IfErr, slice_get};
+ghost use Rattle.std.specs.Prelude.{◌≡◌, ◌<◌, ◌-◌, ◌^◌, ◌++◌, ◌∷◌, ◌==◌, [], length, map, replicate, sum, All, IfErr, IfSome, None, if◌then◌else◌, slice_get};
 ghost use Rattle.std.specs.List.{concat};
 ghost use Rattle.std.specs.Result.{OkIff};
 ghost use Rattle.td_base.specs.Atom.{IsAtom};
@@ -52,12 +52,9 @@ impl Run {
     pub fn one(atom: Atom) -> Run
         ensures { result ≡ atom ∷ [] }
     {
-        let piece = atom.bytes();
-        let mut bytes = [0; MAX_RUN_LEN];
-        bytes[..piece.len()].copy_from_slice(piece);
         Run {
-            bytes,
-            ends: 1 << (piece.len() - 1),
+            bytes: *atom.padded(),
+            ends: 1 << (atom.bytes().len() - 1),
         }
     }
 
@@ -127,7 +124,19 @@ impl Run {
             ends >>= len;
         }
         let end = start + ends.trailing_zeros() as usize + 1;
-        Atom::new(&self.bytes[start..end]).ok()
+        Some(Atom::of(&self.bytes[start..end]))
+    }
+
+    /// The atom of a run that has no other.
+    pub fn only(&self) -> Option<Atom>
+        ensures only { result ≡ (if length self.now == 1 then slice_get self.now 0 else None) }
+        ensures run { IfSome result (λ atom. self.now ≡ atom ∷ []) }
+    {
+        let last = self.ends.trailing_zeros();
+        if self.ends >> last >> 1 != 0 {
+            return None;
+        }
+        Some(Atom::padded_to(last as u8 + 1, &self.bytes))
     }
 
     /// The atoms in their order.

@@ -32,6 +32,8 @@ fn an_atom_of_64_bytes_is_read_back(rt: HostRuntime) -> Result<(), Fail> {
     let letters = [b'a'; 64];
     let atom = Atom::new(&letters).ok().ok_or("64 letters")?;
     assert_eq!(rt; atom.bytes(), letters.as_slice());
+    assert_eq!(rt; atom.padded(), &letters);
+    assert_eq!(rt; Run::one(atom).only(), Some(atom));
     Ok(())
 }
 
@@ -51,7 +53,9 @@ fn a_run_of_64_letters_is_read_back(rt: HostRuntime) -> Result<(), Fail> {
     assert_eq!(rt; run.len(), 64);
     assert_eq!(rt; run.atom(63), Some(letter));
     assert_eq!(rt; run.atom(64), None);
+    assert_eq!(rt; run.only(), None);
     assert_eq!(rt; Run::new(&[letter]).ok(), Some(Run::one(letter)));
+    assert_eq!(rt; Run::one(letter).only(), Some(letter));
     Ok(())
 }
 
@@ -67,6 +71,7 @@ fn atoms_of_one_to_four_bytes_are_read_back(rt: HostRuntime) -> Result<(), Fail>
     assert_eq!(rt; run.len(), 4);
     for (i, atom) in atoms.iter().enumerate() {
         assert_eq!(rt; run.atom(i as u8), Some(*atom), "at {i}");
+        assert_eq!(rt; Run::one(*atom).only(), Some(*atom), "at {i}");
     }
     assert_eq!(rt;
         run.iter().collect::<Vec<Atom>>(rt.alloc())?.as_slice(),

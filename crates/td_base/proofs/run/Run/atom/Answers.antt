@@ -1,11 +1,10 @@
-use Rattle.std.proofs.Common.{arith, refl, sym, ◌∙◌, ◌≡◌, ◌<◌, [], length, take, drop, ℕ, ◌+◌, List, get_or}
+use Rattle.std.proofs.Common.{Some, ap, arith, refl, sym, ◌∙◌, ◌≡◌, ◌<◌, [], length, take, drop, ℕ, ◌+◌, List, get_or}
 use Rattle.std.specs.List.{concat}
 use Rattle.td_base.specs.Run.{IsRun}
 use Rattle.td_base.specs.RunParts.{ends_of, bytes_of}
 use Rattle.std.specs.Int.Count.{count_trailing_zeros}
 use Rattle.std.proofs.lemmas.Option.{slice_get-get_or}
 use Rattle.td_base.proofs.RunLemmas.{IsNextAtom, next_atom, atom_bytes}
-use Rattle.td_base.proofs.AtomLemmas.{atom_read}
 use Rattle.td_base.proofs.run.Run.atom.Goals as goal
 
 -- the atom behind those that were passed
@@ -50,10 +49,21 @@ overflow_add-end-2 c =
     let next = passed c.args.self.now c.loop.counter c.loop.start c.loop.ends c.len.ensures.run (omega arith) c.loop.invariant.start c.loop.invariant.ends in
     omega (arith, next.1, next.0.short)
 
-pub slice_bounds-new-end : goal.slice_bounds-new-end
-slice_bounds-new-end c =
+pub slice_bounds-of-end : goal.slice_bounds-of-end
+slice_bounds-of-end c =
     let next = passed c.args.self.now c.loop.counter c.loop.start c.loop.ends c.len.ensures.run (omega arith) c.loop.invariant.start c.loop.invariant.ends in
     omega (arith, next.1, next.0.short)
+
+pub of-requires : goal.of-requires
+of-requires c =
+    let atoms : List (List ℕ) = c.args.self.now in
+    let i : ℕ = c.args.i in
+    let here : c.loop.counter ≡ i = omega arith in
+    let start = rw here at c.loop.invariant.start in
+    let next = passed atoms i c.loop.start c.loop.ends c.len.ensures.run (omega arith) start (rw here at c.loop.invariant.ends) in
+    let kept : c.self.inside.bytes ≡ bytes_of atoms = rw (← c.self.view_is) c.self.invariant.bytes_again in
+    let end : ℕ = c.loop.start + count_trailing_zeros 64 c.loop.ends + 1 in
+    rw (atom_bytes atoms i c.loop.start end c.self.inside.bytes (omega arith) kept start (omega (arith, next.1, next.0.start))) next.0.is
 
 pub returns : goal.returns
 returns c =
@@ -65,4 +75,4 @@ returns c =
     let kept : c.self.inside.bytes ≡ bytes_of atoms = rw (← c.self.view_is) c.self.invariant.bytes_again in
     let end : ℕ = c.loop.start + count_trailing_zeros 64 c.loop.ends + 1 in
     let piece = atom_bytes atoms i c.loop.start end c.self.inside.bytes (omega arith) kept start (omega (arith, next.1, next.0.start)) in
-    c.ok.ensures.value ∙ atom_read c.new.result _ (get_or atoms i []) c.new.ensures.ok piece next.0.is ∙ sym (slice_get-get_or atoms i [] (omega arith))
+    ap Some (c.of.ensures ∙ piece) ∙ sym (slice_get-get_or atoms i [] (omega arith))
