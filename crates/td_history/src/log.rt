@@ -253,7 +253,7 @@ fn note(numbers: &mut Vec<u32>, index: &mut Index, number: u32, op: &Op)
 {
     numbers.push_reserved(number);
     index.push(number);
-    match op.body() {
+    match *op.body_ref() {
         Body::Commit { proposal } => index.decide(proposal, true),
         Body::Abort { proposal } => index.decide(proposal, false),
         Body::Insert { .. } | Body::Delete { .. } | Body::Propose { .. } => {}

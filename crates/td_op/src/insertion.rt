@@ -23,7 +23,7 @@ impl Insertion {
     pub fn of(op: &Op) -> Option<Insertion>
         ensures { result ≡ insertion_of op.now }
     {
-        match op.body() {
+        match *op.body_ref() {
             Body::Insert { slot, run } => Some(Insertion {
                 dot: op.dot(),
                 deps: *op.deps(),

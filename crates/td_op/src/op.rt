@@ -42,6 +42,18 @@ impl Op {
         Some(Op { dot, deps, body })
     }
 
+    /// The operation with these parts, which are known to make one.
+    pub fn of(dot: Dot, deps: &Vector, body: &Body) -> Op
+        requires { IsOp (record { dot = dot; deps = deps.now; body = body.now }) }
+        ensures { result ≡ record { dot = dot; deps = deps.now; body = body.now } }
+    {
+        Op {
+            dot,
+            deps: *deps,
+            body: *body,
+        }
+    }
+
     /// The name of the operation.
     pub fn dot(&self) -> Dot
         ensures dot { result ≡ self.now.dot }
@@ -64,5 +76,13 @@ impl Op {
         ensures op { IsOp self.now }
     {
         self.body
+    }
+
+    /// The same, lent: an insertion has some ninety bytes.
+    pub fn body_ref(&self) -> &Body
+        ensures body { result.now ≡ self.now.body }
+        ensures op { IsOp self.now }
+    {
+        &self.body
     }
 }

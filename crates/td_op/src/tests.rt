@@ -86,6 +86,8 @@ fn an_operation_is_read_back(rt: HostRuntime) -> Result<(), Fail> {
         assert_eq!(rt; op.dot(), dot(2, 3)?);
         assert_eq!(rt; *op.deps(), deps()?);
         assert_eq!(rt; op.body(), body);
+        assert_eq!(rt; *op.body_ref(), body);
+        assert_eq!(rt; Op::of(op.dot(), op.deps(), op.body_ref()), op);
     }
     Ok(())
 }

@@ -71,7 +71,7 @@ fn op_in_range(op: &Op)
 {
     dot_in_range(&op.dot());
     let _size = op.deps().size();
-    body_in_range(&op.body());
+    body_in_range(op.body_ref());
 }
 
 fn body_in_range(body: &Body)

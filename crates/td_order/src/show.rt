@@ -34,13 +34,13 @@ pub fn show_of(alloc: Global, ops: &[Op]) -> Result<Bytes, Memory>
 fn is_deleted(ops: &[Op], id: AtomId) -> bool
     ensures { result ≡ is_deleted ops.now id }
 {
-    ops.iter().any(|op| deletes(op.body(), id))
+    ops.iter().any(|op| deletes(op.body_ref(), id))
 }
 
-fn deletes(body: Body, id: AtomId) -> bool
-    ensures { result ≡ deletes id body }
+fn deletes(body: &Body, id: AtomId) -> bool
+    ensures { result ≡ deletes id body.now }
 {
-    match body {
+    match *body {
         Body::Delete { target } => target == id,
         Body::Insert { .. } | Body::Propose { .. } => false,
         Body::Commit { .. } | Body::Abort { .. } => false,

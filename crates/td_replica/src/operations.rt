@@ -113,7 +113,7 @@ impl<D: Doc> State<D> {
         ensures { result ≡ misfit op.now self.now.machine }
     {
         let dot = op.dot();
-        match op.body() {
+        match *op.body_ref() {
             Body::Insert { slot, .. } => self.slot_misfit(&slot),
             Body::Delete { target } => self.atom_misfit(target),
             Body::Propose { .. } => None,
@@ -234,7 +234,7 @@ impl<D: Doc> State<D> {
         ensures waiting { IfOk result (λ done. self.new.waiting ≡ self.old.waiting) }
         ensures err { OnErr result (IsAsBefore self.old self.new) }
     {
-        match op.body() {
+        match *op.body_ref() {
             Body::Propose { slot } => self.absorb_proposal(op, &slot, origin, reply),
             Body::Insert { .. } | Body::Delete { .. } | Body::Commit { .. } | Body::Abort { .. } =>
                 { self.absorb_change(op, origin, reply) }

@@ -13,7 +13,7 @@ pub(crate) fn same_op(a: &Op, b: &Op) -> bool
     if *a.deps() != *b.deps() {
         return false;
     }
-    same_body(&a.body(), &b.body())
+    same_body(a.body_ref(), b.body_ref())
 }
 
 fn same_body(a: &Body, b: &Body) -> bool

@@ -114,7 +114,7 @@ impl<D: Doc> State<D> {
         ensures { result ≡ next_op self.now.machine body.now }
     {
         let dot = Dot::new(self.site, self.made() + 1).unwrap();
-        Op::new(dot, self.have, *body).unwrap()
+        Op::of(dot, &self.have, body)
     }
 
     // Does to the document what the operation does to it, and tells what that does to the atoms shown. Where it finds
@@ -127,7 +127,7 @@ impl<D: Doc> State<D> {
         ensures err { OnErr result (self.new ≡ self.old) }
     {
         let dot = op.dot();
-        match op.body() {
+        match *op.body_ref() {
             Body::Insert { slot, run } => {
                 self.doc.insert_run(slot, dot, run).map_err(memory)?;
                 let index = live_before(&self.doc, AtomId::of(dot));
@@ -282,7 +282,7 @@ fn end_hold(holds: &mut Holds, past: &History, op: &Op)
     ensures commit_places { holds.old.commit_places ≤ holds.new.commit_places + 1 }
     ensures same_places { IsNone (committed op.now.body) → holds.old.commit_places ≤ holds.new.commit_places }
 {
-    match op.body() {
+    match *op.body_ref() {
         Body::Commit { proposal } => {
             holds.release(proposal);
             if let Some(slot) = past.proposed_slot(proposal) {
@@ -335,9 +335,9 @@ fn cut_of<D: Doc>(doc: &D, target: AtomId) -> Option<Change>
 fn put_at(index: u32, run: &Run) -> Change
     ensures { result ≡ put_at_index index run.now }
 {
-    match run.atom(0) {
-        Some(atom) if run.len() == 1 => Change::Put { index, atom },
-        _ => Change::PutRun { index, run: *run },
+    match run.only() {
+        Some(atom) => Change::Put { index, atom },
+        None => Change::PutRun { index, run: *run },
     }
 }
 

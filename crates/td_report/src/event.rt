@@ -21,7 +21,7 @@ pub fn event_line(alloc: Global, message: &Message) -> Result<Bytes, Memory>
             vote.proposal,
             vote_word(vote.yes),
         ),
-        Message::Op(op) => body_line(alloc, &op.body()),
+        Message::Op(op) => body_line(alloc, op.body_ref()),
     }
 }
 

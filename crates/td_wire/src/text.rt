@@ -18,7 +18,7 @@ impl Reader<'_> {
     {
         let bytes = self.rest;
         self.text(len)?;
-        Ok(Atom::new(&bytes[..len as usize]).ok().unwrap())
+        Ok(Atom::of(&bytes[..len as usize]))
     }
 
     // A text of `len` bytes.

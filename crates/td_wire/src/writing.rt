@@ -40,11 +40,11 @@ fn put_op(buffer: &mut Buffer, op: &Op)
     ensures bytes { buffer.new ≡ buffer.old ++ kind op.now.body ∷ op_bytes Two op.now }
     ensures can { IsMessage (Message.Op op.now) }
 {
-    let body = op.body();
-    buffer.push(kind_of(&body));
+    let body = op.body_ref();
+    buffer.push(kind_of(body));
     put_dot(buffer, op.dot());
     put_deps(buffer, op.deps());
-    put_body(buffer, &body);
+    put_body(buffer, body);
 }
 
 fn put_vote(buffer: &mut Buffer, vote: &Vote)

@@ -14,5 +14,5 @@ returns c = λ h.
     ∙ same_vector_true c.deps.result.now c.deps-2.result.now (not-false _ (sym c.ne-2.ensures ∙ c.if-ne-2.false))
     ∙ c.deps-2.ensures.deps in
     let bodies : c.args.a.now.body ≡ c.args.b.now.body =
-    sym c.body.ensures.body ∙ c.same_body.ensures h ∙ c.body-2.ensures.body in
+    sym c.body_ref.ensures.body ∙ c.same_body.ensures h ∙ c.body_ref-2.ensures.body in
     λ i. record { dot = dots i; deps = deps i; body = bodies i }
