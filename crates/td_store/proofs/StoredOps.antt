@@ -1,16 +1,14 @@
 -- Operations whose runs and dependencies stand in lists are those that were stored, also where more was added to the
 -- lists.
-use Rattle.std.proofs.Common.{◌≡◌, ◌<◌, ◌≤◌, ◌+◌, ◌-◌, ◌^◌, ◌++◌, ◌∷◌, [], ℕ, suc, zero, List, length, map, take, drop, get_or, false, not, refl, sym, ap, ◌∙◌, subst, arith, length-append, true≢false}
+use Rattle.std.proofs.Common.{◌≡◌, ◌<◌, ◌≤◌, ◌+◌, ◌-◌, ◌^◌, ◌++◌, ◌∷◌, [], ℕ, List, length, map, take, drop, get_or, refl, sym, ap, ◌∙◌, subst, arith, length-append}
 use Rattle.std.specs.Prelude.{Option, Some, None, slice_get}
-use Rattle.std.specs.Option.{option_map, option_eq, SomeIff}
+use Rattle.std.specs.Option.{option_map, IfSome, SomeIff}
 use Rattle.std.specs.List.{All}
-use Rattle.std.proofs.lemmas.Bool.{not-false}
 use Rattle.std.proofs.lemmas.List.{map-append, take-append-drop, get_or_append_left, set-get_or}
 use Rattle.std.proofs.lemmas.List.Elements.{All-tail, All-push}
 use Rattle.std.proofs.lemmas.Option.{slice_get-map, slice_get-get_or, slice_get_within, get_or_from_slice_get}
 use Rattle.std.proofs.Math.Seq.{get_or-append_seam}
-use Rattle.td_base.specs.Value.{DotValue}
-use Rattle.td_clock.proofs.VectorLemmas.{same_vector, same_vector_true}
+use Rattle.td_clock.specs.Vector.{vector_get, vector_set}
 use Rattle.td_op.specs.declared.body.Body.TheVariants.{Insert as InsertBody}
 use Rattle.td_op.specs.Op.{OpValue, IsOp}
 use Rattle.td_store.specs.declared.compact_body.CompactBody.{CompactBody}
@@ -22,12 +20,14 @@ use Rattle.td_store.specs.OpsParts.{body_of, HasRun, deps_of, op_of, IsKept, Are
 
 -- ---- the row of an operation
 
--- a row that was found to give the dependencies
-pub found_row : (rows : List (List ℕ)) (k : ℕ) (dot : DotValue) (deps : List ℕ) → not (option_eq same_vector (option_map (λ row. deps_of row dot) (slice_get rows k)) (Some deps)) ≡ false
-    → deps_of (get_or rows k []) dot ≡ deps
-found_row [] k dot deps h = absurd (true≢false h)
-found_row (row ∷ rows) zero dot deps h = same_vector_true (deps_of row dot) deps (not-false (same_vector (deps_of row dot) deps) h)
-found_row (row ∷ rows) (suc k) dot deps h = found_row rows k dot deps h
+-- a row that has the dependencies but at the site itself
+pub found_row : (rows : List (List ℕ)) (k : ℕ) (op : OpValue) (deps : List ℕ) (site : ℕ) → IsOp op
+    → deps ≡ op.deps → site ≡ op.dot.site
+    → IfSome (slice_get rows k) (λ row. vector_set row site (vector_get deps site) ≡ deps) × (k < length rows)
+    → deps_of (get_or rows k []) op.dot ≡ op.deps
+found_row rows k op deps site is same own found =
+    let before : op.dot.seq - 1 ≡ vector_get op.deps op.dot.site = omega (arith, is.next) in
+    rw before (rw (same, own) at (rw (slice_get-get_or rows k [] found.1) at found.0))
 
 -- the dependencies of an operation, as a row
 pub added_row : (rows : List (List ℕ)) (k : ℕ) (op : OpValue) → IsOp op → k ≡ length rows → deps_of (get_or (rows ++ op.deps ∷ []) k []) op.dot ≡ op.deps

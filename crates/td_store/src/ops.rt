@@ -101,7 +101,7 @@ impl Ops {
         ensures room { self.new.room + 1 ≡ self.old.room }
     {
         let row = row_for(&mut self.rows, &mut self.last_rows, op);
-        let body = CompactBody::of(&op.body(), &mut self.runs);
+        let body = CompactBody::of(op.body_ref(), &mut self.runs);
         let dot = CompactDot::of(op.dot());
         self.ops.push(CompactOp { dot, row, body }).unwrap();
         self.room -= 1;
@@ -154,9 +154,9 @@ fn row_for(rows: &mut Vectors, last_rows: &mut [u32; SITES], op: &Op) -> u32
     ensures size { rows.new.size ≡ rows.old.size }
     ensures room { rows.old.room ≤ rows.new.room + 1 }
 {
-    let dot = op.dot();
-    let last = &mut last_rows[dot.site.number() as usize - 1];
-    if deps_at(rows, *last, dot) != Some(*op.deps()) {
+    let site = op.dot().site;
+    let last = &mut last_rows[site.number() as usize - 1];
+    if !rows.has_but_at(*last, op.deps(), site) {
         *last = rows.len();
         rows.push(op.deps());
     }

@@ -1,8 +1,9 @@
-ghost use Rattle.std.specs.Prelude.{◌≡◌, ◌≤◌, ◌+◌, ◌∷◌, ◌++◌, [], length, slice_get, OnErr, OnOk, IfSome};
+ghost use Rattle.std.specs.Prelude.{◌≡◌, ◌<◌, ◌≤◌, ◌+◌, ◌∷◌, ◌++◌, [], length, slice_get, slice_index, slice_set, OnErr, OnOk, IfSome, IsTrue};
+ghost use Rattle.td_clock.specs.Vector.{vector_get, vector_set};
 
 use std::alloc::Global;
 use std::marker::Model;
-use td_base::{MAX_SITE, Memory};
+use td_base::{MAX_SITE, Memory, Site};
 use td_clock::Vector;
 
 /// A list of vectors of one size n in one array; a vector takes 2 n bytes. Room for more is made by `reserve` and used
@@ -85,10 +86,39 @@ impl Vectors {
         Some(Vector::of(&self.numbers[start..start + size]))
     }
 
+    /// Whether the vector at a place from 0 is this one, but that it may have any number for the site.
+    pub fn has_but_at(&self, k: u32, vector: &Vector, site: Site) -> bool
+        requires size { length vector.now ≡ self.now.size }
+        requires site { site ≤ self.now.size }
+        ensures { IsTrue result → IfSome (slice_get self.now.rows k) (λ row.
+            vector_set row site (vector_get vector.now site) ≡ vector.now) × (k < length self.now.rows) }
+    {
+        if k >= self.len {
+            return false;
+        }
+        let size = self.size as usize;
+        let start = k as usize * size;
+        let row = &self.numbers[start..start + size];
+        are_same_but_at(row, vector.numbers(), site.number() as usize - 1)
+    }
+
     /// How many vectors there are.
     pub fn len(&self) -> u32
         ensures { result ≡ length self.now.rows }
     {
         self.len
     }
+}
+
+// Whether the numbers are those, but at a place, where they may differ.
+fn are_same_but_at(numbers: &[u16], others: &[u16], place: usize) -> bool
+    requires { length numbers.now ≡ length others.now }
+    ensures { IsTrue result → slice_set numbers.now place (slice_index others.now place) ≡ others.now }
+{
+    for i in 0..numbers.len() {
+        if numbers[i] != others[i] && i != place {
+            return false;
+        }
+    }
+    true
 }

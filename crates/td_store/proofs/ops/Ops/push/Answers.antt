@@ -22,7 +22,7 @@ all_pushed c =
     rw (← c.self.view_is) (pushed c.self.inside.size c.self.inside.room _ _ c.self.inside.ops.items c.push.new.self.items c.self.inside.runs c.of-body.new.runs c.self.inside.rows c.row_for-row.new.rows stored c.args.op.now
     c.self.invariant (omega (arith, c.requires.room, room)) c.push.ensures.capacity extend items
     (just_stored c.self.inside.size c.row_for-row.new.rows.rows c.of-body.new.runs.runs stored c.args.op.now c.dot.ensures.op (c.requires.size ∙ sym size) (c.of-dot.ensures ∙ c.dot.ensures.dot)
-    c.row_for-row.ensures.within c.row_for-row.ensures.deps c.of-body.ensures.run (c.of-body.ensures.body ∙ c.body.ensures.body)))
+    c.row_for-row.ensures.within c.row_for-row.ensures.deps c.of-body.ensures.run (c.of-body.ensures.body ∙ c.body_ref.ensures.body)))
 
 pub invariant_of-self : goal.invariant_of-self
 invariant_of-self c = (all_pushed c).parts
