@@ -6,6 +6,9 @@ use std::alloc::Global;
 use std::marker::Model;
 use td_base::{AtomId, Memory};
 
+// Room is made for so many operations at a time: those of a site come one after another.
+const AHEAD: usize = 64;
+
 /// So many numbers, from the first on.
 #[derive(Clone, Copy, Debug)]
 pub struct Numbers {
@@ -129,7 +132,7 @@ impl Operations {
     {
         let seq = seq as usize;
         if self.rows.len() <= seq {
-            self.rows.resize(seq + 1, Numbers::new(0, 0))?;
+            self.rows.resize(seq + AHEAD, Numbers::new(0, 0))?;
         }
         Ok(())
     }

@@ -1,5 +1,6 @@
 -- Whether an item of a list is marked, where the list is changed at a place.
-use Rattle.std.proofs.Common.{◌≡◌, ℕ, List, [], ◌∷◌, ◌++◌, Bool, true, false, ◌||◌, take, drop, refl, sym, ap, ◌∙◌, take-append-drop}
+use Rattle.std.proofs.Common.{not, true≢false, ◌≡◌, ◌<◌, ℕ, zero, suc, length, get_or, set, arith, List, [], ◌∷◌, ◌++◌, Bool, true, false, ◌||◌, take, drop, refl, sym, ap, ◌∙◌, take-append-drop}
+use Rattle.std.proofs.Math.Bool.{beq}
 use Rattle.td_list.specs.declared.item.Item.{Item}
 use Rattle.td_list.specs.Items.{has_mark}
 
@@ -23,3 +24,18 @@ mark-put place items piece =
     swapped false true false = refl
     swapped false false true = refl
     swapped false false false = refl
+
+-- an item comes in the place of one that is marked like it
+pub mark-renew : (items : List Item) (place : ℕ) (item d : Item) → place < length items → item.marked ≡ (get_or items place d).marked
+    → has_mark items ≡ has_mark (set items place item)
+mark-renew [] place item d within same = absurd (omega (arith, within))
+mark-renew (x ∷ items) zero item d within same = ap (λ (b : Bool). b || has_mark items) (sym same)
+mark-renew (x ∷ items) (suc place) item d within same =
+    ap (λ (b : Bool). x.marked || b) (mark-renew items place item d (omega (arith, within)) same)
+
+-- marks that are not told apart are the same
+pub same_marks : (a b : Bool) → not (beq a b) ≡ false → a ≡ b
+same_marks true true e = refl
+same_marks true false e = absurd (true≢false e)
+same_marks false true e = absurd (true≢false e)
+same_marks false false e = refl

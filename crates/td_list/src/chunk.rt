@@ -144,7 +144,9 @@ impl Chunk {
         } else {
             let (over, more) = piece.split_at(to - from);
             self.put(to, more)?;
-            self.lay(from, to, over);
+            if from < to {
+                self.lay(from, to, over);
+            }
         }
         self.near = from;
         Ok(())
@@ -180,10 +182,13 @@ impl Chunk {
         requires light { weight_of self.old + item.weight < 2 ^ 32 + (get_or self.old place nothing).weight }
         ensures { self.new ≡ take place self.old ++ item ∷ drop (place + 1) self.old }
     {
-        self.weight -= self.items[place].weight;
+        let old = self.items[place];
+        self.weight -= old.weight;
         self.weight += item.weight;
         self.items[place] = item;
-        self.marked = has_mark(&self.items);
+        if item.marked != old.marked {
+            self.marked = has_mark(&self.items);
+        }
         self.near = place;
     }
 }

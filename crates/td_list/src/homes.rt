@@ -29,6 +29,9 @@ pub fn grow(homes: &mut Vec<u32>, items: &[Item]) -> Result<(), Memory>
     Ok(())
 }
 
+// Room is made for so many numbers at a time: who types makes new names one after another.
+const AHEAD: usize = 64;
+
 // Makes room for one number.
 fn reach(homes: &mut Vec<u32>, name: u32) -> Result<(), Memory>
     ensures old { (x : ℕ) → x < length homes.old.items
@@ -37,7 +40,7 @@ fn reach(homes: &mut Vec<u32>, name: u32) -> Result<(), Memory>
 {
     let name = name as usize;
     if homes.len() <= name {
-        homes.resize(name + 1, 0)?;
+        homes.resize(name + AHEAD, 0)?;
     }
     Ok(())
 }
