@@ -1,5 +1,6 @@
 ghost use Rattle.std.specs.Prelude.{◌≡◌, ◌++◌, ◌∷◌, ◌↔◌, [], length, map, IsTrue, OnOk, OnErr};
 ghost use Rattle.std.specs.List.{concat};
+ghost use Rattle.td_base.specs.Atom.{IsAtom};
 
 use crate::listed_atoms::ListedAtoms;
 use std::alloc::Global;
@@ -43,13 +44,21 @@ impl AtomList {
         ensures ok { OnOk result (self.new ≡ self.old ++ atom ∷ []) }
         ensures memory { OnErr result (self.new ≡ self.old) }
     {
+        self.push_bytes(atom.bytes())
+    }
+
+    /// Adds the atom with these bytes at the end.
+    pub(crate) fn push_bytes(&mut self, atom: &[u8]) -> Result<(), Memory>
+        requires { IsAtom atom.now }
+        ensures ok { OnOk result (self.new ≡ self.old ++ atom.now ∷ []) }
+        ensures memory { OnErr result (self.new ≡ self.old) }
+    {
         if self.lengths.len() >= u32::MAX as usize {
             return Err(Memory);
         }
-        let piece = atom.bytes();
         self.lengths.reserve(1)?;
-        self.bytes.extend_from_slice(piece)?;
-        self.lengths.push(piece.len() as u8).unwrap();
+        self.bytes.extend_from_slice(atom)?;
+        self.lengths.push(atom.len() as u8).unwrap();
         Ok(())
     }
 

@@ -5,7 +5,7 @@ ghost use Rattle.td_script.specs.Texts.{IsCutFault};
 
 use crate::atom_list::AtomList;
 use std::alloc::Global;
-use td_base::{Atom, Memory};
+use td_base::{MAX_ATOM_LEN, Memory};
 use thiserror::Error;
 use unicode_segmentation::UnicodeSegmentation;
 
@@ -38,10 +38,11 @@ pub fn cut(alloc: Global, text: &str) -> Result<AtomList, CutFault>
 {
     let mut atoms = AtomList::new(alloc);
     for cluster in text.graphemes(true) {
-        match Atom::new(cluster.as_bytes()) {
-            Ok(atom) => atoms.push(atom)?,
-            Err(_) => return Err(CutFault::Long { index: atoms.len() }),
+        let bytes = cluster.as_bytes();
+        if bytes.len() > MAX_ATOM_LEN {
+            return Err(CutFault::Long { index: atoms.len() });
         }
+        atoms.push_bytes(bytes)?;
     }
     Ok(atoms)
 }

@@ -50,6 +50,6 @@ impl<'a> Iterator for ListedAtoms<'a> {
         let (atom, rest) = self.bytes.split_at(*len as usize);
         self.lengths = lengths;
         self.bytes = rest;
-        Atom::new(atom).ok()
+        Some(Atom::of(atom))
     }
 }
