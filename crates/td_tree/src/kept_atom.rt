@@ -43,7 +43,7 @@ impl KeptAtom {
             return Ok(KeptAtom { kept });
         }
         let mut bytes = [0; SHORT];
-        bytes[..len].copy_from_slice(atom.bytes());
+        bytes.copy_from_slice(&atom.padded()[..SHORT]);
         let len = len as u8;
         let kept = Kept::Short { len, bytes };
         Ok(KeptAtom { kept })
@@ -64,6 +64,6 @@ impl KeptAtom {
     pub fn atom(&self) -> Atom
         ensures { result ≡ self.now }
     {
-        Atom::new(self.bytes()).unwrap()
+        Atom::of(self.bytes())
     }
 }

@@ -83,7 +83,7 @@ impl Doc for Tree {
         ensures err { OnErr result (doc_rows self.new ≡ doc_rows self.old) }
         ensures nodes { AddsFewIn self.old self.new slot 1 }
     {
-        if let Some(atom) = only_atom(&run) {
+        if let Some(atom) = run.only() {
             return self.insert(slot, AtomId::of(dot), atom);
         }
         let top = AtomId {
@@ -218,11 +218,4 @@ impl Doc for Tree {
     fn push_text(&self, text: &mut Bytes) -> Result<(), Memory> {
         self.tokens.push_text(text)
     }
-}
-
-// The atom of a run that has no other.
-fn only_atom(run: &Run) -> Option<Atom>
-    ensures { IfSome result (λ atom. run.now ≡ atom ∷ []) }
-{
-    if run.len() == 1 { run.atom(0) } else { None }
 }
