@@ -48,7 +48,7 @@ get_within [] k x e = absurd cc
 get_within (y ∷ xs) zero x e = omega arith
 get_within (y ∷ xs) (suc k) x e = let h : k < length xs = get_within xs k x e in omega (arith, h)
 
-same_some : {X : Type 0} (x y : X) → Some x ≡ Some y → x ≡ y
+pub same_some : {X : Type 0} (x y : X) → Some x ≡ Some y → x ≡ y
 same_some x y e = cc
 
 -- ---- what was passed over stays passed over

@@ -1,15 +1,19 @@
 -- How many messages need not be looked at again.
-use Rattle.std.proofs.Common.{◌≡◌, ◌<◌, ◌≤◌, ◌+◌, ◌-◌, ◌++◌, ℕ, zero, suc, List, [], ◌∷◌, Bool, true, false, not, ◌&&◌, if◌then◌else◌, nat_eq, length, set, get_or, drop, Some, refl, sym, ap, ◌∙◌, subst, true≢false, arith}
+use Rattle.std.proofs.Common.{◌≡◌, ◌<◌, ◌≤◌, ◌+◌, ◌-◌, ◌++◌, ℕ, zero, suc, List, [], ◌∷◌, Bool, true, false, not, ◌&&◌, ◌==◌, ◌≢◌, ⊎_elim, if◌then◌else◌, nat_eq, length, set, get_or, drop, Some, refl, sym, ap, ◌∙◌, subst, true≢false, arith}
 use Rattle.std.proofs.lemmas.Bool.{eqb-true, eqb-false, and_from}
-use Rattle.std.proofs.lemmas.List.{length-set}
+use Rattle.std.proofs.lemmas.Bool.Decides.{eqb_tells}
+use Rattle.std.proofs.lemmas.List.{length-set, append-nil}
 use Rattle.std.specs.List.{slice_get}
 use Rattle.td_op.specs.declared.message.Message.{Message}
+use Rattle.td_op.specs.declared.message.Message.TheVariants.{Op, Vote}
+use Rattle.td_machine.specs.History.{sender}
+use Rattle.td_replica.specs.declared.given.Given.{Given}
 use Rattle.td_replica.specs.Replica.{ReplicaValue}
 use Rattle.td_world.specs.declared.post.Post.{Post}
 use Rattle.td_world.specs.World.{WorldValue, machine_of, moved_all, is_for}
-use Rattle.td_world.specs.Calls.{is_known, is_wanted, give_moves, took, moves_of, given_of}
+use Rattle.td_world.specs.Calls.{is_known, is_wanted, give_moves, took, wanted_moves, wanted_given, moves_of, given_of}
 use Rattle.td_world.specs.Parts.{IsPassed, ArePassed, IsWorldParts, world_value}
-use Rattle.td_world.proofs.Kept.{get_found, set_there, set_value}
+use Rattle.td_world.proofs.Kept.{get_found, same_some, set_there, set_value}
 
 pub passed_at : (replicas : List ReplicaValue) (posts : List Post) (passed : List ℕ) → IsWorldParts replicas posts passed
     → (w : WorldValue) → world_value replicas posts ≡ w
@@ -23,9 +27,9 @@ passed_at replicas posts passed p w is site place count e some within k =
     (p.known place count (get_found passed place count (omega (arith, e, some, within, long)) k)))
 
 -- where a message is not wanted, it may be passed
-unwanted_passed : (site : ℕ) (message : Message) (w : WorldValue) → is_wanted site message w ≡ false
+unwanted_known : (site : ℕ) (message : Message) (w : WorldValue) → is_wanted site message w ≡ false
     → is_for site message ≡ true → is_known message (machine_of w site) ≡ true
-unwanted_passed site message w e to = at (is_known message (machine_of w site)) refl
+unwanted_known site message w e to = at (is_known message (machine_of w site)) refl
   where
     at : (b : Bool) → is_known message (machine_of w site) ≡ b → is_known message (machine_of w site) ≡ true
     at true f = f
@@ -33,21 +37,40 @@ unwanted_passed site message w e to = at (is_known message (machine_of w site)) 
         absurd (true≢false (sym (and_from (is_for site message) (not (is_known message (machine_of w site))) to
         (ap (λ (b : Bool). not b) f)) ∙ e))
 
-same_some : {X : Type 0} (x y : X) → Some x ≡ Some y → x ≡ y
-same_some x y e = cc
-
 pub get_less : {X : Type 0} (xs : List X) (k : ℕ) (x : X) → slice_get xs k ≡ Some x → k < length xs
 get_less [] k x e = absurd cc
 get_less (y ∷ xs) zero x e = omega arith
 get_less (y ∷ xs) (suc k) x e = let h : k < length xs = get_less xs k x e in omega (arith, h)
 
+pub unwanted_passed : (site k : ℕ) (message : Message) (w : WorldValue) → slice_get w.sent k ≡ Some message
+    → is_wanted site message w ≡ false → IsPassed site w k
+unwanted_passed site k message w sent unwanted = λ m f to.
+    let same : message ≡ m = same_some message m (sym sent ∙ f) in
+    subst (λ (z : Message). is_known z (machine_of w site) ≡ true) same
+    (unwanted_known site message w unwanted (subst (λ (z : Message). is_for site z ≡ true) (sym same) to))
+
+is_itself : (site : ℕ) → (site == site) ≡ true
+is_itself site =
+    ⊎_elim
+    (λ (same : ((site == site) ≡ true) × (site ≡ site)). same.0)
+    (λ (other : ((site == site) ≡ false) × (site ≢ site)). absurd (other.1 refl))
+    (eqb_tells site site)
+
+-- what a site sent is not for it
+own_is_not_for : (site : ℕ) (message : Message) → sender message ≡ site → is_for site message ≡ false
+own_is_not_for site (Op x) own = rw own (ap (λ (b : Bool). not b) (is_itself site))
+own_is_not_for site (Vote v) own = rw own (ap (λ (b : Bool). not b && v.proposal.site == site) (is_itself site))
+
+pub own_passed : (site k : ℕ) (w : WorldValue) → ((m : Message) → slice_get w.sent k ≡ Some m → sender m ≡ site)
+    → IsPassed site w k
+own_passed site k w own = λ m f to. absurd (true≢false (sym to ∙ own_is_not_for site m (own m f)))
+
 -- one more is passed
 pub parts_passed : (replicas : List ReplicaValue) (posts : List Post) (passed : List ℕ)
     → IsWorldParts replicas posts passed → (w : WorldValue) → world_value replicas posts ≡ w
     → (site place k : ℕ) → place ≡ site - 1 → 1 ≤ site → site ≤ length replicas → k ≡ get_or passed place k
-    → (message : Message) → slice_get w.sent k ≡ Some message → is_wanted site message w ≡ false
-    → IsWorldParts replicas posts (set passed place (k + 1))
-parts_passed replicas posts passed p w is site place k e some within at message sent unwanted =
+    → k < length w.sent → IsPassed site w k → IsWorldParts replicas posts (set passed place (k + 1))
+parts_passed replicas posts passed p w is site place k e some within at less next =
     record {
       world = p.world;
       standing = p.standing;
@@ -58,25 +81,18 @@ parts_passed replicas posts passed p w is site place k e some within at message 
     old : ArePassed site (world_value replicas posts) k
     old = passed_at replicas posts passed p (world_value replicas posts) refl site place k e some within at
 
-    sent_here : slice_get (world_value replicas posts).sent k ≡ Some message
-    sent_here = ap (λ (v : WorldValue). slice_get v.sent k) is ∙ sent
+    less_here : k < length (world_value replicas posts).sent
+    less_here = subst (λ (v : WorldValue). k < length v.sent) (sym is) less
 
-    unwanted_here : is_wanted site message (world_value replicas posts) ≡ false
-    unwanted_here = ap (λ (v : WorldValue). is_wanted site message v) is ∙ unwanted
+    next_here : IsPassed site (world_value replicas posts) k
+    next_here = subst (λ (v : WorldValue). IsPassed site v k) (sym is) next
 
     more : ArePassed site (world_value replicas posts) (k + 1)
-    more =
-        let less : k < length (world_value replicas posts).sent = get_less (world_value replicas posts).sent k message sent_here in
-        (omega (arith, less), (λ j below. each j below (nat_eq j k) refl))
+    more = (omega (arith, less_here), (λ j below. each j below (nat_eq j k) refl))
       where
         each : (j : ℕ) → j < k + 1 → (b : Bool) → nat_eq j k ≡ b → IsPassed site (world_value replicas posts) j
         each j below true h =
-            subst (λ (i : ℕ). IsPassed site (world_value replicas posts) i) (sym (eqb-true j k h))
-            (λ m f to.
-            let same : message ≡ m = same_some message m (sym sent_here ∙ f) in
-            subst (λ (z : Message). is_known z (machine_of (world_value replicas posts) site) ≡ true) same
-            (unwanted_passed site message (world_value replicas posts) unwanted_here
-            (subst (λ (z : Message). is_for site z ≡ true) (sym same) to)))
+            subst (λ (i : ℕ). IsPassed site (world_value replicas posts) i) (sym (eqb-true j k h)) next_here
         each j below false h = let other = eqb-false j k h in old.1 j (omega (arith, below, other))
 
     cases : (other count : ℕ) → (b : Bool) → nat_eq place other ≡ b → slice_get (set passed place (k + 1)) other ≡ Some count
@@ -102,6 +118,18 @@ not_wanted site message w h = at (is_for site message) refl
         ap (λ (b : Bool). b && not (is_known message (machine_of w site))) e
         ∙ ap (λ (b : Bool). not b) (h e)
     at false e = ap (λ (b : Bool). b && not (is_known message (machine_of w site))) e
+
+-- what a site sent is not given to it
+pub own_moves : (site : ℕ) (m : Message) (w : WorldValue) → sender m ≡ site → w ≡ moved_all (wanted_moves site m w) w
+own_moves site m w own =
+    let off : is_wanted site m w ≡ false = not_wanted site m w (λ to. absurd (true≢false (sym to ∙ own_is_not_for site m own))) in
+    rw off refl
+
+pub own_given : (site number : ℕ) (m : Message) (w : WorldValue) (given : List (ℕ × Given)) → sender m ≡ site
+    → given ≡ given ++ wanted_given site number m w
+own_given site number m w given own =
+    let off : is_wanted site m w ≡ false = not_wanted site m w (λ to. absurd (true≢false (sym to ∙ own_is_not_for site m own))) in
+    rw off (sym (append-nil given))
 
 -- the moves for messages of which some need not be looked at
 module _ (site : ℕ) (w : WorldValue) where

@@ -5,7 +5,7 @@ ghost use Rattle.td_base.specs.Lists.{In};
 ghost use Rattle.td_op.specs.declared.message.Message.{Message};
 ghost use Rattle.td_world.specs.World.{IsWorld, size, moved_all, is_for};
 ghost use Rattle.td_world.specs.Calls.{is_wanted, nexts_after, give_moves, took, found_moves, found_given, numbered_moves, numbered_given, wanted_moves, wanted_given, wanted_answer, offered, offer_moves, give_all_moves, give_all_given, IsCutShort};
-ghost use Rattle.td_world.specs.Parts.{ArePassed};
+ghost use Rattle.td_world.specs.Parts.{IsPassed, ArePassed};
 ghost use Rattle.td_world.specs.Promises.{NobodyReady, IsPromised};
 
 use crate::sites::place_of;
@@ -145,7 +145,8 @@ impl<D: Doc> World<D> {
         Ok(waiting)
     }
 
-    // Gives the message at the place, where it is wanted, and notes that with its number.
+    // Gives the message at the place, where it is wanted, and notes that with its number. One that the site sent itself
+    // is not looked at.
     fn note_given(
         &mut self,
         to: Site,
@@ -164,6 +165,10 @@ impl<D: Doc> World<D> {
             → IsCutShort (wanted_moves to m self.old) self.old self.new) }
         ensures world { IsWorld self.new }
     {
+        if self.is_from(to, k) {
+            self.pass_over(to, k);
+            return Ok(());
+        }
         let Some((_, message)) = self.at(k) else {
             return Ok(());
         };
@@ -212,12 +217,26 @@ impl<D: Doc> World<D> {
     fn pass_by(&mut self, to: Site, k: usize, message: &Message)
         requires within { to ≤ size self.old }
         requires sent { slice_get self.old.sent k ≡ Some message.now }
+        requires world { IsWorld self.old }
+        ensures world { IsWorld self.new }
+        ensures same { self.new ≡ self.old }
+    {
+        let known = !self.is_wanted(to, message);
+        if known {
+            self.pass_over(to, k);
+        }
+    }
+
+    // The message at the place need not be looked at again. Where none before it need be, that is noted.
+    fn pass_over(&mut self, to: Site, k: usize)
+        requires within { to ≤ size self.old }
+        requires sent { k < length self.old.sent }
+        requires passed { IsPassed to self.old k }
         ensures world { IsWorld self.new }
         ensures same { self.new ≡ self.old }
     {
         let place = place_of(to);
-        let known = !self.is_wanted(to, message);
-        if known && self.passed[place] == k {
+        if self.passed[place] == k {
             self.passed[place] = k + 1;
         }
     }

@@ -1,4 +1,4 @@
-ghost use Rattle.std.specs.Prelude.{◌≡◌, ◌<◌, ◌≤◌, ◌+◌, ◌-◌, ◌++◌, ℕ, length, map, true, false, vec_len, vec_capacity, IfOk, OnOk, OnErr, IfSome};
+ghost use Rattle.std.specs.Prelude.{◌≡◌, ◌<◌, ◌≤◌, ◌+◌, ◌-◌, ◌++◌, ℕ, length, map, true, false, vec_len, vec_capacity, IfOk, OnOk, OnErr, IfSome, IsTrue, Some};
 ghost use Rattle.std.specs.List.{slice_get};
 ghost use Rattle.std.specs.Option.{option_map};
 ghost use Rattle.td_base.specs.declared.site.TheConstants.{MAX_SITE};
@@ -96,6 +96,16 @@ impl<D: Doc> World<D> {
         match self.posts.get(k) {
             Some(post) => message_of(&self.replicas, post),
             None => None,
+        }
+    }
+
+    // Whether the site sent the message at a place from 0.
+    pub(crate) fn is_from(&self, site: Site, k: usize) -> bool
+        ensures { IsTrue result → (m : Message) → slice_get self.now.sent k ≡ Some m → sender m ≡ site }
+    {
+        match self.posts.get(k) {
+            Some(post) => post.site.number() == site.number(),
+            None => false,
         }
     }
 

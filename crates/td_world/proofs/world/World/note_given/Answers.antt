@@ -1,6 +1,19 @@
+use Rattle.std.proofs.Common.{◌+◌, ◌∙◌}
 use Rattle.td_world.proofs.Kept.{letter_get}
+use Rattle.td_world.proofs.Passed.{own_passed, own_moves, own_given}
 use Rattle.td_world.proofs.world.World.note_given.Goals as goal
 
 pub offer_at-requires-clause-sent : goal.offer_at-requires-clause-sent
 offer_at-requires-clause-sent g c =
     letter_get c.in-Some.field-0-0 c.in-Some.message c.args.k c.args.self.now.sent c.in-Some.ensures
+
+pub pass_over-requires-clause-passed : goal.pass_over-requires-clause-passed
+pass_over-requires-clause-passed g c = own_passed c.args.to c.args.k c.args.self.now (c.is_from.ensures c.if-is_from.true)
+
+pub returns-then-is_from-clause-given : goal.returns-then-is_from-clause-given
+returns-then-is_from-clause-given g c = λ m sent.
+    own_given c.args.to (c.args.k + 1) m c.args.self.now c.args.given.now.items (c.is_from.ensures c.if-is_from.true m sent)
+
+pub returns-then-is_from-clause-ok : goal.returns-then-is_from-clause-ok
+returns-then-is_from-clause-ok g c = λ m sent.
+    c.pass_over.ensures.same ∙ own_moves c.args.to m c.args.self.now (c.is_from.ensures c.if-is_from.true m sent)

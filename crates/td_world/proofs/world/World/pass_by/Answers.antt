@@ -1,22 +1,10 @@
-use Rattle.std.proofs.Common.{◌≡◌, ◌<◌, ◌≤◌, length, get_or, sym, ap, ◌∙◌, subst, arith}
-use Rattle.td_world.specs.World.{WorldValue, size}
-use Rattle.td_world.proofs.Kept.{as_many_posts}
-use Rattle.td_world.proofs.Passed.{get_less, parts_passed}
+use Rattle.std.proofs.Common.{sym}
+use Rattle.td_world.proofs.Passed.{get_less, unwanted_passed}
 use Rattle.td_world.proofs.world.World.pass_by.Goals as goal
 
-pub overflow_add-k : goal.overflow_add-k
-overflow_add-k g c =
-    let less : c.args.k < length c.args.self.now.sent = get_less c.args.self.now.sent c.args.k c.args.message.now c.requires.sent in
-    let long : length c.self.inside.posts.items ≡ length c.args.self.now.sent =
-    as_many_posts c.self.inside.replicas.items c.self.inside.posts.items c.self.inside.passed.items c.self.invariant
-    ∙ ap (λ (w : WorldValue). length w.sent) c.self.view_is in
-    omega (arith, less, long, c.self.inside.posts.ok.0, c.self.inside.posts.ok.1, c.self.inside.posts.small)
+pub pass_over-requires-clause-sent : goal.pass_over-requires-clause-sent
+pass_over-requires-clause-sent g c = get_less c.args.self.now.sent c.args.k c.args.message.now c.requires.sent
 
-pub invariant_of-self : goal.invariant_of-self
-invariant_of-self g c =
-    parts_passed c.self.inside.replicas.items c.self.inside.posts.items c.self.inside.passed.items c.self.invariant
-    c.args.self.now c.self.view_is c.args.to c.place_of-place.result c.args.k c.place_of-place.ensures.place
-    c.place_of-place.ensures.least (subst (λ (w : WorldValue). c.args.to ≤ size w) (sym c.self.view_is) c.requires.within)
-    (sym c.if-index-k.true ∙ c.index.ensures
-    ∙ ap (λ d. get_or c.self.inside.passed.items c.place_of-place.result d) c.if-index-k.true)
-    c.args.message.now c.requires.sent (sym c.if-known.ensures)
+pub pass_over-requires-clause-passed : goal.pass_over-requires-clause-passed
+pass_over-requires-clause-passed g c =
+    unwanted_passed c.args.to c.args.k c.args.message.now c.args.self.now c.requires.sent (sym c.if-known.ensures)
