@@ -50,8 +50,8 @@ impl<D: Doc> State<D> {
         })
     }
 
-    // An edit is made.
-    fn make(&mut self, body: &Body) -> Result<Done, Memory>
+    // An edit is made. An atom that is put is looked for at an index first.
+    fn make(&mut self, body: &Body, near: Option<u32>) -> Result<Done, Memory>
         requires built { IsBuilt Anything self.old.machine.site self.old.machine.size self.old.machine }
         requires edit { IsEdit body.now }
         requires may { MayMake body.now self.old.machine }
@@ -65,7 +65,7 @@ impl<D: Doc> State<D> {
         self.reserve(self.site)?;
         let op = self.next_op(body);
         let number = self.past.kept();
-        let change = self.change_document(&op)?;
+        let change = self.change_document(&op, near)?;
         self.note(&op, Origin::Here);
         Ok(Done {
             reply: Reply::Made { dot: op.dot() },
@@ -172,7 +172,7 @@ impl<D: Doc> State<D> {
     {
         self.reserve(self.site)?;
         let op = self.next_op(body);
-        let change = self.change_document(&op)?;
+        let change = self.change_document(&op, None)?;
         self.count(vote);
         self.note(&op, Origin::Here);
         Ok(Done {
@@ -192,9 +192,19 @@ impl<D: Doc> State<D> {
     {
         match self.verdict(request) {
             Verdict::Answer(reply) => self.refuse(reply),
-            Verdict::Make(body) => self.make(&body),
+            Verdict::Make(body) => self.make(&body, index_in(request)),
             Verdict::Propose(slot) => self.make_proposal(&slot),
             Verdict::Cancel(proposal) => self.make_abort(proposal),
         }
+    }
+}
+
+// The index at which an atom is to be put, where the request has one.
+fn index_in(request: &Request) -> Option<u32> {
+    match *request {
+        Request::Insert { index, .. } | Request::Paste { index, .. } => Some(index),
+        Request::InsertAfter { .. } | Request::PasteAfter { .. } => None,
+        Request::Delete { .. } | Request::DeleteAtom { .. } => None,
+        Request::Propose { .. } | Request::ProposeAt { .. } | Request::Cancel { .. } => None,
     }
 }

@@ -256,7 +256,7 @@ impl<D: Doc> State<D> {
     {
         self.reserve(op.dot().site)?;
         let number = self.number_from(origin);
-        let change = self.change_document(op)?;
+        let change = self.change_document(op, None)?;
         self.note(op, origin);
         Ok(Done {
             reply,

@@ -5,6 +5,8 @@ ghost use Rattle.td_base.specs.declared.dot.TheConstants.{MAX_SEQ};
 ghost use Rattle.td_op.specs.Op.{OpValue, body_site};
 ghost use Rattle.td_op.specs.declared.change.Change.TheVariants.{Cut};
 ghost use Rattle.td_doc.specs.Answers.{IsFresh, is_live_id, live_before};
+ghost use Rattle.td_doc.specs.Document.{IsDocument, live_id_at};
+ghost use Rattle.td_doc.specs.Insertion.{insert_run};
 ghost use Rattle.td_machine.specs.Counts.{IsNext};
 ghost use Rattle.td_machine.specs.Log.{committed};
 ghost use Rattle.td_machine.specs.Machine.{Machine, made, next_op, start};
@@ -118,9 +120,14 @@ impl<D: Doc> State<D> {
     }
 
     // Does to the document what the operation does to it, and tells what that does to the atoms shown. Where it finds
-    // no memory, the document is as before.
-    pub(crate) fn change_document(&mut self, op: &Op) -> Result<Option<Change>, Memory>
-        requires { IsFresh self.old.machine.doc op.now.dot }
+    // no memory, the document is as before. An atom that is put is looked for at an index first; nothing rests on it.
+    pub(crate) fn change_document(
+        &mut self,
+        op: &Op,
+        near: Option<u32>,
+    ) -> Result<Option<Change>, Memory>
+        requires fresh { IsFresh self.old.machine.doc op.now.dot }
+        requires document { IsDocument self.old.machine.doc }
         ensures ok { OnOk result (self.new ≡ record self.old { machine = with_effect op.now self.old.machine }) }
         ensures change { IfOk result (λ change.
             change ≡ change_by op.now.dot op.now.body self.old.machine.doc) }
@@ -129,8 +136,8 @@ impl<D: Doc> State<D> {
         let dot = op.dot();
         match *op.body_ref() {
             Body::Insert { slot, run } => {
-                self.doc.insert_run(slot, dot, run).map_err(memory)?;
-                let index = live_before(&self.doc, AtomId::of(dot));
+                put_run(&mut self.doc, slot, dot, run)?;
+                let index = index_of(&self.doc, AtomId::of(dot), near);
                 Ok(Some(put_at(index, &run)))
             }
             Body::Delete { target } => {
@@ -306,6 +313,38 @@ fn log(past: &mut History, op: &Op, origin: Origin)
         Origin::There => past.take(op),
         Origin::Waiting { number } => past.resume(number),
     }
+}
+
+// Puts the run of an operation that fits into the document, which is a document then too.
+fn put_run<D: Doc>(doc: &mut D, slot: Slot, dot: Dot, run: Run) -> Result<(), Memory>
+    requires fresh { IsFresh (D.rows doc.old) dot }
+    requires document { IsDocument (D.rows doc.old) }
+    ensures ok { OnOk result (D.rows doc.new ≡ insert_run slot dot run (D.rows doc.old)) }
+    ensures document { OnOk result (IsDocument (D.rows doc.new)) }
+    ensures err { OnErr result (D.rows doc.new ≡ D.rows doc.old) }
+{
+    match doc.insert_run(slot, dot, run) {
+        Ok(()) => Ok(()),
+        Err(fault) => Err(memory(fault)),
+    }
+}
+
+// How many live atoms stand before the atom, which is looked for at an index first.
+fn index_of<D: Doc>(doc: &D, id: AtomId, near: Option<u32>) -> u32
+    requires { IsDocument (D.rows doc.now) }
+    ensures { result ≡ live_before id (D.rows doc.now) }
+{
+    match near {
+        Some(index) if is_at(doc, id, index) => index,
+        _ => live_before(doc, id),
+    }
+}
+
+// Whether the live atom at the index is this one.
+fn is_at<D: Doc>(doc: &D, id: AtomId, index: u32) -> bool
+    ensures { IsTrue result → live_id_at (D.rows doc.now) index ≡ Some id }
+{
+    doc.live_at(index) == Some(id)
 }
 
 // How many live atoms stand before the atom, or all of them where it is no row.

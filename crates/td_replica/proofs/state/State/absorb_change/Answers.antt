@@ -5,13 +5,18 @@ use Rattle.td_machine.specs.Machine.{Machine}
 use Rattle.td_machine.specs.Shown.{change_by}
 use Rattle.td_machine.specs.Taking.{take}
 use Rattle.td_replica.specs.Parts.{StateValue, with_effect, with_note}
+use Rattle.td_machine.proofs.Documents.{documents}
 use Rattle.td_replica.proofs.Noting.{found_from}
 use Rattle.td_replica.proofs.Stepping.{change_once}
 use Rattle.td_replica.proofs.Taking.{next_taken, fresh_taken, changed_taken, take_log}
 use Rattle.td_replica.proofs.state.State.absorb_change.Goals as goal
 
-pub change_document-requires : goal.change_document-requires
-change_document-requires g c =
+pub change_document-requires-clause-document : goal.change_document-requires-clause-document
+change_document-requires-clause-document g c =
+    rw c.in_ok-reserve.ensures.same.machine (documents c.args.self.now.machine c.requires.built).0
+
+pub change_document-requires-clause-fresh : goal.change_document-requires-clause-fresh
+change_document-requires-clause-fresh g c =
     rw c.in_ok-reserve.ensures.same.machine
     (fresh_taken c.args.self.now.machine c.requires.built c.args.op.now c.requires.fit)
 

@@ -4,6 +4,7 @@ use Rattle.td_op.specs.declared.vote.Vote.{Vote}
 use Rattle.td_machine.specs.Decision.{is_on}
 use Rattle.td_machine.specs.Machine.{Machine}
 use Rattle.td_replica.specs.Parts.{StateValue}
+use Rattle.td_machine.proofs.Documents.{documents}
 use Rattle.td_replica.proofs.Deciding.{counting_open, open_room, due_named, due_fresh, due_next, due_undecided}
 use Rattle.td_replica.proofs.state.State.make_decision.Goals as goal
 
@@ -18,8 +19,12 @@ next_op-op-requires-clause-named g c =
     rw c.in_ok-reserve.ensures.same.machine
     (due_named c.args.self.now.machine c.requires.built c.args.vote.now c.requires.may c.args.body.now c.requires.due)
 
-pub change_document-requires : goal.change_document-requires
-change_document-requires g c =
+pub change_document-requires-clause-document : goal.change_document-requires-clause-document
+change_document-requires-clause-document g c =
+    rw c.in_ok-reserve.ensures.same.machine (documents c.args.self.now.machine c.requires.built).0
+
+pub change_document-requires-clause-fresh : goal.change_document-requires-clause-fresh
+change_document-requires-clause-fresh g c =
     rw (c.next_op-op.ensures, c.in_ok-reserve.ensures.same.machine)
     (due_fresh c.args.self.now.machine c.requires.built c.args.vote.now c.requires.may)
 
