@@ -32,13 +32,21 @@ use Rattle.td_tree.proofs.Wholes.{run_new}
 pub last_is : (p : Parts) (identities : Identities) (o : Option Last) (last : Last) → IfSome o (IsLast p identities) → o ≡ Some last → IsLast p identities last
 last_is p identities o last h e = subst (λ (q : Option Last). IfSome q (IsLast p identities)) e h
 
+-- its index, where it is counted
+pub index_is : (p : Parts) (identities : Identities) (last : Last) → IsLast p identities last → (index : ℕ) → last.index ≡ Some index → index ≡ live_before last.id (doc_rows p)
+index_is p identities last k index e = subst (λ (o : Option ℕ). IfSome o (λ n. n ≡ live_before last.id (doc_rows p))) e k.index
+
+pub index_as : (o : Option ℕ) (a b : ℕ) → a ≡ b → IfSome o (λ n. n ≡ a) → IfSome o (λ n. n ≡ b)
+index_as None a b e h = tt
+index_as (Some n) a b e h = h ∙ e
+
 -- in the same rows, with the same numbers
 pub same_last : (p q : Parts) (old new : Identities) (o : Option Last) → doc_rows q ≡ doc_rows p → ((x : AtomIdValue) → number_of new x ≡ number_of old x) → IfSome o (IsLast p old) → IfSome o (IsLast q new)
 same_last p q old new None e h k = tt
 same_last p q old new (Some last) e h k = record {
   live = ap (λ (rows : List DocRow). is_live_id rows last.id) e ∙ k.live;
   number = h last.id ∙ k.number;
-  index = k.index ∙ ap (live_before last.id) (sym e);
+  index = index_as last.index (live_before last.id (doc_rows p)) (live_before last.id (doc_rows q)) (ap (live_before last.id) (sym e)) k.index;
 }
 
 pub open_last : (p q : Parts) (identities : Identities) (o : Option Last) → IsMoreOpen p q → IfSome o (IsLast p identities) → IfSome o (IsLast q identities)
@@ -55,8 +63,9 @@ last_row p identities seen w last k =
     )
 
 -- the live row at its index is that row
-pub last_at : (p : Parts) → IsTree p → (identities : Identities) (last : Last) → IsLast p identities last → Some last.id ≡ live_id_at (doc_rows p) last.index
-last_at p t identities last k = sym (ap (live_id_at (doc_rows p)) k.index ∙ found_at_index (doc_rows p) last.id t.brackets.document k.live)
+pub last_at : (p : Parts) → IsTree p → (identities : Identities) (last : Last) → IsLast p identities last → (index : ℕ) → last.index ≡ Some index → Some last.id ≡ live_id_at (doc_rows p) index
+last_at p t identities last k index e =
+    sym (ap (live_id_at (doc_rows p)) (index_is p identities last k index e) ∙ found_at_index (doc_rows p) last.id t.brackets.document k.live)
 
 -- a flatten leaves it a live row at its index
 
@@ -80,12 +89,14 @@ same_live_id rows slot d index =
 pub flat_last : (p q : Parts) (identities : Identities) (slot : Slot) → IsTree p → IsFlattened p q slot → (o : Option Last) → IfSome o (IsLast p identities) → IfSome o (IsLast q identities)
 flat_last p q identities slot t f None k = tt
 flat_last p q identities slot t f (Some last) k =
-    let at : live_id_at (doc_rows q) last.index ≡ Some last.id =
-    ap (λ (rows : List DocRow). live_id_at rows last.index) f.rows ∙ same_live_id (doc_rows p) slot t.brackets.document last.index ∙ sym (last_at p t identities last k) in
+    let index : ℕ = live_before last.id (doc_rows p) in
+    let at : live_id_at (doc_rows q) index ≡ Some last.id =
+    ap (λ (rows : List DocRow). live_id_at rows index) f.rows ∙ same_live_id (doc_rows p) slot t.brackets.document index
+    ∙ found_at_index (doc_rows p) last.id t.brackets.document k.live in
     record {
-      live = live_row_id (doc_rows q) last.index last.id f.tree.brackets.document (slice_get (live_rows (doc_rows q)) last.index) refl at;
+      live = live_row_id (doc_rows q) index last.id f.tree.brackets.document (slice_get (live_rows (doc_rows q)) index) refl at;
       number = k.number;
-      index = sym (index_of_found (doc_rows q) last.index last.id f.tree.brackets.document at);
+      index = index_as last.index index (live_before last.id (doc_rows q)) (sym (index_of_found (doc_rows q) index last.id f.tree.brackets.document at)) k.index;
     }
 
 -- a row that was just put
@@ -106,7 +117,7 @@ module _ (p q : Parts) (id : AtomIdValue) (atom : List ℕ) (row : ℕ) (number 
   put_node = ap (λ (v : RowValue). v.state) here
 
   pub put_last : IsTree q → (old new : Identities) → ((x : AtomIdValue) → number_of new x ≡ with_run id (record { first = row; count = 1 }) x (number_of old x))
-      → (index : ℕ) → index ≡ live_before (table q row).id (doc_rows q) → IsLast q new (record { id = id; row = row; index = index })
+      → (index : Option ℕ) → IfSome index (λ n. n ≡ live_before (table q row).id (doc_rows q)) → IsLast q new (record { id = id; row = row; index = index })
   put_last tree old new numbers index e =
       let f = found_row q tree row put_known (λ g. not_gone (sym put_node ∙ g)) in
       let none : id.offset ≡ id.offset + 0 = omega arith in
@@ -117,7 +128,7 @@ module _ (p q : Parts) (id : AtomIdValue) (atom : List ℕ) (row : ℕ) (number 
             ∙ ap (λ (k : Entry). is_empty_list k.deletes) (f.entry ∙ ap (λ (v : RowValue). v.entry) here);
         number = numbers id ∙ (λ i. with_run id (record { first = row; count = 1 }) (record { dot = id.dot; offset = none i }) (number_of old id))
             ∙ run_new id row 1 0 (number_of old id) (omega arith) ∙ ap (λ (n : ℕ). Some n) first;
-        index = e ∙ ap (λ (x : AtomIdValue). live_before x (doc_rows q)) named;
+        index = index_as index (live_before (table q row).id (doc_rows q)) (live_before id (doc_rows q)) (ap (λ (x : AtomIdValue). live_before x (doc_rows q)) named) e;
       }
     where
       not_gone : Node ≡ Gone → ⊥

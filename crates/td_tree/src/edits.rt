@@ -1,5 +1,5 @@
 // What inserts do in turn: find a place, and put rows there.
-ghost use Rattle.std.specs.Prelude.{◌≡◌, ◌+◌, IsTrue, IsNone, IfOk, IfErr, OnOk, OnErr};
+ghost use Rattle.std.specs.Prelude.{◌≡◌, ◌+◌, IsTrue, IsNone, IfSome, IfOk, IfErr, OnOk, OnErr};
 ghost use Rattle.std.specs.Option.{ForSome};
 ghost use Rattle.td_doc.specs.Document.{find_row};
 ghost use Rattle.td_doc.specs.Answers.{IsFresh, IsSlotFault, is_rooted};
@@ -39,14 +39,18 @@ impl Tree {
         }
     }
 
-    // The number of live rows before a place: right behind the row put last it is one more than before that row.
-    fn index_at(&self, at: Option<u32>) -> u32
+    // The number of live rows before a place, which is counted right behind the row put last alone: there it is one
+    // more than before that row.
+    fn index_at(&self, at: Option<u32>) -> Option<u32>
         requires there { ForSome at (λ x. IsItem x self.now.items) }
-        ensures { result ≡ weight_of (items_up_to at self.now.items) }
+        ensures { IfSome result (λ n. n ≡ weight_of (items_up_to at self.now.items)) }
     {
         match self.last {
-            Some(last) if self.tokens.is_behind(last.row, at) => last.index + 1,
-            _ => self.tokens.index_at(at),
+            Some(last) if self.tokens.is_behind(last.row, at) => match last.index {
+                Some(index) => Some(index + 1),
+                None => Some(self.tokens.index_at(at)),
+            },
+            _ => None,
         }
     }
 

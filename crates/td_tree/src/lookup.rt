@@ -33,16 +33,19 @@ impl Tree {
         }
     }
 
-    /// The number of live rows before a row. Those before the row put last are counted already.
+    /// The number of live rows before a row. Those before the row put last may be counted already.
     pub(crate) fn index(&self, row: u32) -> u32
         requires row { row < length self.now.rows }
         requires stands { state_at self.now row ≢ Gone }
         ensures { result ≡ live_before (table self.now row).id (doc_rows self.now) }
     {
-        match self.last {
-            Some(last) if last.row == row => last.index,
-            _ => self.tokens.index(row),
+        if let Some(last) = self.last
+            && last.row == row
+            && let Some(index) = last.index
+        {
+            return index;
         }
+        self.tokens.index(row)
     }
 
     /// Whether a row is in the slot.

@@ -147,12 +147,15 @@ impl Doc for Tree {
     }
 
     fn live_at(&self, index: u32) -> Option<AtomId> {
-        match self.last {
-            Some(last) if last.index == index => Some(last.id),
-            _ => match self.tokens.live_row(index) {
-                Some(row) => Some(self.tokens.id(row)),
-                None => None,
-            },
+        if let Some(last) = self.last
+            && let Some(at) = last.index
+            && at == index
+        {
+            return Some(last.id);
+        }
+        match self.tokens.live_row(index) {
+            Some(row) => Some(self.tokens.id(row)),
+            None => None,
         }
     }
 

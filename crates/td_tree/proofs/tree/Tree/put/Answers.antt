@@ -15,7 +15,7 @@ use Rattle.td_list.specs.Items.{weight_of}
 use Rattle.td_doc.specs.Answers.{live_before}
 use Rattle.td_tree.specs.Whole.{IsWhole}
 use Rattle.td_tree.proofs.Wholes.{none_of, put_whole, same_whole}
-use Rattle.td_tree.proofs.LastRow.{same_last, put_last}
+use Rattle.td_tree.proofs.LastRow.{index_as, same_last, put_last}
 use Rattle.td_tree.proofs.PlaceIndex.{index_of_put}
 use Rattle.td_tree.proofs.PutRow.{place_there}
 use Rattle.td_tree.proofs.tree.Tree.put.Goals as goal
@@ -46,9 +46,11 @@ invariant_of-self-2 c =
           c.add.ensures.kept
           (subst (λ (y : AtomIdValue). IsTrue (vector_has c.add.new.self y.dot)) c.id-2.view_is c.add.ensures.added),
       put_last p now c.args.id c.args.atom c.next_row-row.result c.next_row-row.ensures.number put.rows tree c.make_room.new.self c.put.new.self c.put.ensures c.index_at-index.result
-          (c.index_at-index.ensures ∙ ap (λ (q : Parts). weight_of (items_up_to c.args.at q.items)) (sym c.self.view_is)
+          (index_as c.index_at-index.result (weight_of (items_up_to c.args.at c.args.self.now.items)) (live_before (table now c.next_row-row.result).id (doc_rows now))
+          (ap (λ (q : Parts). weight_of (items_up_to c.args.at q.items)) (sym c.self.view_is)
           ∙ index_of_put p now w.tree tree place.0 c.args.id c.args.atom c.args.at place.1.place put.rows put.items
-          ∙ ap (λ (n : ℕ). live_before (table now n).id (doc_rows now)) (sym c.next_row-row.ensures.number)),
+          ∙ ap (λ (n : ℕ). live_before (table now n).id (doc_rows now)) (sym c.next_row-row.ensures.number))
+          c.index_at-index.ensures),
     )
 
 pub returns-clause-nodes : goal.returns-clause-nodes
