@@ -4,6 +4,7 @@ pub mod Stepping
 pub mod Deciding
 pub mod Proposing
 pub mod Taking
+pub mod Told
 pub mod Verdicts
 pub mod Waiters
 pub mod Legal

@@ -16,6 +16,7 @@ use Rattle.td_op.specs.declared.body.Body.{Body}
 use Rattle.td_op.specs.declared.body.Body.TheVariants.{Insert, Delete, Propose, Commit, Abort}
 use Rattle.td_op.specs.Op.{OpValue}
 use Rattle.td_machine.specs.Counts.{counts, IsNext, IsInTurn}
+use Rattle.td_machine.specs.Machine.{Machine}
 use Rattle.td_machine.specs.Log.{Committed, commit_at, commit_in, commits, committed, proposed, proposed_slot}
 use Rattle.td_machine.proofs.Counting.{numbered}
 use Rattle.td_machine.proofs.OwnProposals.{had_counts, proposal_in}
@@ -31,7 +32,7 @@ use Rattle.td_coord.specs.Tally.{TallyValue}
 use Rattle.td_history.specs.Past.{Past, IsUndecided, IsNextIn, decided_by, made, taken, resumed, kept}
 use Rattle.td_replica.specs.declared.state.Origin.{Origin}
 use Rattle.td_replica.specs.declared.state.Origin.TheVariants.{Here, There, Waiting as Waited}
-use Rattle.td_replica.specs.Parts.{machine_of, state_of, waiting_too, ComesFrom, IsFromOutside, number_from, ops_with, IsState, CommitsNamed, logged, commits_with, commits_after, commits_after_body}
+use Rattle.td_replica.specs.Parts.{with_note, machine_of, state_of, waiting_too, ComesFrom, IsFromOutside, number_from, ops_with, IsState, CommitsNamed, logged, commits_with, commits_after, commits_after_body}
 
 -- the operation may be the next of its site in the log
 pub next_in : (have : List ℕ) (log : List OpValue) (x : OpValue) → have ≡ counts (length have) log
@@ -281,3 +282,10 @@ module _ (site : ℕ) (have : List ℕ) (waiting : List Waiting) (holds : HoldsV
           machine = record (machine_of site rows have waiting holds tally past)
               { waiting = ops-put_in_order (record { op = x; number = number }) waiting i };
         }
+
+-- ---- the document is as before
+
+pub doc_noted : (origin : Origin) (x : OpValue) (m : Machine) → (with_note origin x m).doc ≡ m.doc
+doc_noted Here x m = refl
+doc_noted There x m = refl
+doc_noted (Waited number) x m = refl

@@ -16,6 +16,7 @@ use Rattle.td_machine.proofs.Changes.{none_over, one_over, two_over}
 use Rattle.td_machine.proofs.Documents.{documents, fresh_next}
 use Rattle.td_machine.proofs.Naming.{own_site}
 use Rattle.td_machine.proofs.Turns.{length_have, comes_next}
+use Rattle.td_replica.specs.declared.last_change.LastChange.TheVariants.{Nothing}
 use Rattle.td_replica.specs.Parts.{StateValue, IsAsBefore}
 use Rattle.td_replica.specs.Steps.{IsStep}
 
@@ -38,7 +39,7 @@ no_change m =
     ap (option_and_then (λ (x : OpValue). change_by x.dot x.body m.doc)) (none_over (length m.log) m.log (omega arith))
 
 pub refused : (reply : Reply) (old new : StateValue) → IsAsBefore old new → 8 ≤ new.room.things
-    → IsStep (stepped reply old.machine) old new (record { reply = reply; change = None; number = None })
+    → IsStep (stepped reply old.machine) old new (record { reply = reply; change = Nothing; number = None })
 refused reply old new same room =
     record {
       reply = refl;

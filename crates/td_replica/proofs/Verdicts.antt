@@ -1,28 +1,32 @@
 -- What is judged first, and done then, is the machine's step.
-use Rattle.std.proofs.Common.{◌≡◌, ◌≤◌, ◌+◌, ◌||◌, ℕ, List, [], ◌∷◌, Bool, true, false, not, length, nat_eq, nat_lt, if◌then◌else◌, Option, Some, None, refl, sym, ap, ◌∙◌, subst, arith}
+use Rattle.std.proofs.Common.{◌≡◌, ◌≤◌, ◌+◌, ◌-◌, ◌||◌, ℕ, List, [], ◌∷◌, Bool, true, false, not, length, nat_eq, nat_lt, if◌then◌else◌, Option, Some, None, refl, sym, ap, ◌∙◌, subst, arith}
 use Rattle.std.proofs.lemmas.Bool.{ltb-false}
-use Rattle.std.specs.Prelude.{IfSome}
+use Rattle.std.specs.Prelude.{Result, Ok, Err, IfOk, IfSome, find}
+use Rattle.td_base.specs.declared.memory.Memory.{Memory}
 use Rattle.td_base.specs.Value.{DotValue, AtomIdValue}
 use Rattle.td_base.specs.declared.dot.TheConstants.{MAX_SEQ}
 use Rattle.td_clock.specs.Vector.{vector_get}
 use Rattle.td_path.specs.declared.slot.Slot.{Slot}
+use Rattle.td_path.specs.declared.slot.Slot.TheVariants.{Root, At}
 use Rattle.td_op.specs.declared.body.Body.{Body}
 use Rattle.td_op.specs.declared.body.Body.TheVariants.{Insert, Delete, Propose as ProposeIn, Commit, Abort}
 use Rattle.td_doc.specs.Allocation.{anchor}
-use Rattle.td_doc.specs.Answers.{is_live_id}
+use Rattle.td_doc.specs.Answers.{is_live_id, is_rooted}
+use Rattle.td_doc.specs.Document.{live_id_at}
 use Rattle.td_op.specs.declared.input.Input.TheVariants.{Local}
 use Rattle.td_op.specs.declared.request.Request.{Request}
 use Rattle.td_op.specs.declared.request.Request.TheVariants.{Insert as AskInsert, InsertAfter, Paste, PasteAfter, Delete as AskDelete, DeleteAtom, Propose as AskPropose, ProposeAt, Cancel as AskCancel}
 use Rattle.td_op.specs.declared.reply.Reply.{Reply}
-use Rattle.td_op.specs.declared.reply.Reply.TheVariants.{Made, Held, Position, Gone, Limit, New, Later, Repeat, Unfit}
+use Rattle.td_op.specs.declared.reply.Reply.TheVariants.{Made, Held, Position, Gone, Limit, NotOpen, New, Later, Repeat, Unfit}
 use Rattle.td_op.specs.declared.reply.Why.{Why}
 use Rattle.td_op.specs.declared.reply.Why.TheVariants.{Size, Own}
 use Rattle.td_op.specs.Input.{IsRequest}
 use Rattle.td_op.specs.Op.{OpValue}
+use Rattle.td_machine.specs.Decision.{Ballot, is_on, is_open}
 use Rattle.td_machine.specs.Machine.{Machine, made, undecided, next_dot}
 use Rattle.td_machine.specs.Making.{make}
 use Rattle.td_machine.specs.Ready.{is_had, is_ready, waits}
-use Rattle.td_machine.specs.Request.{Aim, Refuse as RefuseAim, Do, GiveUp, Attempt, aim, aim_step, attempt_step, insert_aim, insert_aim_at, insert_aim_after, is_past_limit, len, perform, request_step}
+use Rattle.td_machine.specs.Request.{Aim, Refuse as RefuseAim, Do, GiveUp, Attempt, aim, aim_step, attempt_step, insert_aim, insert_aim_at, insert_aim_after, is_past_limit, len, perform, request_step, live_aim, delete_aim, propose_aim, propose_aim_of, cancel_aim}
 use Rattle.td_machine.specs.Taking.{Stepped, stepped, misfit, take, keep_waiting, fit_step, op_step}
 use Rattle.td_machine.proofs.Aims.{FitsAim, aimed}
 use Rattle.td_machine.proofs.Induction.{Anything}
@@ -31,8 +35,9 @@ use Rattle.td_machine.proofs.Room.{room}
 use Rattle.td_machine.proofs.Turns.{placed}
 use Rattle.td_history.specs.Past.{IsDoneAs}
 use Rattle.td_history.specs.Texts.{run_of, run_at, text_of}
+use Rattle.td_replica.specs.declared.making.Done.{Done}
 use Rattle.td_replica.specs.declared.requests.Verdict.{Verdict}
-use Rattle.td_replica.specs.declared.requests.Verdict.TheVariants.{Answer, Make, Propose, Cancel}
+use Rattle.td_replica.specs.declared.requests.Verdict.TheVariants.{Answer, Put, Delete as DeleteRow, Propose, Cancel}
 use Rattle.td_replica.specs.declared.operations.Judged.{Judged}
 use Rattle.td_replica.specs.declared.operations.Judged.TheVariants.{Refuse, Delay, Take}
 use Rattle.td_replica.specs.Verdict.{standing, allowed, unless, verdict_on, verdict}
@@ -50,9 +55,102 @@ pub record IsAllowed (request : Request) (m : Machine) (v : Verdict) : Type 0 wh
 
 abbrev Allows : Verdict → Type 0
 Allows (Answer reply) = ⊥
-Allows (Make body) = Unit {0}
+Allows (Put slot) = Unit {0}
+Allows (DeleteRow x) = Unit {0}
 Allows (Propose slot) = Unit {0}
 Allows (Cancel p) = ⊥
+
+-- the body is one that a request with this text aims at
+abbrev Fits : Option (List (List ℕ)) → Body → Type 0
+Fits text (Insert slot run) = text ≡ Some run
+Fits text (Delete x) = text ≡ None
+Fits text (ProposeIn slot) = Unit {0}
+Fits text (Commit p) = ⊥
+Fits text (Abort p) = ⊥
+
+abbrev FitsIn : Option (List (List ℕ)) → Aim → Type 0
+FitsIn text (RefuseAim reply) = Unit {0}
+FitsIn text (Do a) = Fits text a.body
+FitsIn text (GiveUp p) = Unit {0}
+
+module _ (m : Machine) where
+  fits_at : (run : List (List ℕ)) (index : ℕ) → FitsIn (Some run) (insert_aim_at run index m)
+  fits_at run index = at (nat_lt (len m) index)
+    where
+      at : (b : Bool)
+          → FitsIn (Some run) (if b then RefuseAim (Position (len m)) else insert_aim run (anchor m.doc index) m)
+      at true = tt
+      at false = refl
+
+  fits_after : (run : List (List ℕ)) (after : Option AtomIdValue) → FitsIn (Some run) (insert_aim_after run after m)
+  fits_after run None = refl
+  fits_after run (Some x) = at (is_live_id m.doc x)
+    where
+      at : (b : Bool) → FitsIn (Some run) (if b then insert_aim run (Some x) m else RefuseAim (Gone x))
+      at true = refl
+      at false = tt
+
+  fits : (request : Request) → FitsIn (text_of request) (aim request m)
+  fits (AskInsert index atom) = fits_at (atom ∷ []) index
+  fits (InsertAfter after atom) = fits_after (atom ∷ []) after
+  fits (Paste index run) = fits_at run index
+  fits (PasteAfter after run) = fits_after run after
+  fits (AskDelete index) = at (live_id_at m.doc index)
+    where
+      at : (o : Option AtomIdValue) → FitsIn None (live_aim delete_aim o m)
+      at None = tt
+      at (Some x) = refl
+  fits (DeleteAtom x) = at (is_live_id m.doc x)
+    where
+      at : (b : Bool) → FitsIn None (if b then delete_aim x m else RefuseAim (Gone x))
+      at true = refl
+      at false = tt
+  fits (AskPropose Root) = tt
+  fits (AskPropose (At x bit)) = at (is_rooted m.doc (At x bit))
+    where
+      at : (b : Bool) → FitsIn None (if b then propose_aim (At x bit) m else RefuseAim (Gone x))
+      at true = tt
+      at false = tt
+  fits (ProposeAt index bit) = at (live_id_at m.doc index)
+    where
+      at : (o : Option AtomIdValue) → FitsIn None (live_aim (λ (x : AtomIdValue). propose_aim (At x bit)) o m)
+      at None = tt
+      at (Some x) = tt
+  fits (AskCancel p) = at (find (is_on p) m.ballots)
+    where
+      at : (o : Option Ballot) → FitsIn None (cancel_aim p o)
+      at None = tt
+      at (Some b) = answered (is_open b)
+        where
+          answered : (t : Bool) → FitsIn None (if t then GiveUp p else RefuseAim (NotOpen p))
+          answered true = tt
+          answered false = tt
+
+-- a run behind a live atom, and at an index that is neither the start nor past the end
+pub after_live : (run : List (List ℕ)) (x : AtomIdValue) (m : Machine) → is_live_id m.doc x ≡ true
+    → verdict_on (insert_aim_after run (Some x) m) m ≡ verdict_on (insert_aim run (Some x) m) m
+after_live run x m e = ap (λ (b : Bool). verdict_on (if b then insert_aim run (Some x) m else RefuseAim (Gone x)) m) e
+
+pub aim_within : (run : List (List ℕ)) (index : ℕ) (m : Machine) → nat_lt (len m) index ≡ false
+    → nat_eq index 0 ≡ false
+    → verdict_on (insert_aim_at run index m) m ≡ verdict_on (insert_aim run (live_id_at m.doc (index - 1)) m) m
+aim_within run index m within some =
+    ap (λ (b : Bool).
+    verdict_on (if b then RefuseAim (Position (len m)) else insert_aim run (anchor m.doc index) m) m) within
+    ∙ ap (λ (b : Bool). verdict_on (insert_aim run (if b then None else live_id_at m.doc (index - 1)) m) m) some
+
+-- the run of the request is put in the slot
+pub record IsPut (request : Request) (m : Machine) (slot : Slot) : Type 0 where
+  pub run : List (List ℕ)
+  pub text : text_of request ≡ Some run
+  pub may : IsRequest request → MayMake (Insert slot run) m
+  pub step : request_step request m ≡ stepped (Made (next_dot m)) (make (Insert slot run) m)
+
+-- the row is deleted
+pub record IsDelete (request : Request) (m : Machine) (x : AtomIdValue) : Type 0 where
+  pub text : text_of request ≡ None
+  pub may : IsRequest request → MayMake (Delete x) m
+  pub step : request_step request m ≡ stepped (Made (next_dot m)) (make (Delete x) m)
 
 module _ (request : Request) (m : Machine) where
   allowed_of : (v : Verdict) → Allows v → verdict request m ≡ v → IsAllowed request m v
@@ -81,12 +179,8 @@ module _ (request : Request) (m : Machine) where
       ∙ ap (λ (t : Bool). if t then stepped (Limit (made m) (undecided m)) m
       else stepped (Made (next_dot m)) (perform k.attempt.body m)) k.room
 
-  body_made : (body made_ : Body) → allowed body ≡ Make made_ → (body ≡ made_) × (perform body m ≡ make body m)
-  body_made (Insert slot run) made_ e = (cc, refl)
-  body_made (Delete x) made_ e = (cc, refl)
-  body_made (ProposeIn slot) made_ e = absurd cc
-  body_made (Commit p) made_ e = (cc, refl)
-  body_made (Abort p) made_ e = (cc, refl)
+  fits_of : {v : Verdict} (k : IsAllowed request m v) → Fits (text_of request) k.attempt.body
+  fits_of k = subst (FitsIn (text_of request)) k.aims (fits m request)
 
   body_proposed : (body : Body) (slot : Slot) → allowed body ≡ Propose slot → body ≡ ProposeIn slot
   body_proposed (Insert s run) slot e = absurd cc
@@ -100,17 +194,50 @@ module _ (request : Request) (m : Machine) where
       let fits : FitsAim m (Do k.attempt) = subst (FitsAim m) k.aims (aimed request m valid) in
       fits k.free (ltb-false MAX_SEQ (made m + undecided m + k.attempt.room) k.room)
 
-  pub make_may : IsRequest request → (body : Body) → verdict request m ≡ Make body → MayMake body m
-  make_may valid body e =
-      let k = allowed_of (Make body) tt e in
-      subst (λ (c : Body). MayMake c m) (body_made k.attempt.body body k.is).0 (allowed_may valid (Make body) k)
+  pub put_of : (slot : Slot) → verdict request m ≡ Put slot → IsPut request m slot
+  put_of slot e = at k.attempt.body refl k.is
+    where
+      k : IsAllowed request m (Put slot)
+      k = allowed_of (Put slot) tt e
 
-  pub make_step : (body : Body) → verdict request m ≡ Make body
-      → request_step request m ≡ stepped (Made (next_dot m)) (make body m)
-  make_step body e =
-      let k = allowed_of (Make body) tt e in
-      let q = body_made k.attempt.body body k.is in
-      allowed_step (Make body) k ∙ ap (stepped (Made (next_dot m))) (q.1 ∙ ap (λ (c : Body). make c m) q.0)
+      at : (body : Body) → k.attempt.body ≡ body → allowed body ≡ Put slot → IsPut request m slot
+      at (Insert s run) f g =
+          let is : k.attempt.body ≡ Insert slot run = f ∙ ap (λ (t : Slot). Insert t run) (same g) in
+          record {
+            run = run;
+            text = subst (Fits (text_of request)) is (fits_of k);
+            may = λ valid. subst (λ (c : Body). MayMake c m) is (allowed_may valid (Put slot) k);
+            step = allowed_step (Put slot) k ∙ ap (λ (c : Body). stepped (Made (next_dot m)) (perform c m)) is;
+          }
+        where
+          same : Put s ≡ Put slot → s ≡ slot
+          same h = cc
+      at (Delete x) f g = absurd cc
+      at (ProposeIn s) f g = absurd cc
+      at (Commit p) f g = absurd cc
+      at (Abort p) f g = absurd cc
+
+  pub delete_of : (x : AtomIdValue) → verdict request m ≡ DeleteRow x → IsDelete request m x
+  delete_of x e = at k.attempt.body refl k.is
+    where
+      k : IsAllowed request m (DeleteRow x)
+      k = allowed_of (DeleteRow x) tt e
+
+      at : (body : Body) → k.attempt.body ≡ body → allowed body ≡ DeleteRow x → IsDelete request m x
+      at (Delete y) f g =
+          let is : k.attempt.body ≡ Delete x = f ∙ ap (λ (z : AtomIdValue). Delete z) (same g) in
+          record {
+            text = subst (Fits (text_of request)) is (fits_of k);
+            may = λ valid. subst (λ (c : Body). MayMake c m) is (allowed_may valid (DeleteRow x) k);
+            step = allowed_step (DeleteRow x) k ∙ ap (λ (c : Body). stepped (Made (next_dot m)) (perform c m)) is;
+          }
+        where
+          same : DeleteRow y ≡ DeleteRow x → y ≡ x
+          same h = cc
+      at (Insert s run) f g = absurd cc
+      at (ProposeIn s) f g = absurd cc
+      at (Commit p) f g = absurd cc
+      at (Abort p) f g = absurd cc
 
   pub propose_may : IsRequest request → (slot : Slot) → verdict request m ≡ Propose slot → IsProposing slot m
   propose_may valid slot e =
@@ -152,65 +279,39 @@ module _ (request : Request) (m : Machine) where
 
 -- ---- the text of what is made
 
-abbrev run_aimed : Aim → Option (List (List ℕ))
-run_aimed (RefuseAim reply) = None
-run_aimed (GiveUp p) = None
-run_aimed (Do a) = run_of a.body
+-- the body of an insert with the text of its request
+pub is_insert : {request : Request} {m : Machine} {slot : Slot} (k : IsPut request m slot) (body : Body)
+    → IfSome (text_of request) (λ run. body ≡ Insert slot run) → body ≡ Insert slot k.run
+is_insert {slot = slot} k body h =
+    subst (λ (text : Option (List (List ℕ))). IfSome text (λ run. body ≡ Insert slot run)) k.text h
 
-module _ (m : Machine) (a : Attempt) where
-  run_put : (run : List (List ℕ)) (after : Option AtomIdValue) → insert_aim run after m ≡ Do a
-      → run_of a.body ≡ Some run
-  run_put run after e = sym (ap run_aimed e)
-
-  run_at_index : (run : List (List ℕ)) (index : ℕ) → insert_aim_at run index m ≡ Do a → run_of a.body ≡ Some run
-  run_at_index run index e = at (nat_lt (len m) index) e
-    where
-      at : (b : Bool) → (if b then RefuseAim (Position (len m)) else insert_aim run (anchor m.doc index) m) ≡ Do a
-          → run_of a.body ≡ Some run
-      at true f = absurd cc
-      at false f = run_put run (anchor m.doc index) f
-
-  run_after : (run : List (List ℕ)) (after : Option AtomIdValue) → insert_aim_after run after m ≡ Do a
-      → run_of a.body ≡ Some run
-  run_after run None e = run_put run None e
-  run_after run (Some x) e = at (is_live_id m.doc x) e
-    where
-      at : (b : Bool) → (if b then insert_aim run (Some x) m else RefuseAim (Gone x)) ≡ Do a
-          → run_of a.body ≡ Some run
-      at true f = run_put run (Some x) f
-      at false f = absurd cc
-
-  run_aims : (request : Request) → aim request m ≡ Do a
-      → IfSome (text_of request) (λ text. run_of a.body ≡ Some text)
-  run_aims (AskInsert index atom) e = run_at_index (atom ∷ []) index e
-  run_aims (InsertAfter after atom) e = run_after (atom ∷ []) after e
-  run_aims (Paste index run) e = run_at_index run index e
-  run_aims (PasteAfter after run) e = run_after run after e
-  run_aims (AskDelete index) e = tt
-  run_aims (DeleteAtom x) e = tt
-  run_aims (AskPropose slot) e = tt
-  run_aims (ProposeAt index bit) e = tt
-  run_aims (AskCancel p) e = tt
-
-make_text : (request : Request) (m : Machine) (body : Body) → verdict request m ≡ Make body
-    → IfSome (text_of request) (λ text. run_of body ≡ Some text)
-make_text request m body e =
-    let k = allowed_of request m (Make body) tt e in
-    subst (λ (c : Body). IfSome (text_of request) (λ text. run_of c ≡ Some text))
-    (body_made request m k.attempt.body body k.is).0
-    (run_aims m k.attempt request k.aims)
-
--- an edit that has the text of its body has that of its request
-pub made_as : (request : Request) (m : Machine) (body : Body) → verdict request m ≡ Make body → (ops : List OpValue)
-    (number : Option ℕ) → IfSome number (λ k. run_at ops k ≡ run_of body)
+-- an insert has the text of its request
+put_as : {request : Request} {m : Machine} {slot : Slot} (k : IsPut request m slot) (ops : List OpValue)
+    (number : Option ℕ) → IfSome number (λ n. run_at ops n ≡ Some k.run)
     → IfSome number (IsDoneAs ops (Local request))
-made_as request m body e ops None h = tt
-made_as request m body e ops (Some k) h = texts (text_of request) (make_text request m body e)
-  where
-    texts : (text : Option (List (List ℕ))) → IfSome text (λ t. run_of body ≡ Some t)
-        → IfSome text (λ t. run_at ops k ≡ Some t)
-    texts None f = tt
-    texts (Some t) f = h ∙ f
+put_as k ops None h = tt
+put_as k ops (Some n) h =
+    subst (λ (text : Option (List (List ℕ))). IfSome text (λ t. run_at ops n ≡ Some t)) (sym k.text) h
+
+pub put_done : {request : Request} {m : Machine} {slot : Slot} (k : IsPut request m slot) (body : Body)
+    → body ≡ Insert slot k.run → (ops : List OpValue) (r : Result Done Memory)
+    → IfOk r (λ done. IfSome done.number (λ n. run_at ops n ≡ run_of body))
+    → IfOk r (λ done. IfSome done.number (IsDoneAs ops (Local request)))
+put_done k body is ops (Err e) h = tt
+put_done k body is ops (Ok done) h =
+    put_as k ops done.number (subst (λ (c : Body). IfSome done.number (λ n. run_at ops n ≡ run_of c)) is h)
+
+-- a delete puts none
+deleted_as : {request : Request} {m : Machine} {x : AtomIdValue} (k : IsDelete request m x) (ops : List OpValue)
+    (number : Option ℕ) → IfSome number (IsDoneAs ops (Local request))
+deleted_as k ops None = tt
+deleted_as k ops (Some n) =
+    subst (λ (text : Option (List (List ℕ))). IfSome text (λ t. run_at ops n ≡ Some t)) (sym k.text) tt
+
+pub delete_done : {request : Request} {m : Machine} {x : AtomIdValue} (k : IsDelete request m x) (ops : List OpValue)
+    (r : Result Done Memory) → IfOk r (λ done. IfSome done.number (IsDoneAs ops (Local request)))
+delete_done k ops (Err e) = tt
+delete_done k ops (Ok done) = deleted_as k ops done.number
 
 -- ---- what a machine that is built keeps
 

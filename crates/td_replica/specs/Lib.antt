@@ -3,3 +3,4 @@ pub mod Parts
 pub mod Steps
 pub mod Judging
 pub mod Replica
+pub mod LastChange

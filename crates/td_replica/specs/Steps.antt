@@ -10,6 +10,7 @@ use Rattle.td_machine.specs.Machine.{Machine}
 use Rattle.td_machine.specs.Shown.{change_between}
 use Rattle.td_machine.specs.Taking.{Stepped}
 use Rattle.td_replica.specs.declared.making.Done.{Done}
+use Rattle.td_replica.specs.LastChange.{change_of}
 use Rattle.td_replica.specs.Parts.{StateValue}
 
 -- the reply and the machine are those of the step; there is room for the entry
@@ -17,7 +18,7 @@ pub record IsStep (s : Stepped) (old new : StateValue) (d : Done) : Type 0 where
   pub reply : d.reply ≡ s.reply
   pub machine : new.machine ≡ s.machine
   pub entries : new.entries ≡ old.entries
-  pub change : d.change ≡ change_between old.machine s.machine
+  pub change : change_of d.change new.ops new.machine.doc ≡ change_between old.machine s.machine
   pub room : 1 ≤ new.room.things
   pub number : IfSome d.number (λ k. k < length new.ops)
 

@@ -11,7 +11,7 @@ use Rattle.td_machine.specs.Hold.{held_slot}
 use Rattle.td_machine.specs.Machine.{Machine, made, undecided}
 use Rattle.td_machine.specs.Request.{Aim, Refuse, Do, GiveUp, aim, is_past_limit}
 use Rattle.td_replica.specs.declared.requests.Verdict.{Verdict}
-use Rattle.td_replica.specs.declared.requests.Verdict.TheVariants.{Answer, Make, Propose, Cancel}
+use Rattle.td_replica.specs.declared.requests.Verdict.TheVariants.{Answer, Put, Delete as DeleteRow, Propose, Cancel}
 
 -- what stands against an operation that takes so many numbers: a hold, or that they are out
 abbrev pub standing : Option DotValue → ℕ → Machine → Option Reply
@@ -21,10 +21,11 @@ standing None room m = if is_past_limit room m then Some (Limit (made m) (undeci
 -- an operation that may be made
 abbrev pub allowed : Body → Verdict
 allowed (ProposeIn slot) = Propose slot
-allowed (Insert slot run) = Make (Insert slot run)
-allowed (Delete x) = Make (Delete x)
-allowed (Commit p) = Make (Commit p)
-allowed (Abort p) = Make (Abort p)
+allowed (Insert slot run) = Put slot
+allowed (Delete x) = DeleteRow x
+-- no request aims at a decision
+allowed (Commit p) = Cancel p
+allowed (Abort p) = Cancel p
 
 abbrev pub unless : Option Reply → Body → Verdict
 unless None body = allowed body

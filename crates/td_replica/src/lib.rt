@@ -4,11 +4,13 @@
 //! see a replica as that machine with the history that led to it, and the type tells that the history is legal, so no
 //! caller owes a word about the replica's own state. Begin at `replica` and at `specs/Replica.antt`. What a replica
 //! has and how an operation changes it is in `state`; what an editor asks is judged in `requests` and done in
-//! `making`; what other sites send is in `operations` and `votes`.
+//! `making`; what other sites send is in `operations` and `votes`, and what a step did to the atoms
+//! shown in `last_change`.
 #![tactic(auto)]
 
 mod answering;
 mod given;
+mod last_change;
 mod making;
 mod operations;
 mod reading;

@@ -17,11 +17,12 @@ ghost use Rattle.td_history.specs.Texts.{run_of, run_at};
 ghost use Rattle.td_replica.specs.Parts.{IsAsBefore};
 ghost use Rattle.td_replica.specs.Steps.{IsStep, IsEdit, IsDue};
 
-use crate::requests::Verdict;
+use crate::last_change::LastChange;
+use crate::requests::{Verdict, insert_in};
 use crate::state::{Origin, State};
 use td_base::{Dot, Memory};
 use td_doc::Doc;
-use td_op::{Body, Change, Op, Reply, Request, Vote};
+use td_op::{Body, Reply, Request, Vote};
 use td_path::Slot;
 
 /// What a step did.
@@ -29,7 +30,7 @@ use td_path::Slot;
 pub struct Done {
     pub reply: Reply,
     /// What it did to the list of live atoms.
-    pub change: Option<Change>,
+    pub change: LastChange,
     /// The number of the operation that was made or given, where it is stored.
     pub number: Option<u32>,
 }
@@ -45,13 +46,13 @@ impl<D: Doc> State<D> {
         self.reserve(self.site)?;
         Ok(Done {
             reply,
-            change: None,
+            change: LastChange::Nothing,
             number: None,
         })
     }
 
-    // An edit is made. An atom that is put is looked for at an index first.
-    fn make(&mut self, body: &Body, near: Option<u32>) -> Result<Done, Memory>
+    // An edit is made.
+    fn make(&mut self, body: &Body) -> Result<Done, Memory>
         requires built { IsBuilt Anything self.old.machine.site self.old.machine.size self.old.machine }
         requires edit { IsEdit body.now }
         requires may { MayMake body.now self.old.machine }
@@ -65,7 +66,7 @@ impl<D: Doc> State<D> {
         self.reserve(self.site)?;
         let op = self.next_op(body);
         let number = self.past.kept();
-        let change = self.change_document(&op, near)?;
+        let change = self.change_document(&op, number)?;
         self.note(&op, Origin::Here);
         Ok(Done {
             reply: Reply::Made { dot: op.dot() },
@@ -109,7 +110,7 @@ impl<D: Doc> State<D> {
         self.open(op.dot());
         Ok(Done {
             reply: Reply::Made { dot: op.dot() },
-            change: None,
+            change: LastChange::Nothing,
             number: None,
         })
     }
@@ -137,7 +138,7 @@ impl<D: Doc> State<D> {
         self.note(&commit, Origin::Here);
         Ok(Done {
             reply: Reply::Made { dot: proposal },
-            change: None,
+            change: LastChange::Nothing,
             number: None,
         })
     }
@@ -157,7 +158,7 @@ impl<D: Doc> State<D> {
         self.note(&op, Origin::Here);
         Ok(Done {
             reply: Reply::Cancelled,
-            change: None,
+            change: LastChange::Nothing,
             number: None,
         })
     }
@@ -172,7 +173,8 @@ impl<D: Doc> State<D> {
     {
         self.reserve(self.site)?;
         let op = self.next_op(body);
-        let change = self.change_document(&op, None)?;
+        let number = self.past.kept();
+        let change = self.change_document(&op, number)?;
         self.count(vote);
         self.note(&op, Origin::Here);
         Ok(Done {
@@ -192,19 +194,10 @@ impl<D: Doc> State<D> {
     {
         match self.verdict(request) {
             Verdict::Answer(reply) => self.refuse(reply),
-            Verdict::Make(body) => self.make(&body, index_in(request)),
+            Verdict::Put(slot) => self.make(&insert_in(slot, request)),
+            Verdict::Delete(target) => self.make(&Body::Delete { target }),
             Verdict::Propose(slot) => self.make_proposal(&slot),
             Verdict::Cancel(proposal) => self.make_abort(proposal),
         }
-    }
-}
-
-// The index at which an atom is to be put, where the request has one.
-fn index_in(request: &Request) -> Option<u32> {
-    match *request {
-        Request::Insert { index, .. } | Request::Paste { index, .. } => Some(index),
-        Request::InsertAfter { .. } | Request::PasteAfter { .. } => None,
-        Request::Delete { .. } | Request::DeleteAtom { .. } => None,
-        Request::Propose { .. } | Request::ProposeAt { .. } | Request::Cancel { .. } => None,
     }
 }

@@ -16,6 +16,7 @@ ghost use Rattle.td_replica.specs.declared.operations.Judged.TheVariants.{Delay}
 ghost use Rattle.td_replica.specs.Parts.{IsAsBefore, ComesFrom, IsFromOutside, number_from};
 ghost use Rattle.td_replica.specs.Steps.{IsStep};
 
+use crate::last_change::LastChange;
 use crate::making::Done;
 use crate::same::same_op;
 use crate::state::{Origin, State};
@@ -217,7 +218,7 @@ impl<D: Doc> State<D> {
         let number = self.wait(op)?;
         Ok(Done {
             reply: Reply::Later,
-            change: None,
+            change: LastChange::Nothing,
             number: Some(number),
         })
     }
@@ -256,7 +257,7 @@ impl<D: Doc> State<D> {
     {
         self.reserve(op.dot().site)?;
         let number = self.number_from(origin);
-        let change = self.change_document(op, None)?;
+        let change = self.change_document(op, number)?;
         self.note(op, origin);
         Ok(Done {
             reply,
@@ -291,7 +292,7 @@ impl<D: Doc> State<D> {
         self.answer(op.dot(), slot, says);
         Ok(Done {
             reply,
-            change: None,
+            change: LastChange::Nothing,
             number: Some(number),
         })
     }

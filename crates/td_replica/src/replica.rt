@@ -5,6 +5,7 @@ ghost use Rattle.td_op.specs.declared.request.Request.TheVariants.{Insert, Inser
 ghost use Rattle.td_machine.specs.Step.{step};
 ghost use Rattle.td_replica.specs.Replica.{new_replica, after_step};
 
+use crate::last_change::LastChange;
 use crate::state::State;
 use std::alloc::Global;
 use std::marker::Model;
@@ -20,18 +21,18 @@ use td_path::Slot;
 pub struct Replica<D: Doc> {
     pub(crate) state: State<D>,
     // what the last step did to the list of live atoms
-    change: Option<Change>,
+    last: LastChange,
 }
 
 impl<D: Doc> Model for Replica<D> {
     ghost use Rattle.td_replica.specs.Replica.{ReplicaValue, IsReplica};
+    ghost use Rattle.td_replica.specs.LastChange.{replica_of};
 
     ghost Value = { ReplicaValue };
 
-    ghost view = { λ r. record { machine = r.state.machine; entries = r.state.entries; change = r.change } };
+    ghost view = { λ r. replica_of r.state r.last };
 
-    ghost invariant = { λ r.
-        IsReplica (record { machine = r.state.machine; entries = r.state.entries; change = r.change }) };
+    ghost invariant = { λ r. IsReplica (replica_of r.state r.last) };
 }
 
 impl<D: Doc> Replica<D> {
@@ -43,7 +44,7 @@ impl<D: Doc> Replica<D> {
     {
         Ok(Replica {
             state: State::new(alloc, site, n)?,
-            change: None,
+            last: LastChange::Nothing,
         })
     }
 
@@ -65,7 +66,7 @@ impl<D: Doc> Replica<D> {
         input.is_in_range();
         let done = self.state.answer_input(input)?;
         self.state.enter(input, &done.reply, done.number);
-        self.change = done.change;
+        self.last = done.change;
         Ok(done.reply)
     }
 
@@ -73,7 +74,7 @@ impl<D: Doc> Replica<D> {
     pub fn last_change(&self) -> Option<Change>
         ensures { result ≡ self.now.change }
     {
-        self.change
+        self.state.change_of(&self.last)
     }
 
     /// Puts the atom at the index, as far as the end. Replies Made, Position, Held or Limit.

@@ -1,6 +1,7 @@
 // What a request of the site's editor comes to.
-ghost use Rattle.std.specs.Prelude.{◌≡◌, ◌≤◌, ◌+◌, Option};
+ghost use Rattle.std.specs.Prelude.{◌≡◌, ◌≤◌, ◌+◌, ℕ, List, Option, IfSome, IsSome};
 ghost use Rattle.td_base.specs.declared.dot.TheConstants.{MAX_SEQ};
+ghost use Rattle.td_op.specs.declared.body.Body.TheVariants.{Insert as InsertIn};
 ghost use Rattle.td_op.specs.declared.request.Request.TheVariants.{Cancel as CancelOf};
 ghost use Rattle.td_op.specs.declared.reply.Reply.TheVariants.{Position};
 ghost use Rattle.td_replica.specs.declared.requests.Verdict.TheVariants.{Answer};
@@ -10,6 +11,7 @@ ghost use Rattle.td_doc.specs.Document.{live_id_at};
 ghost use Rattle.td_doc.specs.Allocation.{anchor};
 ghost use Rattle.td_machine.specs.Machine.{made, undecided};
 ghost use Rattle.td_machine.specs.Request.{aim, insert_aim, insert_aim_at, insert_aim_after, delete_aim, propose_aim, propose_aim_of, live_aim, len, is_past_limit};
+ghost use Rattle.td_history.specs.Texts.{text_of};
 ghost use Rattle.td_replica.specs.Verdict.{verdict, verdict_on, standing, put_aim};
 
 use crate::state::State;
@@ -24,8 +26,10 @@ use td_path::Slot;
 pub enum Verdict {
     /// It is refused.
     Answer(Reply),
-    /// The edit is to be made.
-    Make(Body),
+    /// The run of the request is to be put in the slot.
+    Put(Slot),
+    /// The row is to be deleted.
+    Delete(AtomId),
     /// The slot is to be proposed.
     Propose(Slot),
     /// The own proposal is to be given up.
@@ -39,10 +43,10 @@ impl<D: Doc> State<D> {
         ensures { result ≡ verdict request.now self.now.machine }
     {
         match *request {
-            Request::Insert { index, atom } => self.insert_at(index, Run::one(atom)),
-            Request::InsertAfter { after, atom } => self.insert_after(after, Run::one(atom)),
-            Request::Paste { index, run } => self.insert_at(index, run),
-            Request::PasteAfter { after, run } => self.insert_after(after, run),
+            Request::Insert { index, .. } | Request::Paste { index, .. } => self.insert_at(index),
+            Request::InsertAfter { after, .. } | Request::PasteAfter { after, .. } => {
+                self.insert_after(after)
+            }
             Request::Delete { index } => match self.doc.live_at(index) {
                 Some(id) => self.delete(id),
                 None => self.no_position(),
@@ -61,47 +65,51 @@ impl<D: Doc> State<D> {
 
 impl<D: Doc> State<D> {
     // A run to be put at an index.
-    fn insert_at(&self, index: u32, run: Run) -> Verdict
+    fn insert_at(&self, index: u32) -> Verdict
         requires { made self.now.machine + undecided self.now.machine ≤ MAX_SEQ }
-        ensures { result ≡ verdict_on (insert_aim_at run index self.now.machine) self.now.machine }
+        ensures { (run : List (List ℕ))
+            → result ≡ verdict_on (insert_aim_at run index self.now.machine) self.now.machine }
     {
         if index > self.doc.live() {
             return self.no_position();
         }
         if index == 0 {
-            return self.place(None, run);
+            return self.place(None);
         }
-        self.place(self.doc.live_at(index - 1), run)
+        self.place(self.doc.live_at(index - 1))
     }
 
     // A run to be put right after a live atom, or at the start.
-    fn insert_after(&self, after: Option<AtomId>, run: Run) -> Verdict
+    fn insert_after(&self, after: Option<AtomId>) -> Verdict
         requires { made self.now.machine + undecided self.now.machine ≤ MAX_SEQ }
-        ensures { result ≡ verdict_on (insert_aim_after run after self.now.machine) self.now.machine }
+        ensures { (run : List (List ℕ))
+            → result ≡ verdict_on (insert_aim_after run after self.now.machine) self.now.machine }
     {
         match after {
             Some(id) if !self.doc.is_live(id) => Verdict::Answer(Reply::Gone { id }),
-            _ => self.place(after, run),
+            _ => self.place(after),
         }
     }
 
     // A run to be put right after a row, or at the start.
-    fn place(&self, after: Option<AtomId>, run: Run) -> Verdict
+    fn place(&self, after: Option<AtomId>) -> Verdict
         requires row { ForSome after (IsRow self.now.machine.doc) }
         requires room { made self.now.machine + undecided self.now.machine ≤ MAX_SEQ }
-        ensures { result ≡ verdict_on (insert_aim run after self.now.machine) self.now.machine }
+        ensures { (run : List (List ℕ))
+            → result ≡ verdict_on (insert_aim run after self.now.machine) self.now.machine }
     {
-        self.put_in(&alloc_slot(&self.doc, after), run)
+        self.put_in(&alloc_slot(&self.doc, after))
     }
 
     // A run to be put in a slot.
-    fn put_in(&self, slot: &Slot, run: Run) -> Verdict
+    fn put_in(&self, slot: &Slot) -> Verdict
         requires { made self.now.machine + undecided self.now.machine ≤ MAX_SEQ }
-        ensures { result ≡ verdict_on (put_aim run slot.now self.now.machine) self.now.machine }
+        ensures { (run : List (List ℕ))
+            → result ≡ verdict_on (put_aim run slot.now self.now.machine) self.now.machine }
     {
         match self.stands_against(self.holds.held_slot(&self.doc, *slot), 1) {
             Some(reply) => Verdict::Answer(reply),
-            None => Verdict::Make(Body::Insert { slot: *slot, run }),
+            None => Verdict::Put(*slot),
         }
     }
 
@@ -112,7 +120,7 @@ impl<D: Doc> State<D> {
     {
         match self.stands_against(self.holds.held_row(&self.doc, target), 1) {
             Some(reply) => Verdict::Answer(reply),
-            None => Verdict::Make(Body::Delete { target }),
+            None => Verdict::Delete(target),
         }
     }
 
@@ -170,4 +178,20 @@ impl<D: Doc> State<D> {
         }
         None
     }
+}
+
+// The insert that the request asks for, in this slot.
+pub(crate) fn insert_in(slot: Slot, request: &Request) -> Body
+    requires { IsSome (text_of request.now) }
+    ensures { IfSome (text_of request.now) (λ run. result ≡ InsertIn slot run) }
+{
+    let run = match request {
+        Request::Insert { atom, .. } | Request::InsertAfter { atom, .. } => Run::one(*atom),
+        Request::Paste { run, .. } | Request::PasteAfter { run, .. } => *run,
+        Request::Delete { .. } | Request::DeleteAtom { .. } => unreachable!(),
+        Request::Propose { .. } | Request::ProposeAt { .. } | Request::Cancel { .. } => {
+            unreachable!()
+        }
+    };
+    Body::Insert { slot, run }
 }

@@ -1,12 +1,12 @@
 // The parts of a replica, and what an operation does to them.
-ghost use Rattle.std.specs.Prelude.{◌≡◌, ◌<◌, ◌≤◌, ◌+◌, ◌++◌, ◌∷◌, [], length, slice_get, Some, None, IfOk, OnOk, OnErr, IfSome, IsNone, IsSome, IsTrue, find, option_map, ◌-◌, false, if◌then◌else◌};
+ghost use Rattle.std.specs.Prelude.{◌≡◌, ◌<◌, ◌≤◌, ◌+◌, ◌++◌, ◌∷◌, List, [], length, slice_get, Some, None, IfOk, OnOk, OnErr, IfSome, IsNone, IsSome, IsTrue, find, option_map, ◌-◌, false, if◌then◌else◌};
 ghost use Rattle.td_base.specs.declared.site.TheConstants.{MAX_SITE};
 ghost use Rattle.td_base.specs.declared.dot.TheConstants.{MAX_SEQ};
 ghost use Rattle.td_op.specs.Op.{OpValue, body_site};
-ghost use Rattle.td_op.specs.declared.change.Change.TheVariants.{Cut};
 ghost use Rattle.td_doc.specs.Answers.{IsFresh, is_live_id, live_before};
 ghost use Rattle.td_doc.specs.Document.{IsDocument, live_id_at};
-ghost use Rattle.td_doc.specs.Insertion.{insert_run};
+ghost use Rattle.td_doc.specs.Deletion.{delete};
+ghost use Rattle.td_op.specs.declared.body.Body.TheVariants.{Delete};
 ghost use Rattle.td_machine.specs.Counts.{IsNext};
 ghost use Rattle.td_machine.specs.Log.{committed};
 ghost use Rattle.td_machine.specs.Machine.{Machine, made, next_op, start};
@@ -25,17 +25,19 @@ ghost use Rattle.td_op.specs.declared.message.Message.TheVariants.{Vote as AVote
 ghost use Rattle.td_doc.specs.Flatten.{flatten};
 ghost use Rattle.std.specs.Option.{ForSome};
 ghost use Rattle.td_history.specs.Past.{IsUndecided, IsNextIn, decided_by};
+ghost use Rattle.td_replica.specs.LastChange.{change_of};
 ghost use Rattle.td_replica.specs.Parts.{StateValue, IsAsBefore, HasRoomFor, ComesFrom, with_effect, with_note, with_machine, with_ballots, waiting_too, ops_with, commits_after, logged};
 
+use crate::last_change::LastChange;
 use std::alloc::Global;
 use std::marker::Model;
-use td_base::{AtomId, Dot, Memory, Run, Site};
+use td_base::{AtomId, Dot, Memory, Site};
 use td_causal::{Buffer, Waiting};
 use td_clock::Vector;
 use td_coord::Tally;
 use td_doc::{Doc, DocFault};
 use td_history::History;
-use td_op::{Body, Change, Op, Vote};
+use td_op::{Body, Op, Vote};
 use td_path::Slot;
 use td_vote::Holds;
 
@@ -119,39 +121,29 @@ impl<D: Doc> State<D> {
         Op::of(dot, &self.have, body)
     }
 
-    // Does to the document what the operation does to it, and tells what that does to the atoms shown. Where it finds
-    // no memory, the document is as before. An atom that is put is looked for at an index first; nothing rests on it.
-    pub(crate) fn change_document(
-        &mut self,
-        op: &Op,
-        near: Option<u32>,
-    ) -> Result<Option<Change>, Memory>
-        requires fresh { IsFresh self.old.machine.doc op.now.dot }
-        requires document { IsDocument self.old.machine.doc }
+    // Does to the document what the operation does to it, and tells what that does to the atoms shown, where the
+    // operation is the one of this number then. Where it finds no memory, the document is as before.
+    pub(crate) fn change_document(&mut self, op: &Op, number: u32) -> Result<LastChange, Memory>
+        requires { IsFresh self.old.machine.doc op.now.dot }
         ensures ok { OnOk result (self.new ≡ record self.old { machine = with_effect op.now self.old.machine }) }
-        ensures change { IfOk result (λ change.
-            change ≡ change_by op.now.dot op.now.body self.old.machine.doc) }
+        ensures change { IfOk result (λ last. (ops : List OpValue) → slice_get ops number ≡ Some op.now
+            → change_of last ops self.new.machine.doc ≡ change_by op.now.dot op.now.body self.old.machine.doc) }
         ensures err { OnErr result (self.new ≡ self.old) }
     {
         let dot = op.dot();
-        match *op.body_ref() {
+        match op.body_ref() {
             Body::Insert { slot, run } => {
-                put_run(&mut self.doc, slot, dot, run)?;
-                let index = index_of(&self.doc, AtomId::of(dot), near);
-                Ok(Some(put_at(index, &run)))
+                self.doc.insert_run(*slot, dot, *run).map_err(memory)?;
+                Ok(LastChange::Put { number })
             }
-            Body::Delete { target } => {
-                let cut = cut_of(&self.doc, target);
-                self.doc.delete(target, dot).map_err(memory)?;
-                Ok(cut)
-            }
+            Body::Delete { target } => delete_row(&mut self.doc, *target, dot),
             Body::Commit { proposal } => {
-                if let Some(slot) = self.past.proposed_slot(proposal) {
+                if let Some(slot) = self.past.proposed_slot(*proposal) {
                     self.doc.flatten(slot).map_err(memory)?;
                 }
-                Ok(None)
+                Ok(LastChange::Nothing)
             }
-            Body::Propose { .. } | Body::Abort { .. } => Ok(None),
+            Body::Propose { .. } | Body::Abort { .. } => Ok(LastChange::Nothing),
         }
     }
 
@@ -315,68 +307,18 @@ fn log(past: &mut History, op: &Op, origin: Origin)
     }
 }
 
-// Puts the run of an operation that fits into the document, which is a document then too.
-fn put_run<D: Doc>(doc: &mut D, slot: Slot, dot: Dot, run: Run) -> Result<(), Memory>
-    requires fresh { IsFresh (D.rows doc.old) dot }
-    requires document { IsDocument (D.rows doc.old) }
-    ensures ok { OnOk result (D.rows doc.new ≡ insert_run slot dot run (D.rows doc.old)) }
-    ensures document { OnOk result (IsDocument (D.rows doc.new)) }
+// Deletes the row, and tells what that does to the atoms shown.
+fn delete_row<D: Doc>(doc: &mut D, target: AtomId, dot: Dot) -> Result<LastChange, Memory>
+    ensures ok { OnOk result (D.rows doc.new ≡ delete target dot (D.rows doc.old)) }
+    ensures change { IfOk result (λ last. (ops : List OpValue)
+        → change_of last ops (D.rows doc.new) ≡ change_by dot (Delete target) (D.rows doc.old)) }
     ensures err { OnErr result (D.rows doc.new ≡ D.rows doc.old) }
 {
-    match doc.insert_run(slot, dot, run) {
-        Ok(()) => Ok(()),
+    let was_live = doc.is_live(target);
+    match doc.delete(target, dot) {
+        Ok(()) if was_live => Ok(LastChange::Cut { target }),
+        Ok(()) => Ok(LastChange::Nothing),
         Err(fault) => Err(memory(fault)),
-    }
-}
-
-// How many live atoms stand before the atom, which is looked for at an index first.
-fn index_of<D: Doc>(doc: &D, id: AtomId, near: Option<u32>) -> u32
-    requires { IsDocument (D.rows doc.now) }
-    ensures { result ≡ live_before id (D.rows doc.now) }
-{
-    match near {
-        Some(index) if is_at(doc, id, index) => index,
-        _ => live_before(doc, id),
-    }
-}
-
-// Whether the live atom at the index is this one.
-fn is_at<D: Doc>(doc: &D, id: AtomId, index: u32) -> bool
-    ensures { IsTrue result → live_id_at (D.rows doc.now) index ≡ Some id }
-{
-    doc.live_at(index) == Some(id)
-}
-
-// How many live atoms stand before the atom, or all of them where it is no row.
-fn live_before<D: Doc>(doc: &D, id: AtomId) -> u32
-    ensures { result ≡ live_before id (D.rows doc.now) }
-{
-    match doc.find(id) {
-        Some(row) => row.index,
-        None => doc.live(),
-    }
-}
-
-// What a delete of the row does to the atoms shown.
-fn cut_of<D: Doc>(doc: &D, target: AtomId) -> Option<Change>
-    ensures { result ≡ (if is_live_id (D.rows doc.now) target
-        then Some (Cut (live_before target (D.rows doc.now))) else None) }
-{
-    if !doc.is_live(target) {
-        return None;
-    }
-    Some(Change::Cut {
-        index: live_before(doc, target),
-    })
-}
-
-// The run put at the index: one atom is put alone.
-fn put_at(index: u32, run: &Run) -> Change
-    ensures { result ≡ put_at_index index run.now }
-{
-    match run.only() {
-        Some(atom) => Change::Put { index, atom },
-        None => Change::PutRun { index, run: *run },
     }
 }
 

@@ -1,4 +1,5 @@
 mod bad_messages;
+mod changes;
 mod flattens;
 mod merges;
 mod refusals;

@@ -10,6 +10,7 @@ ghost use Rattle.td_replica.specs.Parts.{IsAsBefore};
 ghost use Rattle.td_replica.specs.Steps.{IsStep};
 ghost use Rattle.td_replica.specs.Judging.{vote_misfit, IsUndue};
 
+use crate::last_change::LastChange;
 use crate::making::Done;
 use crate::state::State;
 use td_base::Memory;
@@ -49,7 +50,7 @@ impl<D: Doc> State<D> {
         self.count(vote);
         Ok(Done {
             reply: Reply::New,
-            change: None,
+            change: LastChange::Nothing,
             number: None,
         })
     }

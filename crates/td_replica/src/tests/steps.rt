@@ -84,7 +84,7 @@ fn id(site: u8, seq: u32) -> Result<AtomId, Fail> {
     Ok(AtomId::of(dot(site, seq)?))
 }
 
-fn atom(letter: u8) -> Result<Atom, Fail> {
+pub fn atom(letter: u8) -> Result<Atom, Fail> {
     Ok(Atom::new(&[letter]).ok().ok_or("an atom")?)
 }
 
@@ -95,13 +95,17 @@ fn slot(site: u8, seq: u32, bit: Bit) -> Result<Slot, Fail> {
     })
 }
 
-fn paste(after: Option<(u8, u32)>, [first, second]: [u8; 2]) -> Result<Request, Fail> {
+pub fn run([first, second]: [u8; 2]) -> Result<Run, Fail> {
     let run = Run::new(&[atom(first)?, atom(second)?]);
+    Ok(run.ok().ok_or("a run")?)
+}
+
+fn paste(after: Option<(u8, u32)>, letters: [u8; 2]) -> Result<Request, Fail> {
     let after = match after {
         Some((site, seq)) => Some(id(site, seq)?),
         None => None,
     };
-    let run = run.ok().ok_or("a run")?;
+    let run = run(letters)?;
     Ok(Request::PasteAfter { after, run })
 }
 

@@ -5,18 +5,14 @@ use Rattle.td_machine.specs.Machine.{Machine}
 use Rattle.td_machine.specs.Shown.{change_by}
 use Rattle.td_machine.specs.Taking.{take}
 use Rattle.td_replica.specs.Parts.{StateValue, with_effect, with_note}
-use Rattle.td_machine.proofs.Documents.{documents}
-use Rattle.td_replica.proofs.Noting.{found_from}
+use Rattle.td_replica.specs.LastChange.{change_of}
+use Rattle.td_replica.proofs.Noting.{doc_noted, found_from}
 use Rattle.td_replica.proofs.Stepping.{change_once}
 use Rattle.td_replica.proofs.Taking.{next_taken, fresh_taken, changed_taken, take_log}
 use Rattle.td_replica.proofs.state.State.absorb_change.Goals as goal
 
-pub change_document-requires-clause-document : goal.change_document-requires-clause-document
-change_document-requires-clause-document g c =
-    rw c.in_ok-reserve.ensures.same.machine (documents c.args.self.now.machine c.requires.built).0
-
-pub change_document-requires-clause-fresh : goal.change_document-requires-clause-fresh
-change_document-requires-clause-fresh g c =
+pub change_document-requires : goal.change_document-requires
+change_document-requires g c =
     rw c.in_ok-reserve.ensures.same.machine
     (fresh_taken c.args.self.now.machine c.requires.built c.args.op.now c.requires.fit)
 
@@ -48,7 +44,11 @@ returns-clause-ok g c =
           ∙ changed_taken m c.requires.built x c.requires.fit c.args.origin c.requires.other c.requires.change;
       entries = c.note.ensures.entries ∙ ap (λ (s : StateValue). s.entries) c.in_ok-change.ensures.ok
           ∙ c.in_ok-reserve.ensures.same.entries;
-      change = c.in_ok-change.ensures.change ∙ ap (λ (k : Machine). change_by x.dot x.body k.doc) same
+      change = ap (λ (k : Machine). change_of c.in_ok-change.change c.note.new.self.ops k.doc) c.note.ensures.machine
+          ∙ ap (change_of c.in_ok-change.change c.note.new.self.ops)
+          (doc_noted c.args.origin x c.change_document.new.self.machine)
+          ∙ c.in_ok-change.ensures.change c.note.new.self.ops (returns-clause-number g c)
+          ∙ ap (λ (k : Machine). change_by x.dot x.body k.doc) same
           ∙ sym (change_once m (take x m) x (take_log m c.requires.built x c.requires.fit));
       room = omega (arith, things, enough, less);
       number = slice_get_within c.note.new.self.ops c.number_from-number.result x (returns-clause-number g c);

@@ -1,4 +1,3 @@
-use Rattle.td_machine.proofs.Documents.{documents}
 use Rattle.td_replica.proofs.Stepping.{next_made, fresh_made, named_made}
 use Rattle.td_replica.proofs.state.State.make.Goals as goal
 
@@ -7,12 +6,8 @@ next_op-op-requires-clause-named g c =
     rw c.in_ok-reserve.ensures.same.machine
     (named_made c.args.self.now.machine c.requires.built c.args.body.now c.requires.may)
 
-pub change_document-requires-clause-document : goal.change_document-requires-clause-document
-change_document-requires-clause-document g c =
-    rw c.in_ok-reserve.ensures.same.machine (documents c.args.self.now.machine c.requires.built).0
-
-pub change_document-requires-clause-fresh : goal.change_document-requires-clause-fresh
-change_document-requires-clause-fresh g c =
+pub change_document-requires : goal.change_document-requires
+change_document-requires g c =
     rw (c.next_op-op.ensures, c.in_ok-reserve.ensures.same.machine)
     (fresh_made c.args.self.now.machine c.requires.built c.args.body.now c.requires.may)
 

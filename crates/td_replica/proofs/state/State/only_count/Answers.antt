@@ -10,6 +10,7 @@ use Rattle.td_replica.specs.Parts.{StateValue, with_ballots}
 use Rattle.td_replica.specs.Steps.{IsStep}
 use Rattle.td_replica.proofs.Deciding.{vote_waits}
 use Rattle.td_replica.proofs.Stepping.{change_none}
+use Rattle.td_replica.specs.declared.last_change.LastChange.TheVariants.{Nothing}
 use Rattle.td_replica.proofs.state.State.only_count.Goals as goal
 
 pub returns-clause-ok : goal.returns-clause-ok
@@ -25,7 +26,7 @@ returns-clause-ok g c =
     let left : c.count.new.self.room.things ≡ c.reserve-2.new.self.room.things =
     ap (λ (s : StateValue). s.room.things) counted in
     subst
-    (λ (s : Stepped). IsStep s c.args.self.now c.count.new.self (record { reply = New; change = None; number = None }))
+    (λ (s : Stepped). IsStep s c.args.self.now c.count.new.self (record { reply = New; change = Nothing; number = None }))
     (sym (vote_waits m c.requires.built v c.requires.may (c.requires.waits b c.requires.may.found).1))
     (record {
       reply = refl;

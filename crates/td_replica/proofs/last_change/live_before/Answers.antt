@@ -1,6 +1,6 @@
 use Rattle.std.proofs.Common.{◌∙◌, sym}
 use Rattle.td_replica.proofs.Atoms.{before_untold}
-use Rattle.td_replica.proofs.state.live_before.Goals as goal
+use Rattle.td_replica.proofs.last_change.live_before.Goals as goal
 
 pub returns-in-None : goal.returns-in-None
 returns-in-None g c =
