@@ -1,8 +1,8 @@
 -- Operations whose runs and dependencies stand in lists are those that were stored, also where more was added to the
 -- lists.
 use Rattle.std.proofs.Common.{◌≡◌, ◌<◌, ◌≤◌, ◌+◌, ◌-◌, ◌^◌, ◌++◌, ◌∷◌, [], ℕ, List, length, map, take, drop, get_or, refl, sym, ap, ◌∙◌, subst, arith, length-append}
-use Rattle.std.specs.Prelude.{Option, Some, None, slice_get}
-use Rattle.std.specs.Option.{option_map, IfSome, SomeIff}
+use Rattle.std.specs.Prelude.{Some, None, slice_get}
+use Rattle.std.specs.Option.{option_map, IfSome}
 use Rattle.std.specs.List.{All}
 use Rattle.std.proofs.lemmas.List.{map-append, take-append-drop, get_or_append_left, set-get_or}
 use Rattle.std.proofs.lemmas.List.Elements.{All-tail, All-push}
@@ -49,21 +49,20 @@ row_found size rows runs stored kept none =
     let some : None ≡ Some (deps_of (get_or rows stored.row []) stored.dot) = rw row at none in
     cc
 
--- what is found is there
-only : (result : Option OpValue) (P : Type 0) (op : OpValue) → P → SomeIff result P op → result ≡ Some op
-only None P op holds answer = absurd (answer holds)
-only (Some x) P op holds answer = ap Some answer.1
-
-pub op_read : (size : ℕ) (rows : List (List ℕ)) (runs : List (List (List ℕ))) (ops : List CompactOp) (k : ℕ) (stored : CompactOp) (result : Option OpValue) (deps : List ℕ)
-    → IsKept size rows runs stored → slice_get ops k ≡ Some stored → option_map (λ row. deps_of row stored.dot) (slice_get rows stored.row) ≡ Some deps
-    → SomeIff result (IsOp (record { dot = stored.dot; deps = deps; body = body_of runs stored.body })) (record { dot = stored.dot; deps = deps; body = body_of runs stored.body })
-    → result ≡ slice_get (map (op_of rows runs) ops) k
-op_read size rows runs ops k stored result deps kept at found answer =
+-- with them it is the operation that was stored
+pub read_op : (size : ℕ) (rows : List (List ℕ)) (runs : List (List (List ℕ))) (stored : CompactOp) (deps : List ℕ)
+    → IsKept size rows runs stored → option_map (λ row. deps_of row stored.dot) (slice_get rows stored.row) ≡ Some deps
+    → ◌≡◌ {A = OpValue} (record { dot = stored.dot; deps = deps; body = body_of runs stored.body }) (op_of rows runs stored)
+read_op size rows runs stored deps kept found =
     let row : slice_get rows stored.row ≡ Some (get_or rows stored.row []) = slice_get-get_or rows stored.row [] kept.row in
     let some : Some (deps_of (get_or rows stored.row []) stored.dot) ≡ Some deps = rw row at found in
     let is : deps ≡ deps_of (get_or rows stored.row []) stored.dot = cc in
-    let result_is : result ≡ Some (op_of rows runs stored) = only result (IsOp (op_of rows runs stored)) (op_of rows runs stored) kept.op (rw is at answer) in
-    result_is ∙ sym (slice_get-map (op_of rows runs) ops k ∙ ap (option_map (op_of rows runs)) at)
+    λ i. record { dot = stored.dot; deps = is i; body = body_of runs stored.body }
+
+-- which is the one at its place
+pub op_at : (rows : List (List ℕ)) (runs : List (List (List ℕ))) (ops : List CompactOp) (k : ℕ) (stored : CompactOp)
+    → slice_get ops k ≡ Some stored → Some (op_of rows runs stored) ≡ slice_get (map (op_of rows runs) ops) k
+op_at rows runs ops k stored at = sym (slice_get-map (op_of rows runs) ops k ∙ ap (option_map (op_of rows runs)) at)
 
 -- ---- more rows and runs
 

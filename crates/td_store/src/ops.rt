@@ -113,11 +113,8 @@ impl Ops {
     {
         let op = self.ops.get(k as usize)?;
         let dot = op.dot.dot();
-        Op::new(
-            dot,
-            deps_at(&self.rows, op.row, dot)?,
-            op.body.body(&self.runs),
-        )
+        let deps = deps_at(&self.rows, op.row, dot)?;
+        Some(Op::of(dot, &deps, &op.body.body(&self.runs)))
     }
 
     /// The dot of the operation at a place.
