@@ -1,4 +1,4 @@
-ghost use Rattle.std.specs.Prelude.{◌≡◌, ◌≤◌, ℕ, [], length, ◌==◌, find, option_map, IfSome, IfOk, OnOk, OnErr, false};
+ghost use Rattle.std.specs.Prelude.{◌≡◌, ◌≤◌, ℕ, [], length, ◌==◌, find, option_map, is_some, Option, None, IfSome, IfNone, IsSome, IfOk, OnOk, OnErr, false};
 ghost use Rattle.td_base.specs.Lists.{In};
 ghost use Rattle.td_base.specs.Value.{IsDot};
 ghost use Rattle.td_op.specs.Op.{IsOp};
@@ -73,16 +73,16 @@ impl Buffer {
         ensures least { option_map (λ (w : Waiting). w.op) result ≡ next_ready have.now (ops_waiting self.now) }
         ensures waits { IfSome result (λ w. In w self.now) }
     {
-        if self.waiting.is_empty() {
-            return None;
-        }
-        for n in 1..=have.size() {
-            let site = Site::new(n)?;
-            if let Some(next) = self.next_of(site, have) {
-                return Some(next);
-            }
-        }
-        None
+        let site = self.ready_site(have)?;
+        self.next_of(site, have)
+    }
+
+    /// Whether one of those that wait is ready.
+    pub fn has_ready(&self, have: &Vector) -> bool
+        requires alike { AreOfSize (length have.now) self.now }
+        ensures { result ≡ is_some (next_ready have.now (ops_waiting self.now)) }
+    {
+        self.ready_site(have).is_some()
     }
 
     /// Takes away the operation with the dot, where it waits.
@@ -135,16 +135,55 @@ impl Buffer {
         Ok(())
     }
 
-    // The ready operation of the site: the one that follows those that are had, where it waits and depends on no other.
+    // The least site of which an operation is ready.
+    fn ready_site(&self, have: &Vector) -> Option<Site>
+        requires alike { AreOfSize (length have.now) self.now }
+        ensures least { IfSome result (λ n. option_map (λ (w : Waiting). w.op) (find (is_ready_of n have.now) self.now)
+            ≡ next_ready have.now (ops_waiting self.now)) }
+        ensures some { IfSome result (λ n. IsSome (find (is_ready_of n have.now) self.now)) }
+        ensures site { IfSome result (λ n. n ≤ length have.now) }
+        ensures waiting { AreWaiting self.now }
+        ensures none { IfNone result (next_ready have.now (ops_waiting self.now) ≡ None) }
+    {
+        if self.waiting.is_empty() {
+            return None;
+        }
+        for n in 1..=have.size() {
+            let site = Site::new(n)?;
+            if self.is_next_ready(site, have) {
+                return Some(site);
+            }
+        }
+        None
+    }
+
+    // Whether the operation of the site that follows those that are had waits, and depends on no other.
+    fn is_next_ready(&self, site: Site, have: &Vector) -> bool
+        requires site { site ≤ length have.now }
+        requires waiting { AreWaiting self.now }
+        requires alike { AreOfSize (length have.now) self.now }
+        ensures { result ≡ is_some (find (is_ready_of site have.now) self.now) }
+    {
+        let Some(dot) = Dot::new(site, have.get(site) + 1) else {
+            return false;
+        };
+        match self.waiting.get(&dot) {
+            Some(next) => have.covers(next.op.deps()),
+            None => false,
+        }
+    }
+
+    // That operation, where it is ready.
     fn next_of(&self, site: Site, have: &Vector) -> Option<Waiting>
         requires site { site ≤ length have.now }
         requires waiting { AreWaiting self.now }
         requires alike { AreOfSize (length have.now) self.now }
         ensures { result ≡ find (is_ready_of site have.now) self.now }
     {
-        let dot = Dot::new(site, have.get(site) + 1)?;
-        let next = self.find(dot)?;
-        have.covers(next.op.deps()).then_some(next)
+        if !self.is_next_ready(site, have) {
+            return None;
+        }
+        self.find(Dot::new(site, have.get(site) + 1)?)
     }
 }
 

@@ -86,7 +86,7 @@ impl<D: Doc> Replica<D> {
     pub fn ready(&self) -> bool
         ensures { result ≡ not (is_idle (step self.now.machine Next).reply) }
     {
-        self.state.next_waiting().is_some()
+        self.state.has_ready()
     }
 
     /// The decision of the proposal, true for a commit; None exactly where this replica made or took none.

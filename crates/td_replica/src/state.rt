@@ -1,5 +1,5 @@
 // The parts of a replica, and what an operation does to them.
-ghost use Rattle.std.specs.Prelude.{◌≡◌, ◌<◌, ◌≤◌, ◌+◌, ◌++◌, ◌∷◌, List, [], length, slice_get, Some, None, IfOk, OnOk, OnErr, IfSome, IsNone, IsSome, IsTrue, find, option_map, ◌-◌, false, if◌then◌else◌};
+ghost use Rattle.std.specs.Prelude.{◌≡◌, ◌<◌, ◌≤◌, ◌+◌, ◌++◌, ◌∷◌, List, [], length, slice_get, Some, None, IfOk, OnOk, OnErr, IfSome, IsNone, IsSome, IsTrue, find, option_map, is_some, ◌-◌, false, if◌then◌else◌};
 ghost use Rattle.td_base.specs.declared.site.TheConstants.{MAX_SITE};
 ghost use Rattle.td_base.specs.declared.dot.TheConstants.{MAX_SEQ};
 ghost use Rattle.td_op.specs.Op.{OpValue, body_site};
@@ -244,6 +244,13 @@ impl<D: Doc> State<D> {
         ensures stored { IfSome result (λ w. slice_get self.now.ops w.number ≡ Some w.op) }
     {
         self.waiting.next_ready(&self.have)
+    }
+
+    // Whether one of those that wait is ready.
+    pub(crate) fn has_ready(&self) -> bool
+        ensures { result ≡ is_some (next_ready self.now.machine.have self.now.machine.waiting) }
+    {
+        self.waiting.has_ready(&self.have)
     }
 
     // The operation waits until those come that it depends on. Its number is answered.
