@@ -98,11 +98,18 @@ fn push_stored(bytes: &mut Vec<u8>, run: &Run)
     ensures run { IsRun run.now }
 {
     let count = run.len();
+    let atoms = run.bytes();
     bytes.push(count).unwrap();
+    if count == 1 && atoms.len() == 1 {
+        // a letter: no call that copies is made for two bytes
+        bytes.push(1).unwrap();
+        bytes.push(atoms[0]).unwrap();
+        return;
+    }
     bytes
         .extend_from_slice(&run.lengths()[..count as usize])
         .unwrap();
-    bytes.extend_from_slice(run.bytes()).unwrap();
+    bytes.extend_from_slice(atoms).unwrap();
 }
 
 // The run that the bytes begin with.
