@@ -28,8 +28,9 @@ impl<D: Doc> World<D> {
         ensures promises { IsPromised self.new }
         ensures nobody { OnOk result (NobodyReady self.old → NobodyReady self.new) }
     {
-        match self.message(number) {
-            Some((_, message)) => self.give_to(to, &message),
+        let sent = self.message(number);
+        match &sent {
+            Some((_, message)) => self.give_to(to, message),
             None => Ok(Given::NoSuch),
         }
     }
@@ -169,11 +170,12 @@ impl<D: Doc> World<D> {
             self.pass_over(to, k);
             return Ok(());
         }
-        let Some((_, message)) = self.at(k) else {
+        let sent = self.at(k);
+        let Some((_, message)) = &sent else {
             return Ok(());
         };
         given.reserve(1)?;
-        if let Some(took) = self.offer_at(to, k, &message)? {
+        if let Some(took) = self.offer_at(to, k, message)? {
             given.push_reserved((k as u64 + 1, took));
         }
         Ok(())
