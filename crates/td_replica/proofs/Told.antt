@@ -1,19 +1,15 @@
 -- What a step did to the atoms shown, told by the document that it left.
-use Rattle.std.proofs.Common.{◌≡◌, ◌+◌, ℕ, List, [], ◌∷◌, Bool, true, false, if◌then◌else◌, Option, Some, None, refl, sym, ap, ◌∙◌}
+use Rattle.std.proofs.Common.{◌≡◌, ◌+◌, ℕ, List, [], ◌∷◌, Bool, true, false, if◌then◌else◌, Some, None, refl, sym, ap, ◌∙◌}
 use Rattle.std.specs.Prelude.{slice_get}
 use Rattle.std.specs.Option.{option_and_then}
 use Rattle.td_base.specs.Value.{DotValue, AtomIdValue}
-use Rattle.td_path.specs.declared.slot.Slot.{Slot}
-use Rattle.td_op.specs.declared.body.Body.{Body}
-use Rattle.td_op.specs.declared.body.Body.TheVariants.{Insert, Delete}
-use Rattle.td_op.specs.declared.change.Change.{Change}
+use Rattle.td_op.specs.declared.body.Body.TheVariants.{Delete}
 use Rattle.td_op.specs.declared.change.Change.TheVariants.{Cut as CutAt}
 use Rattle.td_op.specs.Op.{OpValue}
 use Rattle.td_doc.specs.Answers.{is_live_id, live_before}
 use Rattle.td_doc.specs.Deletion.{add_dot, delete}
 use Rattle.td_doc.specs.Document.{DocRow, has_id, is_live}
 use Rattle.td_machine.specs.Shown.{change_by}
-use Rattle.td_replica.specs.declared.last_change.LastChange.{LastChange}
 use Rattle.td_replica.specs.declared.last_change.LastChange.TheVariants.{Nothing, Put, Cut}
 use Rattle.td_replica.specs.LastChange.{put_by, change_of}
 

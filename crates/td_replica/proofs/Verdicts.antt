@@ -26,7 +26,7 @@ use Rattle.td_machine.specs.Decision.{Ballot, is_on, is_open}
 use Rattle.td_machine.specs.Machine.{Machine, made, undecided, next_dot}
 use Rattle.td_machine.specs.Making.{make}
 use Rattle.td_machine.specs.Ready.{is_had, is_ready, waits}
-use Rattle.td_machine.specs.Request.{Aim, Refuse as RefuseAim, Do, GiveUp, Attempt, aim, aim_step, attempt_step, insert_aim, insert_aim_at, insert_aim_after, is_past_limit, len, perform, request_step, live_aim, delete_aim, propose_aim, propose_aim_of, cancel_aim}
+use Rattle.td_machine.specs.Request.{Aim, Refuse as RefuseAim, Do, GiveUp, Attempt, aim, aim_step, attempt_step, insert_aim, insert_aim_at, insert_aim_after, is_past_limit, len, perform, request_step, live_aim, delete_aim, propose_aim, cancel_aim}
 use Rattle.td_machine.specs.Taking.{Stepped, stepped, misfit, take, keep_waiting, fit_step, op_step}
 use Rattle.td_machine.proofs.Aims.{FitsAim, aimed}
 use Rattle.td_machine.proofs.Induction.{Anything}

@@ -59,8 +59,9 @@ impl<D: Doc> State<D> {
         ensures ok { IfOk result (λ done. IsStep (next_step self.old.machine) self.old self.new done) }
         ensures err { OnErr result (IsAsBefore self.old self.new) }
     {
-        match self.next_waiting() {
-            Some(next) => self.take_waiting(&next),
+        let next = self.next_waiting();
+        match &next {
+            Some(next) => self.take_waiting(next),
             None => self.refuse(Reply::Idle),
         }
     }

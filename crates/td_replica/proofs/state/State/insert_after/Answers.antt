@@ -1,7 +1,6 @@
-use Rattle.std.proofs.Common.{◌≡◌, List, ℕ, Bool, true, Option, Some, if◌then◌else◌, sym, ap, ◌∙◌}
+use Rattle.std.proofs.Common.{Option, sym, ap, ◌∙◌}
 use Rattle.td_base.specs.Value.{AtomIdValue}
 use Rattle.td_doc.specs.Answers.{is_live_id}
-use Rattle.td_doc.specs.Document.{DocRow}
 use Rattle.td_machine.specs.Machine.{Machine}
 use Rattle.td_machine.specs.Request.{insert_aim, insert_aim_after}
 use Rattle.td_replica.specs.Parts.{StateValue}

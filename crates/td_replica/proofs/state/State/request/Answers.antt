@@ -1,13 +1,11 @@
-use Rattle.std.proofs.Common.{◌≡◌, ℕ, List, Option, refl, ◌∙◌, sym, ap, subst}
-use Rattle.std.specs.Prelude.{IfOk, IfSome, IsSome}
+use Rattle.std.proofs.Common.{refl, ◌∙◌, sym, ap, subst}
+use Rattle.std.specs.Prelude.{IfOk, IsSome}
 use Rattle.td_op.specs.declared.body.Body.{Body}
-use Rattle.td_op.specs.declared.body.Body.TheVariants.{Insert}
 use Rattle.td_op.specs.declared.reply.Reply.TheVariants.{Made}
 use Rattle.td_machine.specs.Machine.{Machine, next_dot}
 use Rattle.td_machine.specs.Making.{make}
 use Rattle.td_machine.specs.Taking.{Stepped, stepped}
 use Rattle.td_machine.proofs.Parts.{MayMake}
-use Rattle.td_history.specs.Texts.{run_of, run_at}
 use Rattle.td_replica.specs.Steps.{IsStep}
 use Rattle.td_replica.proofs.Verdicts.{has_room, site_within, put_of, delete_of, is_insert, put_done, delete_done, propose_may, answer_step}
 use Rattle.td_replica.proofs.state.State.request.Goals as goal
