@@ -1,11 +1,12 @@
--- How many live atoms stand before an atom that is no row.
+-- How many live atoms stand before an atom that is no row, and which rows the root slot has.
 use Rattle.std.proofs.Common.{◌≡◌, ◌+◌, ℕ, List, [], ◌∷◌, Bool, true, false, length, if◌then◌else◌, Option, Some, None, refl, ap, ◌∙◌, arith}
 use Rattle.td_base.specs.Value.{AtomIdValue}
-use Rattle.std.specs.Option.{option_map}
+use Rattle.std.specs.Option.{option_map, is_some}
+use Rattle.td_path.specs.declared.slot.Slot.TheVariants.{Root}
 use Rattle.td_doc.specs.declared.doc.Row.{Row}
-use Rattle.td_doc.specs.Slots.{own_slot}
+use Rattle.td_doc.specs.Slots.{own_slot, rows_in_slot, is_within}
 use Rattle.td_doc.specs.Document.{DocRow, row_id, has_id, is_live, find_row, live_rows}
-use Rattle.td_doc.specs.Answers.{live_before, row_told}
+use Rattle.td_doc.specs.Answers.{is_row, live_before, row_told}
 
 pub before_none : (x : AtomIdValue) (rows : List DocRow) → find_row x rows ≡ None
     → live_before x rows ≡ length (live_rows rows)
@@ -43,3 +44,11 @@ before_untold x rows e = at (find_row x rows) refl e
         → live_before x rows ≡ length (live_rows rows)
     at None f k = before_none x rows f
     at (Some r) f k = absurd cc
+
+-- the root slot has all rows
+all_in_root : (rows : List DocRow) → rows_in_slot rows Root ≡ rows
+all_in_root [] = refl
+all_in_root (r ∷ rows) = ap (λ (rest : List DocRow). r ∷ rest) (all_in_root rows)
+
+pub within_root : (rows : List DocRow) (x : AtomIdValue) → is_within rows x Root ≡ is_row rows x
+within_root rows x = ap (λ (k : List DocRow). is_some (find_row x k)) (all_in_root rows)

@@ -136,7 +136,8 @@ impl<D: Doc> State<D> {
     fn atom_misfit(&self, id: AtomId) -> Option<Why>
         ensures { result ≡ (if is_row self.now.machine.doc id then None else Some Atom) }
     {
-        if self.doc.is_row(id) {
+        // each row is in the root slot, and this asks for no more than its number
+        if self.doc.within(id, Slot::Root) {
             None
         } else {
             Some(Why::Atom)
