@@ -33,6 +33,11 @@ impl Bytes {
         ensures ok { OnOk result (self.new ≡ self.old ++ piece.now) }
         ensures memory { OnErr result (self.new ≡ self.old) }
     {
+        if let [byte] = piece {
+            // no call that copies is made for one byte
+            self.items.push(*byte)?;
+            return Ok(());
+        }
         self.items.extend_from_slice(piece)?;
         Ok(())
     }
