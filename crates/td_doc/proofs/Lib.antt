@@ -22,3 +22,4 @@ pub mod Texts
 pub mod Together
 pub mod LiveIndex
 pub mod Known
+pub mod RootRows

@@ -142,16 +142,14 @@ pub trait Doc: Sized + Drop {
     final fn is_row(&self, id: AtomId) -> bool
         ensures { result ≡ is_row (rows self.now) id }
     {
-        self.find(id).is_some()
+        // each row is in the root slot; `find` counts the live rows before it too
+        self.within(id, Slot::Root)
     }
 
     /// Whether the atom is a live row.
     final fn is_live(&self, id: AtomId) -> bool
         ensures { result ≡ is_live_id (rows self.now) id }
     {
-        match self.find(id) {
-            Some(row) => row.deletes == 0,
-            None => false,
-        }
+        self.is_row(id) && self.delete_at(id, 0).is_none()
     }
 }
