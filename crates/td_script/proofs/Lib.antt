@@ -7,6 +7,7 @@ pub mod Reading
 pub mod Results
 pub mod TextWords
 pub mod TextClusters
+pub mod PlainText
 pub mod TextReading
 pub mod WordLaws
 pub mod ArgumentLaws

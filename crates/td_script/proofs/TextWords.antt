@@ -2,6 +2,8 @@
 use Rattle.std.proofs.Common.{◌≡◌, ◌≢◌, ⊎_elim, zero, ◌≤◌, ◌<◌, ℕ, suc, Bool, true, false, cond, eqb, ◌||◌, List, []}
 use Rattle.std.proofs.Common.{◌∷◌, ◌++◌, length, get_or, drop, Option, Some, None, refl, sym, ap, subst, ◌∙◌}
 use Rattle.std.proofs.Common.{append_assoc, append-nil, drop-cons, arith, IsUtf8, encode_utf8, encode_utf8_all}
+use Rattle.std.proofs.Common.{◌+◌, length-append}
+use Rattle.std.proofs.Math.Seq.{drop-append-add}
 use Rattle.std.specs.Char.{IsScalar}
 use Rattle.std.specs.List.{flat_map}
 use Rattle.std.specs.Str.{all_scalars}
@@ -278,6 +280,28 @@ unquoted_there (b ∷ text) rest =
     ap (unquoted false) (append_assoc (escaped b) (flat_map escaped text) (34 ∷ rest))
     ∙ byte_there b (written text rest) (eqb b 34) (eqb b 92) (eqb b 10) refl refl refl
     ∙ ap (onto_text (Some b)) (unquoted_there text rest)
+
+-- a text without escapes is read as it stands, up to the closing quote
+stands_alone : (text rest : List ℕ) → Lacks 34 text → Lacks 92 text
+    → unquoted false (text ++ 34 ∷ rest) ≡ Some (text, rest)
+stands_alone [] rest quote slash = refl
+stands_alone (b ∷ text) rest quote slash =
+    let bs : List ℕ = text ++ 34 ∷ rest in
+    cond-false (eqb b 34) (Some ([], bs)) (cond (eqb b 92) (unquoted true bs) (onto_text (Some b) (unquoted false bs)))
+    (ne_eqb b 34 (All-head (λ (byte : ℕ). byte ≢ 34) b text quote))
+    ∙ cond-false (eqb b 92) (unquoted true bs) (onto_text (Some b) (unquoted false bs))
+    (ne_eqb b 92 (All-head (λ (byte : ℕ). byte ≢ 92) b text slash))
+    ∙ ap (onto_text (Some b)) (stands_alone text rest (All-tail (λ (byte : ℕ). byte ≢ 34) b text quote)
+    (All-tail (λ (byte : ℕ). byte ≢ 92) b text slash))
+
+pub read_as_it_stands : (bs text rest : List ℕ) → bs ≡ text ++ 34 ∷ rest → Lacks 34 text → Lacks 92 text
+    → (length text + 1 ≤ length bs) × (unquoted false bs ≡ Some (text, drop (length text + 1) bs))
+read_as_it_stands bs text rest whole quote slash =
+    let left : drop (length text + 1) bs ≡ rest =
+    ap (drop (length text + 1)) whole ∙ drop-append-add text (34 ∷ rest) 1 in (
+      omega (arith, ap length whole, length-append text (34 ∷ rest)),
+      ap (unquoted false) whole ∙ stands_alone text rest quote slash ∙ ap (λ (r : List ℕ). Some (text, r)) (sym left),
+    )
 
 -- bytes that are not ASCII are written as they are
 high_written : (hs : List ℕ) → AreHigh hs → flat_map escaped hs ≡ hs

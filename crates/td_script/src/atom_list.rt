@@ -1,6 +1,8 @@
-ghost use Rattle.std.specs.Prelude.{◌≡◌, ◌++◌, ◌∷◌, ◌↔◌, [], length, map, IsTrue, OnOk, OnErr};
+ghost use Rattle.std.specs.Prelude.{◌≡◌, ◌++◌, ◌∷◌, ◌↔◌, [], length, map, IsTrue, IfOk, OnOk, OnErr};
 ghost use Rattle.std.specs.List.{concat};
+ghost use Rattle.std.specs.Str.{IsAscii};
 ghost use Rattle.td_base.specs.Atom.{IsAtom};
+ghost use Rattle.td_base.specs.Run.{letters};
 
 use crate::listed_atoms::ListedAtoms;
 use std::alloc::Global;
@@ -37,6 +39,20 @@ impl AtomList {
             bytes: Vec::new(alloc),
             lengths: Vec::new(alloc),
         }
+    }
+
+    /// The atoms of a text of ASCII, one for each byte.
+    pub(crate) fn of_letters(alloc: Global, text: &[u8]) -> Result<AtomList, Memory>
+        requires { IsAscii text.now }
+        ensures { IfOk result (λ atoms. atoms ≡ letters text.now) }
+    {
+        if text.len() > u32::MAX as usize {
+            return Err(Memory);
+        }
+        Ok(AtomList {
+            bytes: Vec::from_slice(alloc, text)?,
+            lengths: vec![in alloc; 1; text.len()]?,
+        })
     }
 
     /// Adds the atom at the end.

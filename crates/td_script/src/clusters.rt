@@ -36,6 +36,10 @@ pub fn cut(alloc: Global, text: &str) -> Result<AtomList, CutFault>
     ensures atoms { IfOk result (All IsAtom) }
     ensures fault { IfErr result (IsCutFault (graphemes true text.now)) }
 {
+    // in ASCII only a CR before LF shares its cluster
+    if text.is_ascii() && !text.as_bytes().contains(&b'\r') {
+        return Ok(AtomList::of_letters(alloc, text.as_bytes())?);
+    }
     let mut atoms = AtomList::new(alloc);
     for cluster in text.graphemes(true) {
         let bytes = cluster.as_bytes();

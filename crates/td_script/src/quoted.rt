@@ -35,6 +35,12 @@ fn unquote(alloc: Global, quoted: &str) -> Result<Option<(String, usize)>, Memor
         × (unquoted false quoted.now ≡ Some (string_bytes text.0, drop text.1 quoted.now)))) }
     ensures none { IfOk result (λ read. IfNone read (unquoted false quoted.now ≡ None)) }
 {
+    // a text without escapes is copied at once
+    if let Some((text, _)) = quoted.split_once('"')
+        && !text.contains('\\')
+    {
+        return Ok(Some((String::from_str(alloc, text)?, text.len() + 1)));
+    }
     let mut text = Vec::new(alloc);
     let mut is_escaped = false;
     for (at, byte) in quoted.as_bytes().iter().enumerate() {

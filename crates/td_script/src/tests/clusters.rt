@@ -44,6 +44,26 @@ const VIRAMAS: [&str; 8] = [
     "\u{61}\u{94d}\u{924}",
 ];
 
+// Texts of ASCII break between any two characters but CR and LF (GB3 to GB5, GB999), and the others here as they say.
+const NEAR_ASCII: [&str; 16] = [
+    "a",
+    "a|b|c",
+    "\r",
+    "\r\n",
+    "a|\r\n",
+    "a|\r|a|\n",
+    "\n|\r",
+    "\r|\r\n|\n",
+    "a|\n|\n|b",
+    "\0|\t| |\u{1f}|\u{7f}|~",
+    "\u{e9}",
+    "a|\u{e9}|b",
+    "e\u{301}",
+    "a|e\u{301}|\r\n",
+    "\n|\u{301}|a",
+    "\u{7f}|\u{80}|a",
+];
+
 fn is_cut_at_its_bars(rt: &impl Abort, alloc: Global, sample: &str) -> Result<(), Fail> {
     let mut text = String::new(alloc);
     for part in sample.split('|') {
@@ -72,6 +92,15 @@ fn samples_of_the_unicode_break_test_are_cut_at_their_bars(rt: HostRuntime) -> R
 #[test]
 fn a_virama_joins_the_consonant_behind_it(rt: HostRuntime) -> Result<(), Fail> {
     for sample in VIRAMAS {
+        is_cut_at_its_bars(&rt, rt.alloc(), sample)?;
+    }
+    Ok(())
+}
+
+#[test]
+fn texts_in_and_near_ascii_are_cut_at_their_bars(rt: HostRuntime) -> Result<(), Fail> {
+    assert!(rt; cut(rt.alloc(), "")?.is_empty());
+    for sample in NEAR_ASCII {
         is_cut_at_its_bars(&rt, rt.alloc(), sample)?;
     }
     Ok(())

@@ -1,8 +1,11 @@
-use Rattle.std.proofs.Common.{List, ℕ, ◌++◌, ◌∷◌, [], ◌≡◌, true, sym, ap, ◌∙◌, append_assoc}
+use Rattle.std.proofs.Common.{List, ℕ, ◌++◌, ◌∷◌, [], ◌≡◌, true, All, sym, ap, subst, ◌∙◌, append_assoc}
 use Rattle.std.proofs.lemmas.List.Elements.{All-push}
 use Rattle.td_base.specs.Atom.{IsAtom}
+use Rattle.td_base.specs.Run.{letters}
 use Rattle.unicode_segmentation.specs.Grapheme.{graphemes}
 use Rattle.unicode_segmentation.specs.Iter.{graphemes_left}
+use Rattle.td_script.proofs.AtomListLemmas.{letters_each}
+use Rattle.td_script.proofs.PlainText.{plain_graphemes}
 use Rattle.td_script.proofs.TextClusters.{short_atom, first_long}
 use Rattle.td_script.proofs.clusters.cut.Goals as goal
 
@@ -10,6 +13,17 @@ use Rattle.td_script.proofs.clusters.cut.Goals as goal
 split : (text : List ℕ) (atoms left : List (List ℕ)) (cluster : List ℕ) (behind : List (List ℕ)) → graphemes true text ≡ atoms ++ left
     → left ≡ cluster ∷ behind → graphemes true text ≡ atoms ++ cluster ∷ behind
 split text atoms left cluster behind whole next = whole ∙ ap (λ (l : List (List ℕ)). atoms ++ l) next
+
+pub returns-then-not-contains-clause-ok : goal.returns-then-not-contains-clause-ok
+returns-then-not-contains-clause-ok c =
+    c.in_ok-of_letters.ensures ∙ ap letters c.as_bytes-then-not-contains.ensures.value
+    ∙ sym (plain_graphemes c.args.text.now c.if-is_ascii.ensures.cases
+    (rw c.as_bytes.ensures.value at (sym c.if-not-contains.ensures.value)))
+
+pub returns-then-not-contains-clause-atoms : goal.returns-then-not-contains-clause-atoms
+returns-then-not-contains-clause-atoms c =
+    subst (All IsAtom) (sym (c.in_ok-of_letters.ensures ∙ ap letters c.as_bytes-then-not-contains.ensures.value))
+    (letters_each c.args.text.now c.if-is_ascii.ensures.cases)
 
 pub returns-then-bytes-gt-MAX_ATOM_LEN-clause-fault : goal.returns-then-bytes-gt-MAX_ATOM_LEN-clause-fault
 returns-then-bytes-gt-MAX_ATOM_LEN-clause-fault c =
