@@ -7,6 +7,7 @@ ghost use Rattle.td_causal.specs.Waiting.{ops_waiting, others_than, has_dot, put
 ghost use Rattle.td_causal.specs.Waiting.{is_ready_of, AreOfSize, AreWaiting};
 ghost use Rattle.td_causal.specs.Offering.{offer_answer, kept_after};
 
+use crate::kept_waiting::KeptWaiting;
 use crate::offer::Offer;
 use crate::waiting::Waiting;
 use std::alloc::Global;
@@ -20,7 +21,8 @@ use td_op::Op;
 /// of those of all that waits. Only `offer` takes memory.
 #[derive(Debug, Drop)]
 pub struct Buffer {
-    waiting: BTreeMap<Dot, Waiting>,
+    waiting: BTreeMap<Dot, KeptWaiting>,
+    alloc: Global,
 }
 
 impl Model for Buffer {
@@ -43,17 +45,18 @@ impl Buffer {
     {
         Buffer {
             waiting: BTreeMap::new(alloc),
+            alloc,
         }
     }
 
     /// What becomes of an operation that is offered to a site with this vector. Where it is to come later, it waits
     /// with the number. `Memory` comes also where `u32::MAX` operations wait already.
-    pub fn offer(&mut self, have: &Vector, op: Op, number: u32) -> Result<Offer, Memory>
-        requires sized { length have.now ≡ length op.deps }
+    pub fn offer(&mut self, have: &Vector, op: &Op, number: u32) -> Result<Offer, Memory>
+        requires sized { length have.now ≡ length op.now.deps }
         requires alike { AreOfSize (length have.now) self.old }
-        ensures answer { IfOk result (λ answer. answer ≡ offer_answer have.now op (ops_waiting self.old)) }
+        ensures answer { IfOk result (λ answer. answer ≡ offer_answer have.now op.now (ops_waiting self.old)) }
         ensures kept { IfOk result (λ answer.
-            self.new ≡ kept_after answer (record { op = op; number = number }) self.old) }
+            self.new ≡ kept_after answer (record { op = op.now; number = number }) self.old) }
         ensures memory { OnErr result (self.new ≡ self.old) }
         ensures alike { AreOfSize (length have.now) self.new }
     {
@@ -63,7 +66,7 @@ impl Buffer {
         if have.covers(op.deps()) {
             return Ok(Offer::Ready);
         }
-        self.keep(Waiting { op, number })?;
+        self.keep(Waiting { op: *op, number })?;
         Ok(Offer::Later)
     }
 
@@ -97,7 +100,10 @@ impl Buffer {
     pub fn find(&self, dot: Dot) -> Option<Waiting>
         ensures { result ≡ find (has_dot dot) self.now }
     {
-        self.waiting.get(&dot).copied()
+        match self.waiting.get(&dot) {
+            Some(kept) => Some(*kept.waiting()),
+            None => None,
+        }
     }
 
     /// Whether an operation with the dot waits.
@@ -131,7 +137,9 @@ impl Buffer {
         if self.waiting.len() >= u32::MAX as usize {
             return Err(Memory);
         }
-        self.waiting.insert(dot_of(&waiting.op), waiting)?;
+        let dot = dot_of(&waiting.op);
+        let kept = KeptWaiting::of(self.alloc, waiting)?;
+        self.waiting.insert(dot, kept)?;
         Ok(())
     }
 
@@ -168,7 +176,7 @@ impl Buffer {
             return false;
         };
         match self.waiting.get(&dot) {
-            Some(next) => have.covers(next.op.deps()),
+            Some(next) => have.covers(next.waiting().op.deps()),
             None => false,
         }
     }

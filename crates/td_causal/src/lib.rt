@@ -7,6 +7,7 @@
 #![tactic(auto)]
 
 mod buffer;
+mod kept_waiting;
 mod laws;
 mod offer;
 mod waiting;

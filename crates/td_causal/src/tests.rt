@@ -47,8 +47,8 @@ fn an_operation_waits_for_the_one_before_it(rt: HostRuntime) -> Result<(), Fail>
     let after = two(1, 0)?;
     let second = op(dot(1, 2)?, after)?;
     assert!(rt; buffer.is_empty());
-    assert_eq!(rt; buffer.offer(&before, second, 7), Ok(Offer::Later));
-    assert_eq!(rt; buffer.offer(&before, second, 8), Ok(Offer::Repeat));
+    assert_eq!(rt; buffer.offer(&before, &second, 7), Ok(Offer::Later));
+    assert_eq!(rt; buffer.offer(&before, &second, 8), Ok(Offer::Repeat));
     assert_eq!(rt; buffer.next_ready(&before), None);
     let waiting = Waiting {
         op: second,
@@ -59,8 +59,8 @@ fn an_operation_waits_for_the_one_before_it(rt: HostRuntime) -> Result<(), Fail>
     assert!(rt; buffer.waits(second.dot()) && buffer.len() == 1);
     buffer.remove(second.dot());
     assert!(rt; !buffer.waits(second.dot()) && buffer.is_empty());
-    assert_eq!(rt; buffer.offer(&after, second, 9), Ok(Offer::Ready));
-    assert_eq!(rt; buffer.offer(&two(2, 0)?, second, 9), Ok(Offer::Repeat));
+    assert_eq!(rt; buffer.offer(&after, &second, 9), Ok(Offer::Ready));
+    assert_eq!(rt; buffer.offer(&two(2, 0)?, &second, 9), Ok(Offer::Repeat));
     assert_eq!(rt; buffer.len(), 0);
     Ok(())
 }
@@ -72,9 +72,9 @@ fn the_least_ready_dot_is_not_the_first_that_came(rt: HostRuntime) -> Result<(),
     let third = op(dot(3, 1)?, three(1, 0, 0)?)?;
     let second = op(dot(2, 1)?, three(1, 0, 0)?)?;
     let first = op(dot(1, 2)?, three(1, 0, 1)?)?;
-    assert_eq!(rt; buffer.offer(&start, third, 1), Ok(Offer::Later));
-    assert_eq!(rt; buffer.offer(&start, second, 2), Ok(Offer::Later));
-    assert_eq!(rt; buffer.offer(&start, first, 3), Ok(Offer::Later));
+    assert_eq!(rt; buffer.offer(&start, &third, 1), Ok(Offer::Later));
+    assert_eq!(rt; buffer.offer(&start, &second, 2), Ok(Offer::Later));
+    assert_eq!(rt; buffer.offer(&start, &first, 3), Ok(Offer::Later));
     for (have, next) in [
         (start, None),
         (three(1, 0, 0)?, Some((second, 2))),

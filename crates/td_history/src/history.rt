@@ -1,4 +1,4 @@
-ghost use Rattle.std.specs.Prelude.{◌≡◌, ◌<◌, ◌≤◌, ◌+◌, ◌++◌, length, IfOk, IfSome, OnOk};
+ghost use Rattle.std.specs.Prelude.{◌≡◌, ◌<◌, ◌≤◌, ◌+◌, ◌++◌, length, IfOk, IfSome, OnOk, Some};
 ghost use Rattle.std.specs.List.{find, slice_get};
 ghost use Rattle.std.specs.Option.{is_some, option_and_then};
 ghost use Rattle.td_base.specs.declared.site.TheConstants.{MAX_SITE};
@@ -129,15 +129,14 @@ impl History {
         number
     }
 
-    /// Notes that the operation kept under this number is taken now.
-    pub fn resume(&mut self, number: u32)
+    /// Notes that the operation, which is kept under this number, is taken now.
+    pub fn resume(&mut self, number: u32, op: &Op)
         requires room { 1 ≤ self.old.room }
-        requires kept { number < length self.old.ops }
-        requires next { IfSome (slice_get self.old.ops number)
-            (IsNextIn self.old.size self.old.room_site self.old.log) }
-        ensures { IfSome (slice_get self.old.ops number) (λ x. self.new ≡ resumed x self.old) }
+        requires kept { slice_get self.old.ops number ≡ Some op.now }
+        requires next { IsNextIn self.old.size self.old.room_site self.old.log op.now }
+        ensures { self.new ≡ resumed op.now self.old }
     {
-        self.log.resume(number);
+        self.log.resume(number, op);
         self.room -= 1;
     }
 

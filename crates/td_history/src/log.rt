@@ -1,6 +1,6 @@
-ghost use Rattle.std.specs.Prelude.{◌≡◌, ◌<◌, ◌≤◌, ◌+◌, ◌-◌, ◌∷◌, ◌++◌, [], length, IfOk, IfSome, OnOk, vec_len, vec_capacity, IfNone, None};
+ghost use Rattle.std.specs.Prelude.{◌≡◌, ◌<◌, ◌≤◌, ◌+◌, ◌-◌, ◌∷◌, ◌++◌, [], length, IfOk, IfSome, OnOk, vec_len, vec_capacity, IfNone, None, Some};
 ghost use Rattle.std.specs.List.{find, slice_get};
-ghost use Rattle.std.specs.Option.{is_some, option_and_then, option_map, IsSomeAnd};
+ghost use Rattle.std.specs.Option.{is_some, option_and_then, option_map};
 ghost use Rattle.td_base.specs.declared.site.TheConstants.{MAX_SITE};
 ghost use Rattle.td_machine.specs.Counts.{ops_of};
 ghost use Rattle.td_machine.specs.Log.{decision, proposed_slot};
@@ -106,19 +106,14 @@ impl Log {
         number
     }
 
-    /// Adds an operation that is kept to the log.
-    pub fn resume(&mut self, number: u32)
+    /// Adds the operation that is kept under this number to the log.
+    pub fn resume(&mut self, number: u32, op: &Op)
         requires room { 1 ≤ self.old.room }
-        requires next { IsSomeAnd (slice_get self.old.ops number)
-            (IsNextIn self.old.size self.old.room_site self.old.log) }
-        ensures log { IfSome (slice_get self.old.ops number)
-            (λ x. self.new ≡ record self.old { log = x ∷ self.old.log; room = self.old.room - 1 }) }
-        ensures ops { self.new.ops ≡ self.old.ops }
-        ensures size { self.new.size ≡ self.old.size }
-        ensures room { self.new.room ≡ self.old.room - 1 }
+        requires kept { slice_get self.old.ops number ≡ Some op.now }
+        requires next { IsNextIn self.old.size self.old.room_site self.old.log op.now }
+        ensures { self.new ≡ record self.old { log = op.now ∷ self.old.log; room = self.old.room - 1 } }
     {
-        let op = self.ops.get(number).unwrap();
-        note(&mut self.numbers, &mut self.index, number, &op);
+        note(&mut self.numbers, &mut self.index, number, op);
         self.room -= 1;
     }
 

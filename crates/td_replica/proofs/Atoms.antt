@@ -1,4 +1,4 @@
--- How many live atoms stand before an atom that is no row, and which rows the root slot has.
+-- How many live atoms stand before an atom that is no row.
 use Rattle.std.proofs.Common.{◌≡◌, ◌+◌, ℕ, List, [], ◌∷◌, Bool, true, false, length, if◌then◌else◌, Option, Some, None, refl, ap, ◌∙◌, arith}
 use Rattle.td_base.specs.Value.{AtomIdValue}
 use Rattle.std.specs.Option.{option_map, is_some}
@@ -44,11 +44,3 @@ before_untold x rows e = at (find_row x rows) refl e
         → live_before x rows ≡ length (live_rows rows)
     at None f k = before_none x rows f
     at (Some r) f k = absurd cc
-
--- the root slot has all rows
-all_in_root : (rows : List DocRow) → rows_in_slot rows Root ≡ rows
-all_in_root [] = refl
-all_in_root (r ∷ rows) = ap (λ (rest : List DocRow). r ∷ rest) (all_in_root rows)
-
-pub within_root : (rows : List DocRow) (x : AtomIdValue) → is_within rows x Root ≡ is_row rows x
-within_root rows x = ap (λ (k : List DocRow). is_some (find_row x k)) (all_in_root rows)

@@ -136,8 +136,7 @@ impl<D: Doc> State<D> {
     fn atom_misfit(&self, id: AtomId) -> Option<Why>
         ensures { result ≡ (if is_row self.now.machine.doc id then None else Some Atom) }
     {
-        // each row is in the root slot, and this asks for no more than its number
-        if self.doc.within(id, Slot::Root) {
+        if self.doc.is_row(id) {
             None
         } else {
             Some(Why::Atom)

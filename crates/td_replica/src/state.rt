@@ -263,7 +263,7 @@ impl<D: Doc> State<D> {
         ensures err { OnErr result (self.new ≡ self.old) }
     {
         let number = self.past.kept();
-        self.waiting.offer(&self.have, *op, number)?;
+        self.waiting.offer(&self.have, op, number)?;
         self.past.keep(op);
         Ok(number)
     }
@@ -310,7 +310,7 @@ fn log(past: &mut History, op: &Op, origin: Origin)
     match origin {
         Origin::Here => past.make(op),
         Origin::There => past.take(op),
-        Origin::Waiting { number } => past.resume(number),
+        Origin::Waiting { number } => past.resume(number, op),
     }
 }
 

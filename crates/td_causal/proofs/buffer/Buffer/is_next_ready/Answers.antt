@@ -11,7 +11,7 @@ covers-requires c =
     let found : Some c.in-Some-get.next.now ≡ find (has_dot c.in-Some.dot) c.args.self.now =
     c.in-Some-get.ensures.value ∙ lookup_found c.in-Some.dot c.self.inside.waiting.entries c.self.invariant.keyed
     ∙ ap (find (has_dot c.in-Some.dot)) c.self.view_is in
-    sym (ap length c.deps.ensures.deps
+    sym (ap length (c.deps.ensures.deps ∙ ap (λ (w : Waiting). w.op.deps) c.waiting.ensures)
     ∙ size_found (length c.args.have.now) c.in-Some.dot c.args.self.now c.in-Some-get.next.now c.requires.alike
     (sym found))
 
@@ -33,7 +33,8 @@ returns-in-Some-get c =
     let found : Some next ≡ find (has_dot c.in-Some.dot) c.args.self.now =
     c.in-Some-get.ensures.value ∙ lookup_found c.in-Some.dot c.self.inside.waiting.entries c.self.invariant.keyed
     ∙ ap (find (has_dot c.in-Some.dot)) c.self.view_is in
-    c.covers.ensures ∙ ap (vector_covers c.args.have.now) c.deps.ensures.deps
+    c.covers.ensures
+    ∙ ap (vector_covers c.args.have.now) (c.deps.ensures.deps ∙ ap (λ (w : Waiting). w.op.deps) c.waiting.ensures)
     ∙ sym (is_some_passed (λ (w : Waiting). vector_covers c.args.have.now w.op.deps) next)
     ∙ ap is_some (found_ready c.args.have.now c.args.self.now c.requires.waiting c.args.site c.get.result c.in-Some.dot
     (Some next) c.get.ensures.number c.in-Some.ensures.1 found)

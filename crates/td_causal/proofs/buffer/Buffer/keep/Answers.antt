@@ -1,6 +1,7 @@
 use Rattle.std.proofs.Common.{◌≡◌, ◌<◌, ◌^◌, ap, ◌∙◌, List, length, false, arith}
-use Rattle.std.specs.BTreeMap.{values}
+use Rattle.std.specs.BTreeMap.{values, insert_entry}
 use Rattle.std.specs.Option.{is_some}
+use Rattle.td_base.specs.Order.{dot_cmp}
 use Rattle.td_machine.specs.Ready.{waits}
 use Rattle.td_causal.proofs.Entries.{entries_inserted, few_more}
 use Rattle.td_causal.specs.declared.waiting.Waiting.{Waiting}
@@ -9,7 +10,7 @@ use Rattle.td_causal.specs.BufferParts.{AreEntries}
 use Rattle.td_causal.proofs.buffer.Buffer.keep.Goals as goal
 
 -- what the map has, and what waits
-kept : (c : goal.In_ok-insert) → AreEntries c.insert.new.self.entries
+kept : (c : goal.Joined-branch-3) → AreEntries c.insert.new.self.entries
     × (values c.insert.new.self ≡ put_in_order c.args.waiting (values c.self.inside.waiting))
 kept c =
     let h = c.in_ok-insert.ensures in
@@ -18,8 +19,11 @@ kept c =
     let few : length c.insert.new.self.entries < 2 ^ 32 =
     few_more (is_some c.in_ok-insert.field-0) (length c.self.inside.waiting.entries) _ h.len
     (omega (arith, c.if-len.false, c.len.ensures.len)) in
-    entries_inserted c.args.waiting c.dot_of.result c.self.inside.waiting.entries c.insert.new.self.entries
-    h.entries c.self.invariant c.dot_of.ensures.dot c.dot_of.ensures.range c.dot_of.ensures.op new h.ordered few
+    let is : c.insert.new.self.entries
+    ≡ insert_entry dot_cmp c.self.inside.waiting.entries c.dot_of-dot.result c.args.waiting =
+    h.entries ∙ ap (insert_entry dot_cmp c.self.inside.waiting.entries c.dot_of-dot.result) c.in_ok-kept.ensures in
+    entries_inserted c.args.waiting c.dot_of-dot.result c.self.inside.waiting.entries c.insert.new.self.entries
+    is c.self.invariant c.dot_of-dot.ensures.dot c.dot_of-dot.ensures.range c.dot_of-dot.ensures.op new h.ordered few
 
 pub invariant_of-self-2 : goal.invariant_of-self-2
 invariant_of-self-2 c = (kept c).0

@@ -8,13 +8,13 @@ use Rattle.td_causal.specs.BufferParts.{AreEntries}
 use Rattle.td_causal.proofs.buffer.Buffer.remove.Goals as goal
 
 -- what the map has, and what waits
-left : (c : goal.After-remove) → AreEntries c.remove.new.self.entries
+left : (c : goal.Joined-remove) → AreEntries c.remove.new.self.entries
     × (values c.remove.new.self ≡ others_than c.args.dot (values c.self.inside.waiting))
 left c =
     entries_removed c.args.dot c.self.inside.waiting.entries c.remove.new.self.entries c.remove.ensures.entries
     c.self.invariant
 
-others : (c : goal.After-remove) → values c.remove.new.self ≡ others_than c.args.dot c.args.self.now
+others : (c : goal.Joined-remove) → values c.remove.new.self ≡ others_than c.args.dot c.args.self.now
 others c = (left c).1 ∙ ap (others_than c.args.dot) c.self.view_is
 
 pub invariant_of-self : goal.invariant_of-self

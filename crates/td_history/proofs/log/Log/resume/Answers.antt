@@ -1,5 +1,4 @@
-use Rattle.std.proofs.Common.{◌≡◌, ◌∙◌, sym, ap, subst, ◌-◌, ◌∷◌, Some, arith}
-use Rattle.std.specs.Prelude.{IsSomeAnd}
+use Rattle.std.proofs.Common.{◌≡◌, sym, ap, subst, ◌-◌, ◌∷◌, Some, arith}
 use Rattle.std.specs.List.{slice_get}
 use Rattle.td_history.specs.Past.{IsNextIn}
 use Rattle.td_history.specs.Logs.{IsLog, log_of}
@@ -8,13 +7,12 @@ use Rattle.td_history.proofs.Logs.{log_after, log_is, as_told}
 use Rattle.td_history.proofs.log.Log.resume.Goals as goal
 
 after : (c : goal.After-self-1)
-    → IsLog c.self.inside.size c.self.inside.ops.ops c.note.new.numbers.items c.note.new.index.lists (c.unwrap-op.result ∷ log_of c.self.inside.ops.ops c.self.inside.numbers.items)
+    → IsLog c.self.inside.size c.self.inside.ops.ops c.note.new.numbers.items c.note.new.index.lists (c.args.op.now ∷ log_of c.self.inside.ops.ops c.self.inside.numbers.items)
 after c =
     let l = c.self.inside in
-    let kept : slice_get l.ops.ops c.args.number ≡ Some c.unwrap-op.result = sym c.get.ensures ∙ c.unwrap-op.ensures in
-    let may = subst (λ v. IsSomeAnd (slice_get v.ops c.args.number) (IsNextIn v.size v.room_site v.log)) (sym c.self.view_is) c.requires.next in
-    let next = subst (λ o. IsSomeAnd o (IsNextIn l.size l.index.room_site (log_of l.ops.ops l.numbers.items))) kept may in
-    log_after _ l.ops.ops _ _ _ _ _ _ c.unwrap-op.result c.args.number l.index.room_site c.self.invariant.log
+    let kept = subst (λ v. slice_get v.ops c.args.number ≡ Some c.args.op.now) (sym c.self.view_is) c.requires.kept in
+    let next = subst (λ v. IsNextIn v.size v.room_site v.log c.args.op.now) (sym c.self.view_is) c.requires.next in
+    log_after _ l.ops.ops _ _ _ _ _ _ c.args.op.now c.args.number l.index.room_site c.self.invariant.log
     (grown_none l.ops.ops) kept
     next c.note.ensures.some c.self.invariant.site c.note.ensures.dot c.note.ensures.numbers c.note.ensures.lists
 
@@ -29,10 +27,9 @@ invariant_of-self c =
       index_room = omega (arith, c.note.ensures.room, c.self.invariant.index_room);
     }
 
-pub returns-clause-log : goal.returns-clause-log
-returns-clause-log c =
-    let kept : slice_get c.self.inside.ops.ops c.args.number ≡ Some c.unwrap-op.result = sym c.get.ensures ∙ c.unwrap-op.ensures in
-    rw (← c.self.view_is, kept)
+pub returns : goal.returns
+returns c =
+    rw (← c.self.view_is)
     (λ i. record {
       size = c.self.inside.size;
       ops = c.self.inside.ops.ops;
