@@ -3,7 +3,6 @@ use Rattle.std.proofs.Common.{◌≡◌, ◌<◌, ◌≤◌, ◌+◌, ◌-◌, �
 use Rattle.std.proofs.lemmas.Bool.{eqb-true, eqb-false}
 use Rattle.std.proofs.lemmas.List.{length-set, length-append, length-drop}
 use Rattle.std.specs.List.{filter_map, slice_get}
-use Rattle.std.specs.Option.{option_map}
 use Rattle.td_base.specs.Lists.{In}
 use Rattle.td_base.proofs.Elements.{get_front, In-slice_get}
 use Rattle.td_op.specs.declared.input.Input.{Input}
@@ -271,7 +270,7 @@ kth_get {X = X} k xs x e = at (nat_eq k 0) refl e
         positive zero not = absurd (not refl)
         positive (suc k) not = omega arith
 
-kth_in : {X : Type 0} (k : ℕ) (xs : List X) (x : X) → kth k xs ≡ Some x → In x xs
+pub kth_in : {X : Type 0} (k : ℕ) (xs : List X) (x : X) → kth k xs ≡ Some x → In x xs
 kth_in k xs x e = In-slice_get xs (k - 1) x (kth_get k xs x e).1
 
 pub record IsAt (replicas : List ReplicaValue) (posts : List Post) (k : ℕ) (p : Post) : Type 0 where
@@ -329,45 +328,3 @@ none_past [] k number past = at (nat_eq number 0)
     at false = refl
 none_past (r ∷ replicas) zero number past = absurd (omega (arith, past))
 none_past (r ∷ replicas) (suc k) number past = none_past replicas k number (omega (arith, past))
-
-abbrev pub signed : ℕ → Message → ℕ × Message
-signed site message = (site, message)
-
-abbrev pub letter : Message → ℕ × Message
-letter message = (sender message, message)
-
--- the message at a place, with its sender, as the parts have it
-pub letter_at : (replicas : List ReplicaValue) (posts : List Post) (passed : List ℕ) → IsWorldParts replicas posts passed
-    → (k : ℕ) (p : Post) → 1 ≤ p.site → slice_get posts k ≡ Some p
-    → option_map (signed p.site) (posted replicas p)
-    ≡ option_map letter (slice_get (filter_map (posted replicas) posts) k)
-letter_at replicas posts passed parts k p some e =
-    let a = posted_at replicas posts passed parts k p some e in
-    ap (λ (o : Option Message). option_map (signed p.site) o) a.stands
-    ∙ (ap (λ (s : ℕ). Some (signed s a.message)) (sym a.from)
-    ∙ sym (ap (λ (o : Option Message). option_map letter o) a.sent))
-
-letter_some : (site : ℕ) (message : Message) (o : Option Message) → Some (signed site message) ≡ option_map letter o
-    → o ≡ Some message
-letter_some site message None e = absurd (nothing e)
-  where
-    nothing : ◌≡◌ {A = Option (ℕ × Message)} (Some (signed site message)) None → ⊥
-    nothing f = cc
-letter_some site message (Some m) e = ap (λ (x : Message). Some x) (sym (second site message (sender m) m e))
-  where
-    second : (s : ℕ) (a : Message) (t : ℕ) (b : Message)
-        → ◌≡◌ {A = Option (ℕ × Message)} (Some (s, a)) (Some (t, b)) → a ≡ b
-    second s a t b f = ap (λ (p : ℕ × Message). p.1) (same_some (signed s a) (signed t b) f)
-
--- a message that is told of is one that was sent
-pub letter_in : (site : ℕ) (message : Message) (k : ℕ) (messages : List Message)
-    → Some (signed site message) ≡ option_map letter (kth k messages) → In message messages
-letter_in site message k messages e = kth_in k messages message (letter_some site message (kth k messages) e)
-
-pub letter_kth : (site : ℕ) (message : Message) (k : ℕ) (messages : List Message)
-    → Some (signed site message) ≡ option_map letter (kth k messages) → kth k messages ≡ Some message
-letter_kth site message k messages e = letter_some site message (kth k messages) e
-
-pub letter_get : (site : ℕ) (message : Message) (k : ℕ) (messages : List Message)
-    → Some (signed site message) ≡ option_map letter (slice_get messages k) → slice_get messages k ≡ Some message
-letter_get site message k messages e = letter_some site message (slice_get messages k) e

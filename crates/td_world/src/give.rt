@@ -28,9 +28,9 @@ impl<D: Doc> World<D> {
         ensures promises { IsPromised self.new }
         ensures nobody { OnOk result (NobodyReady self.old → NobodyReady self.new) }
     {
-        let sent = self.message(number);
+        let sent = self.numbered(number);
         match &sent {
-            Some((_, message)) => self.give_to(to, message),
+            Some(message) => self.give_to(to, message),
             None => Ok(Given::NoSuch),
         }
     }
@@ -64,8 +64,9 @@ impl<D: Doc> World<D> {
         ensures promises { IsPromised self.new }
         ensures nobody { OnOk result (NobodyReady self.old → NobodyReady self.new) }
     {
-        match self.message(number) {
-            Some((_, message)) => self.offer_at(to, number as usize - 1, &message),
+        let sent = self.numbered(number);
+        match &sent {
+            Some(message) => self.offer_at(to, number as usize - 1, message),
             None => Ok(None),
         }
     }
@@ -171,7 +172,7 @@ impl<D: Doc> World<D> {
             return Ok(());
         }
         let sent = self.at(k);
-        let Some((_, message)) = &sent else {
+        let Some(message) = &sent else {
             return Ok(());
         };
         given.reserve(1)?;

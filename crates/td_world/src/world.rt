@@ -72,6 +72,16 @@ impl<D: Doc> World<D> {
         ensures world { IsWorld self.now }
         ensures promises { IsPromised self.now }
     {
+        let message = self.numbered(number)?;
+        Some((sender(&message), message))
+    }
+
+    // The message with this number.
+    pub(crate) fn numbered(&self, number: u64) -> Option<Message>
+        ensures message { result ≡ kth number self.now.sent }
+        ensures world { IsWorld self.now }
+        ensures promises { IsPromised self.now }
+    {
         let sent = self.sent();
         if number == 0 || number > sent {
             return None;
@@ -89,9 +99,9 @@ impl<D: Doc> World<D> {
         self.replicas.len() as u8
     }
 
-    // The message at a place from 0, and the site that sent it.
-    pub(crate) fn at(&self, k: usize) -> Option<(Site, Message)>
-        ensures { result ≡ option_map (λ (m : Message). (sender m, m)) (slice_get self.now.sent k) }
+    // The message at a place from 0.
+    pub(crate) fn at(&self, k: usize) -> Option<Message>
+        ensures { result ≡ slice_get self.now.sent k }
     {
         match self.posts.get(k) {
             Some(post) => message_of(&self.replicas, post),
@@ -142,23 +152,24 @@ impl<D: Doc> World<D> {
     }
 }
 
-// The message that is noted so, and the site that sent it.
-fn message_of<D: Doc>(replicas: &[Replica<D>], post: &Post) -> Option<(Site, Message)>
-    ensures message { result ≡ option_map (λ (m : Message). (post.now.site, m)) (posted replicas.now post.now) }
+// The message that is noted so.
+fn message_of<D: Doc>(replicas: &[Replica<D>], post: &Post) -> Option<Message>
+    ensures message { result ≡ posted replicas.now post.now }
     ensures some { 1 ≤ post.now.site }
 {
-    let message = sent_at(replicas, post.site, post.number)?;
-    Some((post.site, message))
+    match replicas.get(place_of(post.site)) {
+        Some(replica) => replica.sent_at(post.number),
+        None => None,
+    }
 }
 
-// The message that a site sent with this number.
-fn sent_at<D: Doc>(replicas: &[Replica<D>], site: Site, number: u64) -> Option<Message>
-    ensures message { result ≡ kth number (replica_from replicas.now (site - 1)).machine.sent }
-    ensures some { 1 ≤ site }
+// The site that sent the message.
+fn sender(message: &Message) -> Site
+    ensures { result ≡ sender message.now }
 {
-    match replicas.get(place_of(site)) {
-        Some(replica) => replica.sent_at(number),
-        None => None,
+    match message {
+        Message::Op(op) => op.dot().site,
+        Message::Vote(vote) => vote.voter,
     }
 }
 

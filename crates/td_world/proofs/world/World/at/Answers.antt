@@ -1,29 +1,25 @@
-use Rattle.std.proofs.Common.{List, Option, ap, ◌∙◌, sym}
+use Rattle.std.proofs.Common.{List, ap, ◌∙◌, sym}
 use Rattle.std.specs.List.{slice_get}
-use Rattle.std.specs.Option.{option_map}
-use Rattle.td_op.specs.declared.message.Message.{Message}
 use Rattle.td_world.specs.declared.post.Post.{Post}
 use Rattle.td_replica.specs.Replica.{ReplicaValue}
 use Rattle.td_world.specs.Parts.{posted}
 use Rattle.td_world.specs.World.{WorldValue}
-use Rattle.td_world.proofs.Kept.{get_found, get_missing, letter, signed, letter_at, nothing_at}
+use Rattle.td_world.proofs.Kept.{get_found, get_missing, posted_at, nothing_at}
 use Rattle.td_world.proofs.world.World.at.Goals as goal
 
 pub returns-in-Some : goal.returns-in-Some
 returns-in-Some g c =
-    c.message_of.ensures.message
-    ∙ ap (λ (l : List ReplicaValue). option_map (signed c.in-Some.post.now.site) (posted l c.in-Some.post.now))
-    c.deref-in-Some.ensures.value
-    ∙ (letter_at c.self.inside.replicas.items c.self.inside.posts.items c.self.inside.passed.items c.self.invariant
-    c.args.k c.in-Some.post.now c.message_of.ensures.some
+    let here = posted_at c.self.inside.replicas.items c.self.inside.posts.items c.self.inside.passed.items
+    c.self.invariant c.args.k c.in-Some.post.now c.message_of.ensures.some
     (ap (λ (l : List Post). slice_get l c.args.k) (sym c.deref.ensures.value)
-    ∙ get_found c.deref.result.now c.args.k c.in-Some.post.now c.in-Some.ensures.lookup.3.0 c.in-Some.ensures.lookup.1)
-    ∙ ap (λ (w : WorldValue). option_map letter (slice_get w.sent c.args.k)) c.self.view_is)
+    ∙ get_found c.deref.result.now c.args.k c.in-Some.post.now c.in-Some.ensures.lookup.3.0 c.in-Some.ensures.lookup.1) in
+    c.message_of.ensures.message
+    ∙ ap (λ (l : List ReplicaValue). posted l c.in-Some.post.now) c.deref-in-Some.ensures.value
+    ∙ here.stands ∙ sym here.sent ∙ ap (λ (w : WorldValue). slice_get w.sent c.args.k) c.self.view_is
 
 pub returns-in-None : goal.returns-in-None
 returns-in-None g c =
-    sym (ap (λ (o : Option Message). option_map letter o)
-    (ap (λ (w : WorldValue). slice_get w.sent c.args.k) (sym c.self.view_is)
+    sym (ap (λ (w : WorldValue). slice_get w.sent c.args.k) (sym c.self.view_is)
     ∙ nothing_at c.self.inside.replicas.items c.self.inside.posts.items c.self.inside.passed.items c.self.invariant c.args.k
     (ap (λ (l : List Post). slice_get l c.args.k) (sym c.deref.ensures.value)
-    ∙ get_missing c.deref.result.now c.args.k c.in-None.ensures.lookup.3)))
+    ∙ get_missing c.deref.result.now c.args.k c.in-None.ensures.lookup.3))

@@ -3,14 +3,13 @@ use Rattle.std.proofs.lemmas.Result.{on_ok_weaker}
 use Rattle.td_world.specs.World.{WorldValue, moved_all}
 use Rattle.td_world.specs.Calls.{found_moves}
 use Rattle.td_world.specs.Promises.{NobodyReady}
-use Rattle.td_world.proofs.Kept.{letter_in}
+use Rattle.td_world.proofs.Kept.{kth_in}
 use Rattle.td_world.proofs.Nexts.{found_nobody}
 use Rattle.td_world.proofs.world.World.give.Goals as goal
 
 pub give_to-requires-clause-sent : goal.give_to-requires-clause-sent
 give_to-requires-clause-sent g c =
-    letter_in c.in-Some.field-0-0 c.in-Some.message c.args.number c.args.self.now.sent
-    (sym c.in-Some.is ∙ c.message-sent.ensures.message)
+    kth_in c.args.number c.args.self.now.sent c.in-Some.message (sym c.numbered-sent.ensures.message ∙ c.in-Some.is)
 
 pub returns-in-Some-clause-nobody : goal.returns-in-Some-clause-nobody
 returns-in-Some-clause-nobody g c =

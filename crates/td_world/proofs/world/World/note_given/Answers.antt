@@ -1,11 +1,10 @@
 use Rattle.std.proofs.Common.{◌+◌, ◌∙◌, sym}
-use Rattle.td_world.proofs.Kept.{letter_get}
 use Rattle.td_world.proofs.Passed.{own_passed, own_moves, own_given}
 use Rattle.td_world.proofs.world.World.note_given.Goals as goal
 
 pub offer_at-requires-clause-sent : goal.offer_at-requires-clause-sent
 offer_at-requires-clause-sent g c =
-    letter_get c.in-Some.field-0-0 c.in-Some.message c.args.k c.args.self.now.sent (sym c.in-Some.is ∙ c.at-sent.ensures)
+    sym c.at-sent.ensures ∙ c.in-Some.is
 
 pub pass_over-requires-clause-passed : goal.pass_over-requires-clause-passed
 pass_over-requires-clause-passed g c = own_passed c.args.to c.args.k c.args.self.now (c.is_from.ensures c.if-is_from.true)

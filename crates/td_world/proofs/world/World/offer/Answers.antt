@@ -1,22 +1,22 @@
-use Rattle.std.proofs.Common.{◌≡◌, ◌<◌, sym, subst, arith}
+use Rattle.std.proofs.Common.{◌≡◌, ◌<◌, ◌∙◌, sym, subst, arith}
 use Rattle.std.proofs.lemmas.Result.{on_ok_weaker}
 use Rattle.td_world.specs.World.{WorldValue, moved_all}
 use Rattle.td_world.specs.Calls.{wanted_moves}
 use Rattle.td_world.specs.Promises.{NobodyReady}
-use Rattle.td_world.proofs.Kept.{kth_get, letter_kth}
+use Rattle.td_world.proofs.Kept.{kth_get}
 use Rattle.td_world.proofs.Nexts.{wanted_nobody}
 use Rattle.td_world.proofs.world.World.offer.Goals as goal
 
 pub overflow_sub-number : goal.overflow_sub-number
 overflow_sub-number g c =
     let some : 0 < c.args.number = (kth_get c.args.number c.args.self.now.sent c.in-Some.message
-    (letter_kth c.in-Some.field-0-0 c.in-Some.message c.args.number c.args.self.now.sent c.in-Some.ensures.message)).0 in
+    (sym c.numbered-sent.ensures.message ∙ c.in-Some.is)).0 in
     omega (arith, some)
 
 pub offer_at-requires-clause-sent : goal.offer_at-requires-clause-sent
 offer_at-requires-clause-sent g c =
     (kth_get c.args.number c.args.self.now.sent c.in-Some.message
-    (letter_kth c.in-Some.field-0-0 c.in-Some.message c.args.number c.args.self.now.sent c.in-Some.ensures.message)).1
+    (sym c.numbered-sent.ensures.message ∙ c.in-Some.is)).1
 
 pub returns-in-Some-clause-nobody : goal.returns-in-Some-clause-nobody
 returns-in-Some-clause-nobody g c =
