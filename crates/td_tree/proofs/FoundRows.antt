@@ -1,104 +1,18 @@
 -- What stands in a stretch of items.
-use Rattle.std.proofs.Common.{◌≡◌, ◌≢◌, ◌+◌, ◌/◌, ◌%◌, ◌<◌, ◌≤◌, ◌^◌, ℕ, zero, suc, List, [], ◌∷◌, ◌++◌, Bool, true, false, if◌then◌else◌, length, take, drop, get_or, nat_lt, refl, sym, ap, ◌∙◌, subst, arith, append_assoc, length-append, take-append-drop, Option, Some, None, not, nat_eq, true≢false}
+use Rattle.std.proofs.Common.{◌≡◌, ◌+◌, ◌<◌, ◌≤◌, ◌^◌, ℕ, List, [], ◌∷◌, ◌++◌, length, take, drop, get_or, refl, sym, ap, ◌∙◌, subst, arith, append_assoc, length-append, take-append-drop, Option}
 use Rattle.std.proofs.lemmas.List.{append-nil, map_more}
-use Rattle.td_base.specs.Lists.{In}
-use Rattle.td_doc.specs.Document.{is_empty_list}
 use Rattle.td_list.specs.declared.item.Item.{Item}
 use Rattle.td_brackets.specs.Brackets.{Token, Open, Atom, Close, Leaf, Entry}
 use Rattle.td_brackets.specs.Laws.{live_number, live_numbers}
 use Rattle.td_brackets.specs.RowNumbers.{row_numbers_at, row_numbers}
 use Rattle.td_brackets.proofs.Entries.{row_numbers-append}
-use Rattle.td_tree.specs.declared.tree_row.RowState.{RowState}
-use Rattle.td_tree.specs.declared.tree_row.RowState.TheVariants.{InArray, Gone}
-use Rattle.td_tree.proofs.RowPlaces.{is_node}
-use Rattle.td_tree.specs.Parts.{Parts, state_at, table, token_of, tokens_of, tokens, token_weight, IsRowItem, IsKind, IsTree}
+use Rattle.td_tree.specs.Parts.{Parts, table, token_of, tokens_of, tokens, IsTree}
 use Rattle.td_tree.specs.Stretches.{open_numbers, IsFound, IsFoundAt, IsFoundAmong}
 use Rattle.td_tree.specs.Walks.{IsStretch}
 use Rattle.td_tree.proofs.ItemTokens.{tokens-append}
-use Rattle.td_tree.proofs.ItemKinds.{Kind, IsOpen, IsRow, IsLeaf, IsClose, kind_of}
-use Rattle.td_tree.proofs.Trees.{node_not_array}
 use Rattle.td_tree.proofs.Grown.{rows_long}
-use Rattle.td_tree.proofs.Walked.{Walked, step}
-use Rattle.std.specs.Option.{option_eq}
-use Rattle.std.proofs.lemmas.Bool.{eqb-true, eq-eqb, lt-ltb, le-ltb}
-use Rattle.td_base.proofs.Lists.{In-map}
-use Rattle.td_list.specs.Items.{IsItem, first_name}
+use Rattle.td_tree.proofs.Walked.{Walked}
 use Rattle.td_list.specs.Places.{nothing}
-
-module _ (p : Parts) (t : IsTree p) (i : Item) (m : In i p.items) (live nodes : List ℕ) (dead : ℕ) where
-  pub found_open : i.name % 3 ≡ 0 → IsFoundAt p (token_of p i) live nodes dead live (nodes ++ i.name / 3 ∷ []) dead
-  found_open k = at (kind_of p t i m)
-    where
-      at : Kind p i → IsFoundAt p (token_of p i) live nodes dead live (nodes ++ i.name / 3 ∷ []) dead
-      at (IsOpen f g) = subst (λ (u : Token). IsFoundAt p u live nodes dead live (nodes ++ i.name / 3 ∷ []) dead) (sym g) (record { live_is = sym (append-nil live); nodes_are = refl; dead_is = refl })
-      at (IsRow f h g) = absurd (omega arith)
-      at (IsLeaf f h g) = absurd (omega arith)
-      at (IsClose f g) = absurd (omega arith)
-
-  pub found_close : i.name % 3 ≢ 0 → i.name % 3 ≢ 1 → IsFoundAt p (token_of p i) live nodes dead live nodes dead
-  found_close k l = at (kind_of p t i m)
-    where
-      at : Kind p i → IsFoundAt p (token_of p i) live nodes dead live nodes dead
-      at (IsOpen f g) = absurd (k f)
-      at (IsRow f h g) = absurd (l f)
-      at (IsLeaf f h g) = absurd (l f)
-      at (IsClose f g) = subst (λ (u : Token). IsFoundAt p u live nodes dead live nodes dead) (sym g) (record { live_is = sym (append-nil live); nodes_are = sym (append-nil nodes); dead_is = refl })
-
-  pub found_leaf : i.name % 3 ≡ 1 → (a c : ℕ) → state_at p (i.name / 3) ≡ InArray a c → (rs : List ℕ) → row_numbers_at (token_of p i) ≡ rs → IsFoundAt p (token_of p i) live nodes dead (live ++ rs) nodes dead
-  found_leaf k a c s rs is = at (kind_of p t i m)
-    where
-      at : Kind p i → IsFoundAt p (token_of p i) live nodes dead (live ++ rs) nodes dead
-      at (IsOpen f g) = absurd (omega arith)
-      at (IsRow f h g) = absurd (node_not_array a c (sym h ∙ s))
-      at (IsLeaf f h g) =
-          let ss : List ℕ = g.before ++ i.name / 3 ∷ g.after in
-          let same : ss ≡ rs = sym (ap row_numbers_at g.is) ∙ is in
-          subst (λ (u : Token). IsFoundAt p u live nodes dead (live ++ rs) nodes dead) (sym g.is) (record { live_is = ap (λ (xs : List ℕ). live ++ xs) (sym same); nodes_are = sym (append-nil nodes); dead_is = refl })
-      at (IsClose f g) = absurd (omega arith)
-
-  found_atom : i.name % 3 ≡ 1 → ((a c : ℕ) → state_at p (i.name / 3) ≡ InArray a c → ⊥) → token_of p i ≡ Atom (i.name / 3)
-  found_atom k n = at (kind_of p t i m)
-    where
-      at : Kind p i → token_of p i ≡ Atom (i.name / 3)
-      at (IsOpen f g) = absurd (omega arith)
-      at (IsRow f h g) = g
-      at (IsLeaf f h g) = absurd (h (is_node (state_at p (i.name / 3)) n not_gone))
-        where
-          not_gone : state_at p (i.name / 3) ≢ Gone
-          not_gone o = kind_gone (i.name % 3) f (t.each i m).kind
-            where
-              kind_gone : (k : ℕ) → k ≡ 1 → IsKind p k (state_at p (i.name / 3)) i.weight → ⊥
-              kind_gone zero q h = absurd (omega arith)
-              kind_gone (suc zero) q h = subst (λ (s : RowState). IsRowItem p s i.weight) o h
-              kind_gone (suc (suc k)) q h = absurd (omega arith)
-      at (IsClose f g) = absurd (omega arith)
-
-  -- a row in brackets weighs where no delete named it
-  weighs_live : i.name % 3 ≡ 1 → ((a c : ℕ) → state_at p (i.name / 3) ≡ InArray a c → ⊥) → nat_lt 0 i.weight ≡ is_empty_list (table p (i.name / 3)).deletes
-  weighs_live k n =
-      ap (nat_lt 0) ((t.each i m).weighed ∙ ap (token_weight (table p)) (found_atom k n))
-      ∙ at (is_empty_list (table p (i.name / 3)).deletes)
-    where
-      at : (b : Bool) → nat_lt 0 (if b then 1 else 0) ≡ b
-      at true = refl
-      at false = refl
-
-  pub found_live : i.name % 3 ≡ 1 → ((a c : ℕ) → state_at p (i.name / 3) ≡ InArray a c → ⊥) → 0 < i.weight
-      → IsFoundAt p (token_of p i) live nodes dead (live ++ i.name / 3 ∷ []) nodes dead
-  found_live k n b =
-      let is : is_empty_list (table p (i.name / 3)).deletes ≡ true = sym (weighs_live k n) ∙ lt-ltb 0 i.weight b in
-      let one : (if is_empty_list (table p (i.name / 3)).deletes then i.name / 3 ∷ [] else []) ≡ i.name / 3 ∷ [] = ap (λ (c : Bool). if c then i.name / 3 ∷ [] else []) is in
-      subst (λ (u : Token). IsFoundAt p u live nodes dead (live ++ i.name / 3 ∷ []) nodes dead) (sym (found_atom k n))
-      (record { live_is = ap (λ (xs : List ℕ). live ++ xs) (sym one); nodes_are = sym (append-nil nodes); dead_is = ap (λ (xs : List ℕ). dead + length xs) one })
-
-  pub found_dead : i.name % 3 ≡ 1 → ((a c : ℕ) → state_at p (i.name / 3) ≡ InArray a c → ⊥) → i.weight ≤ 0
-      → IsFoundAt p (token_of p i) live nodes dead live nodes (dead + 1)
-  found_dead k n b =
-      let is : is_empty_list (table p (i.name / 3)).deletes ≡ false = sym (weighs_live k n) ∙ le-ltb 0 i.weight b in
-      let none : (if is_empty_list (table p (i.name / 3)).deletes then i.name / 3 ∷ [] else []) ≡ [] = ap (λ (c : Bool). if c then i.name / 3 ∷ [] else []) is in
-      let empty = ap (λ (xs : List ℕ). length xs) none in
-      subst (λ (u : Token). IsFoundAt p u live nodes dead live nodes (dead + 1)) (sym (found_atom k n))
-      (record { live_is = sym (append-nil live) ∙ ap (λ (xs : List ℕ). live ++ xs) (sym none); nodes_are = sym (append-nil nodes); dead_is = omega arith })
 
 -- one more
 lives-append : (table : ℕ → Entry) (xs ys : List Token) → live_numbers table (xs ++ ys) ≡ live_numbers table xs ++ live_numbers table ys
@@ -201,41 +115,3 @@ rows_few p t first end s at w items more e live nodes dead f =
     let eight = t.most in
     let found = f.dead_is in
     omega arith
-
--- ends of walks
-pub same_end : (a b : Option ℕ) → not (option_eq nat_eq a b) ≡ false → a ≡ b
-same_end None None e = refl
-same_end None (Some y) e = absurd (true≢false e)
-same_end (Some x) None e = absurd (true≢false e)
-same_end (Some x) (Some y) e = at (nat_eq x y) refl e
-  where
-    at : (c : Bool) → nat_eq x y ≡ c → not c ≡ false → Some x ≡ Some y
-    at true f g = ap Some (eqb-true x y f)
-    at false f g = absurd (true≢false g)
-
-pub other_end : (a b : Option ℕ) → not (option_eq nat_eq a b) ≡ true → a ≢ b
-other_end a b e f = differ (option_eq nat_eq a b) (ap (option_eq nat_eq a) (sym f) ∙ self a) e
-  where
-    self : (a : Option ℕ) → option_eq nat_eq a a ≡ true
-    self None = refl
-    self (Some x) = eq-eqb x x refl
-
-    differ : (c : Bool) → c ≡ true → not c ≡ true → ⊥
-    differ true e f = true≢false (sym f)
-    differ false e f = true≢false (sym e)
-
-pub item_there : (p : Parts) (t : IsTree p) (first end : Option ℕ) (s : IsStretch p first end) (at : Option ℕ) (name : ℕ) (e : at ≡ Some name) (n : at ≢ end) (w : Walked p s.inner s.back at) → IsItem name p.items
-item_there p t first end s at name e n w =
-    let k = step p t first end s at name e n w in
-    subst (λ (x : ℕ). IsItem x p.items) k.named (In-map (λ (i : Item). i.name) k.item p.items k.there)
-
--- at the end of all, all is done
-pub all_done : (p : Parts) (t : IsTree p) (first end : Option ℕ) (s : IsStretch p first end) (at : Option ℕ) → at ≡ None → (w : Walked p s.inner s.back at) → s.inner ≡ w.done
-all_done p t first end s at e w = w.is ∙ ap (λ (xs : List Item). w.done ++ xs) (nothing w.rest (w.here ∙ e)) ∙ append-nil w.done
-  where
-    none_some : (x : ℕ) → Some x ≡ None → ⊥
-    none_some x e = cc
-
-    nothing : (rest : List Item) → first_name (rest ++ s.back) ≡ None → rest ≡ []
-    nothing [] e = refl
-    nothing (i ∷ rest) e = absurd (none_some i.name e)

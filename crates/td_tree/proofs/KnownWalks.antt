@@ -1,23 +1,22 @@
 -- What holds of all rows that a walk has passed.
-use Rattle.std.proofs.Common.{◌≡◌, ℕ, List, [], ◌∷◌, ◌++◌, Bool, true, false, ◌&&◌, map, Option, Some, None, refl, sym, ap, ◌∙◌, append_assoc}
+use Rattle.std.proofs.Common.{◌≡◌, ◌<◌, ◌+◌, ℕ, suc, List, [], ◌∷◌, ◌++◌, Bool, true, false, ◌&&◌, length, take, drop, get_or, map, Option, Some, None, refl, sym, ap, ◌∙◌, append_assoc, take-append-drop, drop-cons}
 use Rattle.std.specs.List.{list_all}
 use Rattle.std.proofs.lemmas.List.{append-nil}
-use Rattle.td_base.specs.Lists.{In}
 use Rattle.td_doc.specs.Slots.{rows_in_slot, is_known}
 use Rattle.td_base.specs.declared.bit.Bit.{Bit}
 use Rattle.td_path.specs.declared.slot.Slot.{Slot}
 use Rattle.td_path.specs.declared.slot.Slot.TheVariants.{Root}
 use Rattle.td_list.specs.declared.item.Item.{Item}
 use Rattle.td_list.specs.Items.{first_name, items_after}
+use Rattle.td_list.specs.Places.{nothing}
 use Rattle.td_brackets.specs.RowNumbers.{entry_of, is_known_entry}
 use Rattle.td_brackets.proofs.Entries.{all_known}
 use Rattle.td_tree.specs.Parts.{Parts, table, doc_rows, IsTree}
 use Rattle.td_tree.specs.Reading.{shown_at, shown, side_start, side_end}
 use Rattle.td_tree.specs.Walks.{IsStretch}
-use Rattle.td_tree.proofs.Shown.{shown-append, entries}
+use Rattle.td_tree.proofs.Shown.{shown-append, shown_more, entries}
 use Rattle.td_tree.proofs.RowsFound.{filter_true}
 use Rattle.td_tree.proofs.SideItems.{SideItems, after_is_at}
-use Rattle.td_tree.proofs.Walked.{Walked, begins, step, goes_on, ended}
 
 pub all-append : (test : ℕ → Bool) (xs ys : List ℕ) → list_all test (xs ++ ys) ≡ (list_all test xs && list_all test ys)
 all-append test [] ys = refl
@@ -34,44 +33,28 @@ second_false : (a b c : Bool) → b ≡ false → (a && (b && c)) ≡ false
 second_false true b c e = ap (λ (d : Bool). d && c) e
 second_false false b c e = refl
 
-module _ (test : ℕ → Bool) (p : Parts) (t : IsTree p) (first end : Option ℕ) (s : IsStretch p first end) where
-  abbrev pub Passed : Option ℕ → Type 0
-  Passed at = (w : Walked p s.inner s.back at) × (list_all test (shown p w.done) ≡ true)
+module _ (test : ℕ → Bool) (p : Parts) where
+  -- all of some items, and of those that follow them
+  pub known_more : (xs ys : List Item) → list_all test (shown p xs) ≡ true → list_all test (shown p ys) ≡ true → list_all test (shown p (xs ++ ys)) ≡ true
+  known_more xs ys e f = ap (list_all test) (shown-append p xs ys) ∙ all-append test (shown p xs) (shown p ys) ∙ both (list_all test (shown p xs)) (list_all test (shown p ys)) e f
 
-  pub starts_passed : Passed first
-  starts_passed = (begins p t first end s, refl)
+  pub known_next : (items : List Item) (k : ℕ) → k < length items → list_all test (shown p (take k items)) ≡ true → list_all test (shown_at p (get_or items k nothing)) ≡ true
+      → list_all test (shown p (take (k + 1) items)) ≡ true
+  known_next items k b e f =
+      ap (list_all test) (shown_more p items k b) ∙ all-append test (shown p (take k items)) (shown_at p (get_or items k nothing))
+      ∙ both (list_all test (shown p (take k items))) (list_all test (shown_at p (get_or items k nothing))) e f
 
-  pub passes : (at : Option ℕ) (name : ℕ) → at ≡ Some name → (at ≡ end → ⊥) → Passed at → ((i : Item) → In i p.items → i.name ≡ name → list_all test (shown_at p i) ≡ true) → (next : Option ℕ) → next ≡ first_name (items_after name p.items) → Passed next
-  passes at name e n w h next f =
-      let k = step p t first end s at name e n w.0 in (
-        goes_on p t first end s at name w.0 k next f,
-        ap (list_all test) (shown-append p w.0.done (k.item ∷ [])) ∙ all-append test (shown p w.0.done) (shown_at p k.item ++ [])
-            ∙ both (list_all test (shown p w.0.done)) (list_all test (shown_at p k.item ++ [])) w.1 (ap (list_all test) (append-nil (shown_at p k.item)) ∙ h k.item k.there k.named),
-      )
+  -- not all, where not all of some of them
+  pub unknown_within : (all xs ys zs : List Item) → all ≡ xs ++ (ys ++ zs) → list_all test (shown p ys) ≡ false → list_all test (shown p all) ≡ false
+  unknown_within all xs ys zs is e =
+      ap (λ (q : List Item). list_all test (shown p q)) is ∙ ap (list_all test) (shown-append p xs (ys ++ zs)) ∙ all-append test (shown p xs) (shown p (ys ++ zs))
+      ∙ ap (λ (b : Bool). list_all test (shown p xs) && b) (ap (list_all test) (shown-append p ys zs) ∙ all-append test (shown p ys) (shown p zs))
+      ∙ second_false (list_all test (shown p xs)) (list_all test (shown p ys)) (list_all test (shown p zs)) e
 
-  pub fails : (at : Option ℕ) (name : ℕ) → at ≡ Some name → (at ≡ end → ⊥) → Passed at → ((i : Item) → In i p.items → i.name ≡ name → list_all test (shown_at p i) ≡ false) → list_all test (shown p s.inner) ≡ false
-  fails at name e n w h =
-      let k = step p t first end s at name e n w.0 in
-      ap (λ (q : List Item). list_all test (shown p q)) (w.0.is ∙ ap (λ (q : List Item). w.0.done ++ q) k.is)
-      ∙ ap (list_all test) (shown-append p w.0.done (k.item ∷ k.rest)) ∙ all-append test (shown p w.0.done) (shown_at p k.item ++ shown p k.rest)
-      ∙ ap (λ (b : Bool). list_all test (shown p w.0.done) && b) (all-append test (shown_at p k.item) (shown p k.rest))
-      ∙ second_false (list_all test (shown p w.0.done)) (list_all test (shown_at p k.item)) (list_all test (shown p k.rest)) (h k.item k.there k.named)
-
-  pub passed_all : (at : Option ℕ) → at ≡ end → Passed at → list_all test (shown p s.inner) ≡ true
-  passed_all at e w = ap (λ (q : List Item). list_all test (shown p q)) (ended p t first end s at e w.0) ∙ w.1
-
-  pub not_past : (at : Option ℕ) → at ≡ None → (at ≡ end → ⊥) → Walked p s.inner s.back at → ⊥
-  not_past at e n w = n (nothing (w.rest ++ s.back) w.rest refl (w.here ∙ e))
-    where
-      at_end : (back : List Item) → s.back ≡ back → first_name back ≡ None → at ≡ end
-      at_end back f g = e ∙ sym g ∙ ap first_name (sym f) ∙ s.ends
-
-      nothing : (all rest : List Item) → all ≡ rest ++ s.back → first_name all ≡ None → at ≡ end
-      nothing all [] f g = at_end s.back refl (ap first_name (sym f) ∙ g)
-      nothing all (i ∷ rest) f g = absurd (some (ap first_name (sym f) ∙ g))
-        where
-          some : Some i.name ≡ None → ⊥
-          some h = cc
+  pub unknown_at : (items : List Item) (k : ℕ) → k < length items → list_all test (shown_at p (get_or items k nothing)) ≡ false → list_all test (shown p items) ≡ false
+  unknown_at items k b e =
+      unknown_within items (take k items) (get_or items k nothing ∷ []) (drop (suc k) items)
+      (sym (take-append-drop k items) ∙ ap (λ (q : List Item). take k items ++ q) (drop-cons items k nothing b)) (ap (list_all test) (append-nil (shown_at p (get_or items k nothing))) ∙ e)
 
 -- of rows in a slot
 pub known_numbers : (p : Parts) (v : List ℕ) (slot : Slot) (numbers : List ℕ) → map entry_of (rows_in_slot (doc_rows p) slot) ≡ map (table p) numbers

@@ -1,8 +1,10 @@
 -- Walks over items that are lent some at a time.
-use Rattle.std.proofs.Common.{◌≡◌, ◌≢◌, ◌<◌, ◌≤◌, ℕ, List, [], ◌∷◌, ◌++◌, Bool, if◌then◌else◌, length, Option, Some, refl, sym, ap, ◌∙◌, subst, inl, inr, arith, append_assoc, length-append}
+use Rattle.std.proofs.Common.{◌≡◌, ◌≢◌, ◌<◌, ◌≤◌, ℕ, List, [], ◌∷◌, ◌++◌, Bool, true, false, not, nat_eq, true≢false, if◌then◌else◌, length, Option, Some, None, refl, sym, ap, ◌∙◌, subst, inl, inr, arith, append_assoc, length-append}
+use Rattle.std.specs.Option.{option_eq}
 use Rattle.std.proofs.lemmas.List.{append-nil}
+use Rattle.std.proofs.lemmas.Bool.{eqb-true, eq-eqb}
 use Rattle.td_base.specs.Lists.{In}
-use Rattle.td_base.proofs.Lists.{In-front, In-back}
+use Rattle.td_base.proofs.Lists.{In-front, In-back, In-map}
 use Rattle.td_base.proofs.Elements.{same_head, same_tail}
 use Rattle.td_list.specs.declared.item.Item.{Item}
 use Rattle.td_list.specs.Items.{IsItem, AreApart, first_name, items_before, items_from, items_from_end}
@@ -128,3 +130,41 @@ module _ {p : Parts} {first end : Option ℕ} {s : IsStretch p first end} {at : 
         let more = length-append l.items o.more in
         let parted = length-append o.more s.back in
         omega arith
+
+-- ends of walks
+pub same_end : (a b : Option ℕ) → not (option_eq nat_eq a b) ≡ false → a ≡ b
+same_end None None e = refl
+same_end None (Some y) e = absurd (true≢false e)
+same_end (Some x) None e = absurd (true≢false e)
+same_end (Some x) (Some y) e = at (nat_eq x y) refl e
+  where
+    at : (c : Bool) → nat_eq x y ≡ c → not c ≡ false → Some x ≡ Some y
+    at true f g = ap Some (eqb-true x y f)
+    at false f g = absurd (true≢false g)
+
+pub other_end : (a b : Option ℕ) → not (option_eq nat_eq a b) ≡ true → a ≢ b
+other_end a b e f = differ (option_eq nat_eq a b) (ap (option_eq nat_eq a) (sym f) ∙ self a) e
+  where
+    self : (a : Option ℕ) → option_eq nat_eq a a ≡ true
+    self None = refl
+    self (Some x) = eq-eqb x x refl
+
+    differ : (c : Bool) → c ≡ true → not c ≡ true → ⊥
+    differ true e f = true≢false (sym f)
+    differ false e f = true≢false (sym e)
+
+pub item_there : (p : Parts) (t : IsTree p) (first end : Option ℕ) (s : IsStretch p first end) (at : Option ℕ) (name : ℕ) (e : at ≡ Some name) (n : at ≢ end) (w : Walked p s.inner s.back at) → IsItem name p.items
+item_there p t first end s at name e n w =
+    let k = step p t first end s at name e n w in
+    subst (λ (x : ℕ). IsItem x p.items) k.named (In-map (λ (i : Item). i.name) k.item p.items k.there)
+
+-- at the end of all, all is done
+pub all_done : (p : Parts) (t : IsTree p) (first end : Option ℕ) (s : IsStretch p first end) (at : Option ℕ) → at ≡ None → (w : Walked p s.inner s.back at) → s.inner ≡ w.done
+all_done p t first end s at e w = w.is ∙ ap (λ (xs : List Item). w.done ++ xs) (nothing w.rest (w.here ∙ e)) ∙ append-nil w.done
+  where
+    none_some : (x : ℕ) → Some x ≡ None → ⊥
+    none_some x e = cc
+
+    nothing : (rest : List Item) → first_name (rest ++ s.back) ≡ None → rest ≡ []
+    nothing [] e = refl
+    nothing (i ∷ rest) e = absurd (none_some i.name e)

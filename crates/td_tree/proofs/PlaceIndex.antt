@@ -17,7 +17,7 @@ use Rattle.td_tree.specs.declared.tree_row.RowState.TheVariants.{Node, Gone}
 use Rattle.td_tree.specs.Parts.{Parts, state_at, table, token_weight, doc_rows, open_item, atom_item, close_item, node_items, IsKind, IsTree}
 use Rattle.td_tree.specs.Places.{IsPlace, put_at}
 use Rattle.td_tree.specs.Stretches.{items_up_to}
-use Rattle.td_tree.proofs.FoundRows.{same_end}
+use Rattle.td_tree.proofs.Lent.{same_end}
 use Rattle.td_tree.proofs.Grown.{put_parts}
 use Rattle.td_tree.proofs.Indexes.{index_is, light_before}
 use Rattle.td_tree.proofs.LastRow.{put_known, put_node}

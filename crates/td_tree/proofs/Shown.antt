@@ -1,9 +1,11 @@
 -- The rows of a tree in the order of its items.
-use Rattle.std.proofs.Common.{◌≡◌, ◌≢◌, ◌⊎◌, ◌+◌, ◌-◌, ◌*◌, ◌/◌, ◌%◌, ◌<◌, ◌≤◌, ℕ, zero, suc, List, [], ◌∷◌, ◌++◌, map, length, refl, sym, ap, ◌∙◌, subst, inl, inr, ⊎_elim, arith}
+use Rattle.std.proofs.Common.{◌≡◌, ◌≢◌, ◌⊎◌, ◌+◌, ◌-◌, ◌*◌, ◌/◌, ◌%◌, ◌<◌, ◌≤◌, ℕ, zero, suc, List, [], ◌∷◌, ◌++◌, map, length, take, get_or, refl, sym, ap, ◌∙◌, subst, inl, inr, ⊎_elim, arith}
+use Rattle.std.proofs.lemmas.List.{append-nil, take_more}
 use Rattle.td_base.specs.Lists.{In, Successive}
 use Rattle.td_base.proofs.Lists.{In-append, In-front, In-back, map_In, In-map}
 use Rattle.td_list.specs.declared.item.Item.{Item}
 use Rattle.td_list.specs.Items.{IsItem}
+use Rattle.td_list.specs.Places.{nothing}
 use Rattle.td_brackets.specs.Brackets.{Token, Open, Atom, Close, IsBrackets}
 use Rattle.td_brackets.specs.RowNumbers.{row_numbers_at, row_numbers, entry_of}
 use Rattle.td_brackets.proofs.Words.{Node, node}
@@ -18,6 +20,11 @@ use Rattle.td_tree.proofs.ItemTokens.{leaf_token, tokens-append}
 
 pub shown-append : (p : Parts) (xs ys : List Item) → shown p (xs ++ ys) ≡ shown p xs ++ shown p ys
 shown-append p xs ys = ap row_numbers (tokens-append p xs ys) ∙ row_numbers-append (tokens_of p xs) (tokens_of p ys)
+
+pub shown_more : (p : Parts) (items : List Item) (k : ℕ) → k < length items → shown p (take (k + 1) items) ≡ shown p (take k items) ++ shown_at p (get_or items k nothing)
+shown_more p items k b =
+    ap (shown p) (take_more items k nothing b) ∙ shown-append p (take k items) (get_or items k nothing ∷ [])
+    ∙ ap (λ (rs : List ℕ). shown p (take k items) ++ rs) (append-nil (shown_at p (get_or items k nothing)))
 
 pub shown_inside : (p : Parts) (items : List Item) (i : Item) (r : ℕ) → In i items → In r (shown_at p i) → In r (shown p items)
 shown_inside p [] i r m n = absurd m

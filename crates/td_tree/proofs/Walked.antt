@@ -1,15 +1,14 @@
 -- Walks over items, from one to the next.
-use Rattle.std.proofs.Common.{◌≡◌, ◌≢◌, ◌<◌, ℕ, List, [], ◌∷◌, ◌++◌, length, Option, Some, refl, sym, ap, ◌∙◌, subst, inl, arith, append_assoc}
+use Rattle.std.proofs.Common.{◌≡◌, ◌≢◌, ℕ, List, [], ◌∷◌, ◌++◌, Option, Some, refl, sym, ap, ◌∙◌, subst, inl, append_assoc}
 use Rattle.std.proofs.lemmas.List.{append-nil}
 use Rattle.td_base.specs.Lists.{In}
 use Rattle.td_base.proofs.Lists.{In-back, In-map, all_in}
 use Rattle.td_list.specs.declared.item.Item.{Item}
-use Rattle.td_list.specs.Items.{names, IsItem, AreApart, first_name, items_after, items_from, items_from_end}
-use Rattle.td_list.proofs.Parted.{after_at, from_at}
+use Rattle.td_list.specs.Items.{names, IsItem, AreApart, first_name, items_from}
+use Rattle.td_list.proofs.Parted.{from_at}
 use Rattle.td_list.proofs.Names.{apart-parts, apart-back}
 use Rattle.td_tree.specs.Parts.{Parts, IsTree}
 use Rattle.td_tree.specs.Walks.{IsStretch}
-use Rattle.td_tree.proofs.Lists.{rest_long}
 
 -- how far a walk has come
 pub record Walked (p : Parts) (inner back : List Item) (at : Option ℕ) : Type 0 where
@@ -32,7 +31,6 @@ module _ (p : Parts) (t : IsTree p) (first end : Option ℕ) (s : IsStretch p fi
     pub is : w.rest ≡ item ∷ rest
     pub named : item.name ≡ name
     pub there : In item p.items
-    pub after : items_after name p.items ≡ rest ++ s.back
     pub from : items_from name p.items ≡ item ∷ (rest ++ s.back)
 
   some_rest : (at : Option ℕ) (name : ℕ) → at ≡ Some name → at ≢ end → (rest : List Item) → first_name (rest ++ s.back) ≡ at → (i : Item) × (more : List Item) × (rest ≡ i ∷ more) × (i.name ≡ name)
@@ -53,20 +51,11 @@ module _ (p : Parts) (t : IsTree p) (first end : Option ℕ) (s : IsStretch p fi
         is = r.2;
         named = r.3;
         there = subst (In r.0) (sym parts) (In-back r.0 (s.front ++ w.done) (r.0 ∷ (r.1 ++ s.back)) (inl refl));
-        after = ap (items_after name) parts ∙ after_at name (s.front ++ w.done) r.0 (r.1 ++ s.back) r.3 away;
         from = ap (items_from name) parts ∙ from_at name (s.front ++ w.done) r.0 (r.1 ++ s.back) r.3 away;
       }
     where
       regroup : (a b c d : List Item) → a ++ ((b ++ c) ++ d) ≡ (a ++ b) ++ (c ++ d)
       regroup a b c d = simp append_assoc
-
-  abbrev pub goes_on : (at : Option ℕ) (name : ℕ) (w : Way at) (k : Step at name w) (next : Option ℕ) → next ≡ first_name (items_after name p.items) → Way next
-  goes_on at name w k next e = record {
-    done = w.done ++ k.item ∷ [];
-    rest = k.rest;
-    is = w.is ∙ ap (λ (q : List Item). w.done ++ q) k.is ∙ sym (append_assoc w.done (k.item ∷ []) k.rest);
-    here = ap first_name (sym k.after) ∙ sym e;
-  }
 
   -- at the end all are done
   pub ended : (at : Option ℕ) → at ≡ end → (w : Way at) → s.inner ≡ w.done
@@ -87,16 +76,3 @@ module _ (p : Parts) (t : IsTree p) (first end : Option ℕ) (s : IsStretch p fi
         where
           regroup : (a b c d : List Item) → a ++ ((b ++ c) ++ d) ≡ (a ++ b) ++ (c ++ d)
           regroup a b c d = simp append_assoc
-
-  -- a walk gets shorter
-  pub shorter : (at : Option ℕ) (name : ℕ) → at ≡ Some name → (w : Way at) (k : Step at name w) (next : Option ℕ) → next ≡ first_name (items_after name p.items)
-      → length (items_from_end next p.items) < length (items_from_end at p.items)
-  shorter at name e w k next f =
-      let parts : p.items ≡ (s.front ++ (w.done ++ k.item ∷ [])) ++ (k.rest ++ s.back) =
-      s.is ∙ ap (λ (q : List Item). s.front ++ (q ++ s.back)) (w.is ∙ ap (λ (q : List Item). w.done ++ q) k.is) ∙ regroup s.front w.done k.item k.rest s.back in
-      let now = rest_long p.items t.apart (k.rest ++ s.back) next (ap first_name (sym k.after) ∙ sym f) (s.front ++ (w.done ++ k.item ∷ [])) parts in
-      let was = ap (λ (o : Option ℕ). length (items_from_end o p.items)) e ∙ ap length k.from in
-      omega arith
-    where
-      regroup : (a b : List Item) (x : Item) (c d : List Item) → a ++ ((b ++ x ∷ c) ++ d) ≡ (a ++ (b ++ x ∷ [])) ++ (c ++ d)
-      regroup a b x c d = simp append_assoc

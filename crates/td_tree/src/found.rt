@@ -9,7 +9,6 @@ ghost use Rattle.td_tree.specs.Walks.{IsStretch};
 
 use crate::stretch::Stretch;
 use crate::tokens::Tokens;
-use crate::tree_row::RowState;
 use td_base::Memory;
 use td_list::Item;
 
@@ -96,16 +95,12 @@ impl Tokens {
             found.new.live.items found.new.nodes.items found.new.dead) }
     {
         let row = item.name / 3;
-        match self.state(row) {
-            RowState::InArray { array, index } => {
-                let len = item.weight;
-                let from = index - len / 2;
-                found
-                    .live
-                    .extend_from_slice(self.part(Stretch { array, from, len }))?;
+        match self.leaf_at(item) {
+            Some(leaf) => {
+                found.live.extend_from_slice(self.part(leaf))?;
                 Ok(())
             }
-            _ => {
+            None => {
                 if item.weight > 0 {
                     found.live.push(row)?;
                 } else {
@@ -116,8 +111,8 @@ impl Tokens {
         }
     }
 
-    // The rows of a part of an array.
-    fn part(&self, place: Stretch) -> &[u32]
+    /// The rows of a part of an array.
+    pub fn part(&self, place: Stretch) -> &[u32]
         requires array { place.array < length self.now.arrays }
         requires within { place.from + place.len ≤ length (array_at self.now place.array) }
         ensures { result.now ≡ part (array_at self.now place.array) place.from place.len }
@@ -127,8 +122,8 @@ impl Tokens {
     }
 }
 
-// The items before an end; all where it is none of them.
-fn items_up_to(items: &[Item], end: Option<u32>) -> &[Item]
+/// The items before an end; all where it is none of them.
+pub fn items_up_to(items: &[Item], end: Option<u32>) -> &[Item]
     ensures { result.now ≡ items_up_to end items.now }
 {
     let Some(name) = end else {

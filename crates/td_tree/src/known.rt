@@ -1,24 +1,25 @@
 // What a vector knows of the rows.
-ghost use Rattle.std.specs.Prelude.{◌≡◌, ◌≢◌, ◌<◌, ◌≤◌, ◌+◌, ◌↔◌, ℕ, length, IsTrue};
+ghost use Rattle.std.specs.Prelude.{◌≡◌, ◌≢◌, ◌<◌, ◌≤◌, ◌+◌, ℕ, length};
 ghost use Rattle.std.specs.List.{list_all};
+ghost use Rattle.td_base.specs.Lists.{In};
 ghost use Rattle.td_clock.specs.Vector.{vector_has};
 ghost use Rattle.td_path.specs.declared.slot.Slot.TheVariants.{Root, At};
 ghost use Rattle.td_doc.specs.Slots.{is_known};
-ghost use Rattle.td_list.specs.Items.{IsItem};
+ghost use Rattle.td_list.specs.declared.item.Item.{Item};
 ghost use Rattle.td_brackets.specs.RowNumbers.{is_known_entry};
 ghost use Rattle.td_tree.specs.declared.tree_row.RowState.TheVariants.{Gone};
 ghost use Rattle.td_tree.specs.Parts.{state_at, table, array_at, part, doc_rows, IsTree};
-ghost use Rattle.td_tree.specs.Reading.{shown};
-ghost use Rattle.td_tree.specs.Walks.{token_numbers, AreThere, IsStretch};
+ghost use Rattle.td_tree.specs.Reading.{shown_at, shown};
+ghost use Rattle.td_tree.specs.Walks.{IsStretch};
 
+use crate::found::items_up_to;
 use crate::side::{side_end, side_start};
 use crate::stretch::Stretch;
-use crate::token_rows::TokenRows;
 use crate::tokens::Tokens;
 use crate::tree_row::{RowState, TreeRow};
 use td_base::{Bit, Dot};
 use td_clock::Vector;
-use td_list::Sequence;
+use td_list::Item;
 
 impl Tokens {
     /// Whether the vector has all that was done to the rows.
@@ -56,28 +57,49 @@ impl Tokens {
             → result ≡ list_all (λ (r : ℕ). is_known_entry v.now (table self.now r)) (shown self.now s.inner) }
     {
         let mut at = first;
-        let mut near = 0;
-        'walk: while !is_end(at, end) {
+        'walk: while at != end {
             let Some(name) = at else {
                 return true;
             };
-            if !self.is_token_known(self.rows_of(name, near), v) {
+            let (lent, behind) = self.list.lend_from(name);
+            let items = items_up_to(lent, end);
+            if !self.are_items_known(items, v) {
                 return false;
             }
-            at = self.next_near(name, &mut near);
+            at = if items.len() < lent.len() {
+                end
+            } else {
+                behind
+            };
         }
         true
     }
 
-    fn is_token_known(&self, rows: TokenRows, v: &Vector) -> bool
+    fn are_items_known(&self, items: &[Item], v: &Vector) -> bool
         requires tree { IsTree self.now }
-        requires there { AreThere self.now rows }
-        ensures { result ≡ list_all (λ (r : ℕ). is_known_entry v.now (table self.now r)) (token_numbers self.now rows) }
+        requires there { (i : Item) → In i items.now → In i self.now.items }
+        ensures { result ≡ list_all (λ (r : ℕ). is_known_entry v.now (table self.now r)) (shown self.now items.now) }
     {
-        match rows {
-            TokenRows::Bracket => true,
-            TokenRows::One { row } => self.is_row_known(row, v),
-            TokenRows::Leaf { rows } => self.is_part_known(rows, v),
+        for item in items {
+            if !self.is_item_known(*item, v) {
+                return false;
+            }
+        }
+        true
+    }
+
+    // A bracket has no rows.
+    fn is_item_known(&self, item: Item, v: &Vector) -> bool
+        requires tree { IsTree self.now }
+        requires there { In item self.now.items }
+        ensures { result ≡ list_all (λ (r : ℕ). is_known_entry v.now (table self.now r)) (shown_at self.now item) }
+    {
+        if item.name % 3 != 1 {
+            return true;
+        }
+        match self.leaf_at(item) {
+            Some(leaf) => self.is_part_known(leaf, v),
+            None => self.is_row_known(item.name / 3, v),
         }
     }
 
@@ -117,11 +139,4 @@ fn has_all(v: &Vector, dots: &[Dot]) -> bool
     ensures { result ≡ list_all (vector_has v.now) dots.now }
 {
     dots.iter().all(|dot| v.has(*dot))
-}
-
-// Whether a walk has come to its end.
-fn is_end(at: Option<u32>, end: Option<u32>) -> bool
-    ensures { IsTrue result ↔ (at ≡ end) }
-{
-    at == end
 }

@@ -29,7 +29,6 @@ mod side;
 mod states;
 mod stretch;
 mod text;
-mod token_rows;
 mod tokens;
 mod told;
 mod tree;

@@ -1,14 +1,15 @@
 // The text that the rows show.
-ghost use Rattle.std.specs.Prelude.{◌≡◌, ◌<◌, ◌≤◌, ◌+◌, ◌++◌, ℕ, List, length, OnOk, OnErr};
+ghost use Rattle.std.specs.Prelude.{◌≡◌, ◌<◌, ◌++◌, [], ℕ, List, length, OnOk, OnErr};
+ghost use Rattle.td_base.specs.Lists.{In};
 ghost use Rattle.td_doc.specs.Document.{text_of};
+ghost use Rattle.td_list.specs.declared.item.Item.{Item};
 ghost use Rattle.td_brackets.specs.RowNumbers.{text_of_numbers};
-ghost use Rattle.td_tree.specs.Parts.{table, array_at, part, doc_rows, IsTree};
-ghost use Rattle.td_tree.specs.Walks.{token_numbers, row_text, AreThere};
+ghost use Rattle.td_tree.specs.Parts.{table, doc_rows, IsTree};
+ghost use Rattle.td_tree.specs.Reading.{shown_at, shown};
 
-use crate::stretch::Stretch;
-use crate::token_rows::TokenRows;
 use crate::tokens::Tokens;
 use td_base::{Bytes, Memory};
+use td_list::Item;
 
 impl Tokens {
     /// Adds the text at the end. What was added when memory ran out is taken off again.
@@ -32,51 +33,63 @@ impl Tokens {
         ensures front { (more : List ℕ) × (text.new ≡ text.old ++ more) }
     {
         let mut at = self.first();
-        let mut near = 0;
         'walk: while let Some(name) = at {
-            self.push_token(self.rows_of(name, near), text)?;
-            at = self.next_near(name, &mut near);
+            let (items, behind) = self.list.lend_from(name);
+            self.push_items(items, text)?;
+            at = behind;
         }
         Ok(())
     }
 
-    fn push_token(&self, rows: TokenRows, text: &mut Bytes) -> Result<(), Memory>
+    fn push_items(&self, items: &[Item], text: &mut Bytes) -> Result<(), Memory>
         requires tree { IsTree self.now }
-        requires there { AreThere self.now rows }
-        ensures ok { OnOk result (text.new ≡ text.old
-            ++ text_of_numbers (table self.now) (token_numbers self.now rows)) }
+        requires there { (i : Item) → In i items.now → In i self.now.items }
+        ensures ok { OnOk result (text.new ≡ text.old ++ text_of_numbers (table self.now) (shown self.now items.now)) }
         ensures front { (more : List ℕ) × (text.new ≡ text.old ++ more) }
     {
-        match rows {
-            TokenRows::Bracket => Ok(()),
-            TokenRows::One { row } => self.push_row(row, text),
-            TokenRows::Leaf { rows } => self.push_part(rows, text),
-        }
-    }
-
-    fn push_part(&self, rows: Stretch, text: &mut Bytes) -> Result<(), Memory>
-        requires tree { IsTree self.now }
-        requires array { rows.array < length self.now.arrays }
-        requires within { rows.from + rows.len ≤ length (array_at self.now rows.array) }
-        ensures ok { OnOk result (text.new ≡ text.old
-            ++ text_of_numbers (table self.now) (part (array_at self.now rows.array) rows.from rows.len)) }
-        ensures front { (more : List ℕ) × (text.new ≡ text.old ++ more) }
-    {
-        for place in 0..rows.len {
-            self.push_row(self.row_in(rows.array, rows.from + place), text)?;
+        for item in items {
+            self.push_item(*item, text)?;
         }
         Ok(())
     }
 
+    // Adds what a token shows. What weighs nothing shows nothing: it is a bracket or a tombstone. What weighs as much as
+    // a row is the row that names it, and what weighs more is a leaf.
+    fn push_item(&self, item: Item, text: &mut Bytes) -> Result<(), Memory>
+        requires tree { IsTree self.now }
+        requires there { In item self.now.items }
+        ensures ok { OnOk result (text.new ≡ text.old ++ text_of_numbers (table self.now) (shown_at self.now item)) }
+        ensures front { (more : List ℕ) × (text.new ≡ text.old ++ more) }
+    {
+        match item.weight {
+            0 => Ok(()),
+            1 => self.push_row(item.name / 3, text),
+            _ => {
+                let leaf = self.leaf_at(item).unwrap();
+                self.push_rows(self.part(leaf), text)
+            }
+        }
+    }
+
+    // Adds the atoms of live rows.
+    fn push_rows(&self, rows: &[u32], text: &mut Bytes) -> Result<(), Memory>
+        requires known { (r : ℕ) → In r rows.now → r < length self.now.rows }
+        requires live { (r : ℕ) → In r rows.now → (table self.now r).deletes ≡ [] }
+        ensures ok { OnOk result (text.new ≡ text.old ++ text_of_numbers (table self.now) rows.now) }
+        ensures front { (more : List ℕ) × (text.new ≡ text.old ++ more) }
+    {
+        for row in rows {
+            self.push_row(*row, text)?;
+        }
+        Ok(())
+    }
+
+    // Adds the atom of a row.
     fn push_row(&self, row: u32, text: &mut Bytes) -> Result<(), Memory>
         requires { row < length self.now.rows }
-        ensures ok { OnOk result (text.new ≡ text.old ++ row_text (table self.now row)) }
+        ensures ok { OnOk result (text.new ≡ text.old ++ (table self.now row).atom) }
         ensures front { (more : List ℕ) × (text.new ≡ text.old ++ more) }
     {
-        let row = self.row(row);
-        if row.deletes.as_slice().is_empty() {
-            text.push(row.atom.bytes())?;
-        }
-        Ok(())
+        text.push(self.row(row).atom.bytes())
     }
 }

@@ -17,7 +17,7 @@ pub struct Tokens {
     pub(crate) list: List,
     // by number, in the order in which they came
     pub(crate) rows: Vec<TreeRow>,
-    // where each of them is, by number too: a walk reads this of each row, and of most no more
+    // where each of them is, by number too: a flatten reads this of each row, and of most no more
     pub(crate) states: Vec<KeptState>,
     pub(crate) arrays: Vec<Array>,
     // how many rows have brackets
@@ -100,14 +100,6 @@ impl Tokens {
         ensures { result ≡ first_name (items_after name self.now.items) }
     {
         self.list.next(name)
-    }
-
-    /// The token that follows a token, as it is found by one who goes from token to token (`List::next_near`).
-    pub fn next_near(&self, name: u32, near: &mut usize) -> Option<u32>
-        requires { IsItem name self.now.items }
-        ensures { result ≡ first_name (items_after name self.now.items) }
-    {
-        self.list.next_near(name, near)
     }
 
     /// The k-th dot of the deletes that named a row.

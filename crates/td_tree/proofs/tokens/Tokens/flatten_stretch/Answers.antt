@@ -1,6 +1,6 @@
 use Rattle.std.proofs.Common.{◌∙◌, ℕ, Option, not, ap, sym, subst}
 use Rattle.td_tree.specs.Stretches.{IsSlotItems}
-use Rattle.td_tree.proofs.FoundRows.{same_end, other_end}
+use Rattle.td_tree.proofs.Lent.{same_end, other_end}
 use Rattle.td_tree.proofs.SlotItems.{some_items, no_items, none_first, no_nodes}
 use Rattle.td_tree.proofs.GivenBack.{in_none, no_first, none_before}
 use Rattle.td_tree.proofs.tokens.Tokens.flatten_stretch.Goals as goal

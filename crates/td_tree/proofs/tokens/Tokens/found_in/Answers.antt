@@ -5,8 +5,8 @@ use Rattle.td_tree.specs.Parts.{Parts, tokens_of}
 use Rattle.td_tree.specs.Stretches.{IsFound}
 use Rattle.td_tree.specs.Walks.{IsStretch}
 use Rattle.td_tree.proofs.Walked.{ended}
-use Rattle.td_tree.proofs.Lent.{Lending, to_end, to_behind, next_ones, are_there, walked_on, fewer_left}
-use Rattle.td_tree.proofs.FoundRows.{found_none, found_more, rows_few, same_end, other_end, item_there, all_done}
+use Rattle.td_tree.proofs.Lent.{Lending, to_end, to_behind, next_ones, are_there, walked_on, fewer_left, same_end, other_end, item_there, all_done}
+use Rattle.td_tree.proofs.FoundRows.{found_none, found_more, rows_few}
 use Rattle.td_tree.proofs.tokens.Tokens.found_in.Goals as goal
 use Rattle.td_tree.proofs.tokens.Tokens.found_in.Goals.{After-items_up_to-items}
 
