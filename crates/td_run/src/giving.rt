@@ -55,7 +55,7 @@ impl<D: Doc> Player<D> {
         ensures { OnOk result (Settles self.old self.new) }
     {
         let before = self.world.sent();
-        let given = self.world.settle(self.alloc)?;
+        let given = self.world.settle()?;
         self.print_events(before)?;
         let line = settle_line(self.alloc, given)?;
         self.print(&line)

@@ -1,10 +1,11 @@
 -- All that a site does not know is given: so many messages are looked at, and the others are still to come.
-use Rattle.std.proofs.Common.{◌≡◌, ◌<◌, ◌≤◌, ◌+◌, ◌++◌, ℕ, zero, suc, List, [], ◌∷◌, length, drop, Some, refl, sym, ap, ◌∙◌, subst, append-nil, append_assoc, arith}
+use Rattle.std.proofs.Common.{◌≡◌, ◌<◌, ◌≤◌, ◌+◌, ◌++◌, ℕ, zero, suc, List, [], ◌∷◌, Bool, true, false, if◌then◌else◌, length, drop, Option, Some, None, refl, sym, ap, ◌∙◌, subst, append-nil, append_assoc, length-append, arith}
 use Rattle.std.specs.List.{slice_get}
+use Rattle.std.specs.Option.{is_some}
 use Rattle.td_op.specs.declared.message.Message.{Message}
 use Rattle.td_replica.specs.declared.given.Given.{Given}
 use Rattle.td_world.specs.World.{WorldValue, Move, size, moved_all}
-use Rattle.td_world.specs.Calls.{wanted_moves, wanted_given, moves_of, given_of, give_all_moves, give_all_given, IsCutShort}
+use Rattle.td_world.specs.Calls.{is_wanted, took, wanted_moves, wanted_answer, wanted_given, moves_of, given_of, give_all_moves, give_all_given, IsCutShort}
 use Rattle.td_world.specs.Parts.{ArePassed}
 use Rattle.td_world.proofs.Cuts.{cut_before}
 use Rattle.td_world.proofs.Going.{IsDoing, doing_more, doing_done, doing_cut, doing_none, doing_size}
@@ -100,3 +101,74 @@ giving_all to k old now given g past =
           (ap (λ (l : List Message). moves_of to l now) none),
       sym (g.told ∙ ap (λ (l : List Message). given ++ given_of to (k + 1) l now) none ∙ append-nil given),
     )
+
+-- ---- what is given at a place
+
+-- the answer is noted with its number
+answer_noted : (to number : ℕ) (m : Message) (w : WorldValue) (given : List (ℕ × Given)) (a : Given)
+    → Some a ≡ wanted_answer to m w → given ++ (number, a) ∷ [] ≡ given ++ wanted_given to number m w
+answer_noted to number m w given a e = at (is_wanted to m w) e
+  where
+    same : (b : Given) → Some a ≡ Some b → a ≡ b
+    same b f = cc
+
+    at : (wanted : Bool) → Some a ≡ (if wanted then Some (took to m w) else None)
+        → given ++ (number, a) ∷ [] ≡ given ++ (if wanted then (number, took to m w) ∷ [] else [])
+    at true f = ap (λ (b : Given). given ++ (number, b) ∷ []) (same (took to m w) f)
+    at false f = absurd (none f)
+      where
+        none : ◌≡◌ {A = Option Given} (Some a) None → ⊥
+        none g = cc
+
+nothing_noted : (to number : ℕ) (m : Message) (w : WorldValue) (given : List (ℕ × Given))
+    → None ≡ wanted_answer to m w → given ≡ given ++ wanted_given to number m w
+nothing_noted to number m w given e = at (is_wanted to m w) e
+  where
+    at : (wanted : Bool) → None ≡ (if wanted then Some (took to m w) else None)
+        → given ≡ given ++ (if wanted then (number, took to m w) ∷ [] else [])
+    at true f = absurd (none f)
+      where
+        none : ◌≡◌ {A = Option Given} None (Some (took to m w)) → ⊥
+        none g = cc
+    at false f = sym (append-nil given)
+
+-- ---- where only how many are given is counted
+
+pub record IsCounting (to k : ℕ) (old now : WorldValue) (count : ℕ) : Type 0 where
+  pub given : List (ℕ × Given)
+  pub giving : IsGiving to k old now given
+  pub long : count ≡ length given
+  pub few : count ≤ k
+
+pub counting_none : (to k : ℕ) (w : WorldValue) → ArePassed to w k → IsCounting to k w w 0
+counting_none to k w p = record { given = []; giving = giving_none to k w p; long = refl; few = omega arith }
+
+module _ (to k : ℕ) (old now new : WorldValue) (count : ℕ) (c : IsCounting to k old now count) (m : Message)
+    (e : slice_get old.sent k ≡ Some m) (is : new ≡ moved_all (wanted_moves to m now) now) where
+  counting_more : (a : Given) → Some a ≡ wanted_answer to m now → IsCounting to (k + 1) old new (count + 1)
+  counting_more a answer =
+      let more : List (ℕ × Given) = c.given ++ (k + 1, a) ∷ [] in
+      let longer : length (c.given ++ (k + 1, a) ∷ []) ≡ length c.given + 1 = length-append c.given ((k + 1, a) ∷ []) in
+      let long : count ≡ length c.given = c.long in
+      let few : count ≤ k = c.few in
+      record {
+        given = more;
+        giving = giving_more to k old now new c.given more c.giving m e is (answer_noted to (k + 1) m now c.given a answer);
+        long = omega (arith, longer, long);
+        few = omega (arith, few);
+      }
+
+  counting_same : None ≡ wanted_answer to m now → IsCounting to (k + 1) old new count
+  counting_same answer =
+      let few : count ≤ k = c.few in
+      record {
+        given = c.given;
+        giving = giving_more to k old now new c.given c.given c.giving m e is (nothing_noted to (k + 1) m now c.given answer);
+        long = c.long;
+        few = omega (arith, few);
+      }
+
+  pub counting_next : (answer : Option Given) → answer ≡ wanted_answer to m now → (more : ℕ)
+      → more ≡ (if is_some answer then count + 1 else count) → IsCounting to (k + 1) old new more
+  counting_next (Some a) h more f = subst (IsCounting to (k + 1) old new) (sym f) (counting_more a h)
+  counting_next None h more f = subst (IsCounting to (k + 1) old new) (sym f) (counting_same h)

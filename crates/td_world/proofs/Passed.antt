@@ -1,17 +1,16 @@
 -- How many messages need not be looked at again.
-use Rattle.std.proofs.Common.{◌≡◌, ◌<◌, ◌≤◌, ◌+◌, ◌-◌, ◌++◌, ℕ, zero, suc, List, [], ◌∷◌, Bool, true, false, not, ◌&&◌, ◌==◌, ◌≢◌, ⊎_elim, if◌then◌else◌, nat_eq, length, set, get_or, drop, Some, refl, sym, ap, ◌∙◌, subst, true≢false, arith}
+use Rattle.std.proofs.Common.{◌≡◌, ◌<◌, ◌≤◌, ◌+◌, ◌-◌, ◌++◌, ℕ, zero, suc, List, [], ◌∷◌, Bool, true, false, not, ◌&&◌, ◌==◌, ◌≢◌, ⊎_elim, if◌then◌else◌, nat_eq, length, set, get_or, drop, Some, None, refl, sym, ap, ◌∙◌, subst, true≢false, arith}
 use Rattle.std.proofs.lemmas.Bool.{eqb-true, eqb-false, and_from}
 use Rattle.std.proofs.lemmas.Bool.Decides.{eqb_tells}
-use Rattle.std.proofs.lemmas.List.{length-set, append-nil}
+use Rattle.std.proofs.lemmas.List.{length-set}
 use Rattle.std.specs.List.{slice_get}
 use Rattle.td_op.specs.declared.message.Message.{Message}
 use Rattle.td_op.specs.declared.message.Message.TheVariants.{Op, Vote}
 use Rattle.td_machine.specs.History.{sender}
-use Rattle.td_replica.specs.declared.given.Given.{Given}
 use Rattle.td_replica.specs.Replica.{ReplicaValue}
 use Rattle.td_world.specs.declared.post.Post.{Post}
 use Rattle.td_world.specs.World.{WorldValue, machine_of, moved_all, is_for}
-use Rattle.td_world.specs.Calls.{is_known, is_wanted, give_moves, took, wanted_moves, wanted_given, moves_of, given_of}
+use Rattle.td_world.specs.Calls.{is_known, is_wanted, give_moves, took, wanted_moves, wanted_answer, moves_of, given_of}
 use Rattle.td_world.specs.Parts.{IsPassed, ArePassed, IsWorldParts, world_value}
 use Rattle.td_world.proofs.Kept.{get_found, same_some, set_there, set_value}
 
@@ -125,11 +124,10 @@ own_moves site m w own =
     let off : is_wanted site m w ≡ false = not_wanted site m w (λ to. absurd (true≢false (sym to ∙ own_is_not_for site m own))) in
     rw off refl
 
-pub own_given : (site number : ℕ) (m : Message) (w : WorldValue) (given : List (ℕ × Given)) → sender m ≡ site
-    → given ≡ given ++ wanted_given site number m w
-own_given site number m w given own =
+pub own_answer : (site : ℕ) (m : Message) (w : WorldValue) → sender m ≡ site → None ≡ wanted_answer site m w
+own_answer site m w own =
     let off : is_wanted site m w ≡ false = not_wanted site m w (λ to. absurd (true≢false (sym to ∙ own_is_not_for site m own))) in
-    rw off (sym (append-nil given))
+    rw off refl
 
 -- the moves for messages of which some need not be looked at
 module _ (site : ℕ) (w : WorldValue) where

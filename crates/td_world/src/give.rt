@@ -147,8 +147,24 @@ impl<D: Doc> World<D> {
         Ok(waiting)
     }
 
-    // Gives the message at the place, where it is wanted, and notes that with its number. One that the site sent itself
-    // is not looked at.
+    // Gives a site each message that `give_all` gives it, and answers how many these are.
+    pub(crate) fn give_each(&mut self, to: Site) -> Result<u64, Memory>
+        requires { to ≤ size self.old }
+        ensures count { IfOk result (λ count. count ≡ length (give_all_given to self.old)) }
+        ensures ok { OnOk result (self.new ≡ moved_all (give_all_moves to self.old) self.old) }
+        ensures err { OnErr result (IsCutShort (give_all_moves to self.old) self.old self.new) }
+        ensures world { IsWorld self.new }
+    {
+        let mut count = 0;
+        for k in self.passed_by(to)..self.posts.len() {
+            if self.give_at(to, k)?.is_some() {
+                count += 1;
+            }
+        }
+        Ok(count)
+    }
+
+    // Gives the message at the place, where it is wanted, and notes that with its number.
     fn note_given(
         &mut self,
         to: Site,
@@ -167,19 +183,35 @@ impl<D: Doc> World<D> {
             → IsCutShort (wanted_moves to m self.old) self.old self.new) }
         ensures world { IsWorld self.new }
     {
-        if self.is_from(to, k) {
-            self.pass_over(to, k);
-            return Ok(());
-        }
-        let sent = self.at(k);
-        let Some(message) = &sent else {
-            return Ok(());
-        };
         given.reserve(1)?;
-        if let Some(took) = self.offer_at(to, k, message)? {
+        if let Some(took) = self.give_at(to, k)? {
             given.push_reserved((k as u64 + 1, took));
         }
         Ok(())
+    }
+
+    // Gives the message at the place, where it is wanted. One that the site sent itself is not looked at.
+    fn give_at(&mut self, to: Site, k: usize) -> Result<Option<Given>, Memory>
+        requires within { to ≤ size self.old }
+        requires sent { k < length self.old.sent }
+        requires world { IsWorld self.old }
+        ensures given { IfOk result (λ given. (m : Message) → slice_get self.old.sent k ≡ Some m
+            → given ≡ wanted_answer to m self.old) }
+        ensures ok { OnOk result ((m : Message) → slice_get self.old.sent k ≡ Some m
+            → self.new ≡ moved_all (wanted_moves to m self.old) self.old) }
+        ensures err { OnErr result ((m : Message) → slice_get self.old.sent k ≡ Some m
+            → IsCutShort (wanted_moves to m self.old) self.old self.new) }
+        ensures world { IsWorld self.new }
+    {
+        if self.is_from(to, k) {
+            self.pass_over(to, k);
+            return Ok(None);
+        }
+        let sent = self.at(k);
+        match &sent {
+            Some(message) => self.offer_at(to, k, message),
+            None => Ok(None),
+        }
     }
 
     // Gives the message at the place, where it is wanted. Where all before it need not be looked at again, and it

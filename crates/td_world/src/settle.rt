@@ -6,14 +6,13 @@ ghost use Rattle.td_world.specs.Promises.{NobodyReady, SameVectors, AllDecided, 
 
 use crate::sites::site_at;
 use crate::world::World;
-use std::alloc::Global;
 use td_base::Memory;
 use td_doc::Doc;
 
 impl<D: Doc> World<D> {
     /// Gives each site all that it does not know, again and again, until there is nothing more to give; how many
     /// messages were given is answered. `Memory` also where these, or the passes, would be more than `u64::MAX`.
-    pub fn settle(&mut self, alloc: Global) -> Result<u64, Memory>
+    pub fn settle(&mut self) -> Result<u64, Memory>
         ensures given { IfOk result (λ given. IsSettled self.old self.new given) }
         ensures vectors { OnOk result (NobodyReady self.old → SameVectors self.new) }
         ensures decided { OnOk result (NobodyReady self.old → AllDecided self.new) }
@@ -25,7 +24,7 @@ impl<D: Doc> World<D> {
         let sites = self.size();
         let mut given = 0;
         for _ in 0..u64::MAX {
-            let more = self.pass(alloc, sites)?;
+            let more = self.pass(sites)?;
             let still = more == 0;
             if still {
                 return Ok(given);
@@ -36,7 +35,7 @@ impl<D: Doc> World<D> {
     }
 
     // Gives each of so many sites all that it does not know, once.
-    fn pass(&mut self, alloc: Global, sites: u8) -> Result<u64, Memory>
+    fn pass(&mut self, sites: u8) -> Result<u64, Memory>
         requires all { sites ≡ size self.old }
         requires few { sites ≤ MAX_SITE }
         requires world { IsWorld self.old }
@@ -47,8 +46,8 @@ impl<D: Doc> World<D> {
     {
         let mut count = 0;
         for place in 0..sites {
-            let given = self.give_all(alloc, site_at(place))?;
-            count = sum(count, given.len() as u64)?;
+            let given = self.give_each(site_at(place))?;
+            count = sum(count, given)?;
         }
         Ok(count)
     }

@@ -117,7 +117,7 @@ fn tell(rt: &impl Abort, alloc: Global, world: &mut World<Rows>, what: Do) -> Re
             let to = site_in(rt, world, to)?;
             Ok(Told::Gave(world.give_all(alloc, to)?.len() as u64))
         }
-        _ => Ok(Told::Gave(world.settle(alloc)?)),
+        _ => Ok(Told::Gave(world.settle()?)),
     }
 }
 
