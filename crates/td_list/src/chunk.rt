@@ -4,7 +4,7 @@ ghost use Rattle.td_list.specs.Items.{IsItem, AreApart, place_of, has_mark, weig
 ghost use Rattle.td_list.specs.Index.{summary};
 ghost use Rattle.td_list.specs.Places.{nothing};
 
-use crate::edit::{lay_over, put_each, take_out};
+use crate::edit::{lay_over, put_in, take_out};
 use crate::item::Item;
 use crate::scan::{has_mark, place_from, place_of, weight_of};
 use std::alloc::Global;
@@ -89,20 +89,6 @@ impl Chunk {
         }
     }
 
-    /// The place of an item. It is looked for at one place first.
-    pub fn place_near(&self, name: u32, near: usize) -> usize
-        requires there { IsItem name self.now }
-        requires apart { AreApart self.now }
-        ensures value { result ≡ place_of name self.now }
-        ensures bound { result < length self.now }
-        ensures few { result < usize.MAX }
-    {
-        if near < self.items.len() && self.items[near].name == name {
-            return near;
-        }
-        self.place_of(name)
-    }
-
     /// The weight of the items before a place, by these or by the others, whichever are fewer.
     pub fn weight_to(&self, place: usize) -> u32
         requires place { place ≤ length self.now }
@@ -117,21 +103,27 @@ impl Chunk {
     }
 
     // Puts a piece at a place.
-    fn put(&mut self, place: usize, piece: &[Item]) -> Result<(), Memory>
+    fn put(&mut self, place: usize, piece: &[Item], aside: &mut Vec<Item>) -> Result<(), Memory>
         requires place { place ≤ length self.old }
         requires light { weight_of self.old + weight_of piece.now < 2 ^ 32 }
         ensures ok { OnOk result (self.new ≡ take place self.old ++ piece.now ++ drop place self.old) }
         ensures err { OnErr result (self.new ≡ self.old) }
     {
-        self.items.reserve(piece.len())?;
-        put_each(&mut self.items, place, piece);
+        put_in(&mut self.items, place, piece, aside)?;
         self.weight += weight_of(piece);
         self.marked = is_marked_with(self.marked, piece);
         Ok(())
     }
 
-    /// Puts a piece in place of the items from a place up to another.
-    pub fn splice(&mut self, from: usize, to: usize, piece: &[Item]) -> Result<(), Memory>
+    /// Puts a piece in place of the items from a place up to another. In the other list lies meanwhile what stands
+    /// behind them.
+    pub fn splice(
+        &mut self,
+        from: usize,
+        to: usize,
+        piece: &[Item],
+        aside: &mut Vec<Item>,
+    ) -> Result<(), Memory>
         requires from { from ≤ to }
         requires to { to ≤ length self.old }
         requires light { weight_of self.old + weight_of piece.now < 2 ^ 32 }
@@ -139,11 +131,11 @@ impl Chunk {
         ensures err { OnErr result (self.new ≡ self.old) }
     {
         if piece.len() < to - from {
-            self.put(to, piece)?;
+            self.put(to, piece, aside)?;
             self.cut(from, to);
         } else {
             let (over, more) = piece.split_at(to - from);
-            self.put(to, more)?;
+            self.put(to, more, aside)?;
             if from < to {
                 self.lay(from, to, over);
             }

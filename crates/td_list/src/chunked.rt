@@ -181,31 +181,6 @@ impl<S: Sequence> Chunked<S> {
             .splice(seat.chunk, seat.place, seat.place + 1, piece)
     }
 
-    /// The item that follows an item. Who goes from item to item keeps `near`, the place of the item in its chunk: the
-    /// item is looked for there first, and `near` is the place of the next one then. Any other place serves too.
-    pub fn next_near(&self, name: u32, near: &mut usize) -> Option<u32>
-        requires { IsItem name self.now }
-        ensures { result ≡ first_name (items_after name self.now) }
-    {
-        let seat = self.index.seat_near(name, *near);
-        let items = self.index.items_of(seat.chunk);
-        if seat.place + 1 < items.len() {
-            *near = seat.place + 1;
-            return Some(items[seat.place + 1].name);
-        }
-        *near = 0;
-        self.index.head_after(seat.chunk)
-    }
-
-    /// The item with a name, which is looked for at a place of its chunk first.
-    pub fn get_near(&self, name: u32, near: usize) -> Item
-        requires { IsItem name self.now }
-        ensures { items_from name self.now ≡ result ∷ items_after name self.now }
-    {
-        let seat = self.index.seat_near(name, near);
-        self.index.items_of(seat.chunk)[seat.place]
-    }
-
     /// The items from one on that stand together with it, and the item behind them. Who goes over many items takes
     /// them so: within what is lent, nothing is looked for.
     pub fn lend_from(&self, name: u32) -> (&[Item], Option<u32>)

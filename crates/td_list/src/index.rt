@@ -24,6 +24,8 @@ pub struct Index<S: Sequence> {
     pub(crate) homes: Vec<u32>,
     // numbers for new chunks
     pub(crate) free: Vec<u32>,
+    // where items lie while others are put before them; nothing rests on it
+    aside: Vec<Item>,
     pub(crate) alloc: Global,
 }
 
@@ -59,6 +61,7 @@ impl<S: Sequence> Index<S> {
             order: S::empty(alloc)?,
             homes: Vec::new(alloc),
             free: Vec::new(alloc),
+            aside: Vec::new(alloc),
             alloc,
         })
     }
@@ -124,22 +127,6 @@ impl<S: Sequence> Index<S> {
         Seat { chunk, place }
     }
 
-    /// Where an item is. In its chunk it is looked for at one place first.
-    pub fn seat_near(&self, name: u32, near: usize) -> Seat
-        requires index { IsIndex self.now }
-        requires there { IsItem name (all_items self.now) }
-        ensures chunk { IsItem result.chunk self.now.order }
-        ensures within { result.chunk < length self.now.chunks }
-        ensures there { IsItem name (chunk_at self.now.chunks result.chunk) }
-        ensures place { result.place ≡ place_of name (chunk_at self.now.chunks result.chunk) }
-        ensures bound { result.place < length (chunk_at self.now.chunks result.chunk) }
-        ensures few { result.place < usize.MAX }
-    {
-        let chunk = self.homes[name as usize];
-        let place = self.numbered(chunk).place_near(name, near);
-        Seat { chunk, place }
-    }
-
     /// Where an item is, in a chunk that has room for more: one that is full is parted.
     pub fn seat_with_room(&mut self, name: u32) -> Result<Seat, Memory>
         requires index { IsIndex self.old }
@@ -186,7 +173,7 @@ impl<S: Sequence> Index<S> {
     {
         let told = self.numbered(chunk).summary(chunk);
         grow(&mut self.homes, piece)?;
-        self.chunks[chunk as usize].splice(from, to, piece)?;
+        self.chunks[chunk as usize].splice(from, to, piece, &mut self.aside)?;
         settle(&mut self.homes, piece, chunk);
         let now = self.chunks[chunk as usize].summary(chunk);
         tell(&mut self.order, told, now);
@@ -240,7 +227,7 @@ impl<S: Sequence> Index<S> {
         ensures { IfOk result (λ new. new ≡ take place (chunk_at self.now.chunks chunk) ++ piece.now) }
     {
         let mut new = Chunk::of(self.alloc, &self.items_of(chunk)[..place])?;
-        new.splice(place, place, piece)?;
+        new.splice(place, place, piece, &mut Vec::new(self.alloc))?;
         Ok(new)
     }
 

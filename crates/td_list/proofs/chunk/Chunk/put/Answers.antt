@@ -1,5 +1,4 @@
-use Rattle.std.proofs.Common.{◌++◌, ◌∙◌, List, take, drop, ap, sym, arith, ◌||◌, Bool}
-use Rattle.td_list.specs.declared.item.Item.{Item}
+use Rattle.std.proofs.Common.{◌∙◌, ap, sym, arith, ◌||◌, Bool}
 use Rattle.td_list.specs.Items.{weight_of, has_mark}
 use Rattle.td_list.proofs.Weights.{weight-put}
 use Rattle.td_list.proofs.Marks.{mark-put}
@@ -9,7 +8,7 @@ pub invariant_of-self-2 : goal.invariant_of-self-2
 invariant_of-self-2 c =
     let piece = c.args.piece.now in
     let items = c.self.inside.items.items in
-    let now = c.put_each.ensures ∙ ap (λ (q : List Item). take c.args.place q ++ piece ++ drop c.args.place q) c.reserve.ensures.items in
+    let now = c.in_ok-put_in.ensures.ok in
     let put = ap weight_of now in
     let whole = weight-put c.args.place items piece in (
       omega (arith, c.weight_of.ensures, c.self.invariant.0),
