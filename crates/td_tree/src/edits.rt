@@ -55,13 +55,13 @@ impl Tree {
     }
 
     /// Puts a new row at its place.
-    pub(crate) fn put(&mut self, at: Option<u32>, id: AtomId, atom: Atom) -> Result<(), Memory>
+    pub(crate) fn put(&mut self, at: Option<u32>, id: AtomId, atom: &Atom) -> Result<(), Memory>
         requires new { IsNone (find_row id (doc_rows self.old)) }
         requires place { (slot : Slot) × IsNewPlace self.old slot id at
             × IsTrue (is_rooted (doc_rows self.old) slot) }
         ensures ok { OnOk result ((slot : Slot) → IsNewPlace self.old slot id at
             → IsTrue (is_rooted (doc_rows self.old) slot)
-            → doc_rows self.new ≡ insert_atom slot id atom (doc_rows self.old)) }
+            → doc_rows self.new ≡ insert_atom slot id atom.now (doc_rows self.old)) }
         ensures nodes { OnOk result (nodes_of (tokens self.new) ≡ nodes_of (tokens self.old) + 1) }
         ensures err { OnErr result (self.new ≡ self.old) }
     {

@@ -26,11 +26,11 @@ use td_list::{Item, List, Sequence};
 
 impl Tokens {
     /// Puts a new row in brackets of its own before a token, or at the end.
-    pub fn put_row(&mut self, at: Option<u32>, id: AtomId, atom: Atom) -> Result<(), Memory>
+    pub fn put_row(&mut self, at: Option<u32>, id: AtomId, atom: &Atom) -> Result<(), Memory>
         requires tree { IsTree self.old }
         requires new { IsNone (find_row id (doc_rows self.old)) }
         requires place { (slot : Slot) × IsNewPlace self.old slot id at }
-        ensures ok { OnOk result (IsPut self.old self.new at id atom) }
+        ensures ok { OnOk result (IsPut self.old self.new at id atom.now) }
         ensures err { OnErr result (self.new ≡ self.old) }
     {
         make_room(&mut self.rows, &mut self.states, 1)?;
@@ -125,7 +125,7 @@ fn rows_of_run(alloc: Global, dot: Dot, run: &Run) -> Result<Vec<TreeRow>, Memor
             dot,
             offset: offset as u8,
         };
-        let atom = KeptAtom::of(alloc, atom)?;
+        let atom = KeptAtom::of(alloc, &atom)?;
         push_row(&mut rows, id, atom);
     }
     Ok(rows)

@@ -34,12 +34,12 @@ impl Model for KeptAtom {
 
 impl KeptAtom {
     /// The atom, kept. Only a long one takes memory.
-    pub fn of(alloc: Global, atom: Atom) -> Result<KeptAtom, Memory>
-        ensures { IfOk result (λ kept. kept ≡ atom) }
+    pub fn of(alloc: Global, atom: &Atom) -> Result<KeptAtom, Memory>
+        ensures { IfOk result (λ kept. kept ≡ atom.now) }
     {
         let len = atom.bytes().len();
         if len > SHORT {
-            let kept = Kept::Long(Box::new(alloc, atom)?);
+            let kept = Kept::Long(Box::new(alloc, *atom)?);
             return Ok(KeptAtom { kept });
         }
         let mut bytes = [0; SHORT];

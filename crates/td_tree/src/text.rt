@@ -53,8 +53,8 @@ impl Tokens {
         Ok(())
     }
 
-    // Adds what a token shows. What weighs nothing shows nothing: it is a bracket or a tombstone. What weighs as much as
-    // a row is the row that names it, and what weighs more is a leaf.
+    // Adds what a token shows. What weighs nothing shows nothing: it is a bracket or a tombstone. What weighs one is
+    // the row that names it, and what weighs more is a leaf.
     fn push_item(&self, item: Item, text: &mut Bytes) -> Result<(), Memory>
         requires tree { IsTree self.now }
         requires there { In item self.now.items }

@@ -71,7 +71,7 @@ impl Doc for Tree {
         ensures nodes { AddsFewIn self.old self.new slot 1 }
     {
         let at = self.place_in(slot, id)?;
-        self.put(at, id, atom)?;
+        self.put(at, id, &atom)?;
         Ok(())
     }
 

@@ -67,7 +67,7 @@ returns-clause-ok c =
     let k = piece (goal.at.returns-clause-ok c).After-close_item in
     let p : Parts = c.args.self.now in
     let items : c.put.new.list ≡ put_at c.args.at (node_items (length p.rows) [] []) p.items = c.in_ok-put.ensures.ok ∙ (λ i. put_at c.args.at (sym k.items i) (sym k.list i)) in
-    let entry : Entry = record { id = c.args.id; atom = c.args.atom; deletes = [] } in
+    let entry : Entry = record { id = c.args.id; atom = c.args.atom.now; deletes = [] } in
     let entries : c.push_row.new.rows.items ≡ c.self.inside.rows.items ++ entry ∷ [] =
     c.push_row.ensures.row ∙ (λ i. c.make_room.ensures.rows i ++ record { id = c.args.id; atom = c.in_ok-atom.ensures i; deletes = [] } ∷ []) in
     let states : c.push_state.new.states.items ≡ c.self.inside.states.items ++ Node ∷ [] = c.push_state.ensures.state ∙ ap (λ (xs : List RowState). xs ++ Node ∷ []) c.make_room.ensures.states in
@@ -77,6 +77,6 @@ returns-clause-ok c =
     let few = c.in_ok-make_room.ensures.few in
     let long = rows_long c.self.inside.rows.items c.self.inside.states.items c.self.invariant in
     let was = ap (λ (q : Parts). length q.rows) c.self.view_is in
-    subst (λ (q : Parts). IsPut p q c.args.at c.args.id c.args.atom)
+    subst (λ (q : Parts). IsPut p q c.args.at c.args.id c.args.atom.now)
     (λ i. record { items = sym items i; rows = sym rows i; arrays = (sym c.self.view_is i).arrays; nodes = (sym c.self.view_is i).nodes + 1; count = (sym c.self.view_is i).count + 1 })
-    (is_put p c.requires.tree c.args.at c.args.id c.args.atom c.requires.new (omega arith))
+    (is_put p c.requires.tree c.args.at c.args.id c.args.atom.now c.requires.new (omega arith))

@@ -41,14 +41,14 @@ invariant_of-self-2 c =
     let put = c.in_ok-put_row.ensures.ok in
     let now : Parts = c.put_row.new.self in
     let tree : IsTree now = (put.there place.0 place.1 place.2).0 in (
-      put_whole p c.put_row.new.self c.make_room.new.self c.put.new.self c.self.inside.seen c.add.new.self c.args.id c.args.atom w none put.rows (put.there place.0 place.1 place.2).0
+      put_whole p c.put_row.new.self c.make_room.new.self c.put.new.self c.self.inside.seen c.add.new.self c.args.id c.args.atom.now w none put.rows (put.there place.0 place.1 place.2).0
           (λ x. c.put.ensures x ∙ ap (λ (n : ℕ). with_run c.args.id (record { first = n; count = 1 }) x (number_of c.make_room.new.self x)) c.next_row-row.ensures.number)
           c.add.ensures.kept
           (subst (λ (y : AtomIdValue). IsTrue (vector_has c.add.new.self y.dot)) c.id-2.view_is c.add.ensures.added),
-      put_last p now c.args.id c.args.atom c.next_row-row.result c.next_row-row.ensures.number put.rows tree c.make_room.new.self c.put.new.self c.put.ensures c.index_at-index.result
+      put_last p now c.args.id c.args.atom.now c.next_row-row.result c.next_row-row.ensures.number put.rows tree c.make_room.new.self c.put.new.self c.put.ensures c.index_at-index.result
           (index_as c.index_at-index.result (weight_of (items_up_to c.args.at c.args.self.now.items)) (live_before (table now c.next_row-row.result).id (doc_rows now))
           (ap (λ (q : Parts). weight_of (items_up_to c.args.at q.items)) (sym c.self.view_is)
-          ∙ index_of_put p now w.tree tree place.0 c.args.id c.args.atom c.args.at place.1.place put.rows put.items
+          ∙ index_of_put p now w.tree tree place.0 c.args.id c.args.atom.now c.args.at place.1.place put.rows put.items
           ∙ ap (λ (n : ℕ). live_before (table now n).id (doc_rows now)) (sym c.next_row-row.ensures.number))
           c.index_at-index.ensures),
     )
