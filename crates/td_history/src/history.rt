@@ -266,8 +266,5 @@ fn compact_at(sent: &[CompactMessage], i: u64) -> Option<CompactMessage>
 fn whole_message(log: &Log, message: Option<CompactMessage>) -> Option<Message>
     ensures { result ≡ option_and_then (message_of log.now.ops) message }
 {
-    match message {
-        Some(message) => message.message(log),
-        None => None,
-    }
+    message?.message(log)
 }

@@ -18,9 +18,10 @@ impl CompactMessage {
     pub fn message(&self, log: &Log) -> Option<Message>
         ensures { result ≡ message_of log.now.ops self.now }
     {
-        match *self {
-            CompactMessage::Op { number } => Some(Message::Op(log.op(number)?)),
-            CompactMessage::Vote { vote } => Some(Message::Vote(vote.vote())),
-        }
+        let number = match *self {
+            CompactMessage::Op { number } => number,
+            CompactMessage::Vote { vote } => return Some(Message::Vote(vote.vote())),
+        };
+        Some(Message::Op(log.op(number)?))
     }
 }

@@ -103,10 +103,7 @@ impl<D: Doc> World<D> {
     pub(crate) fn at(&self, k: usize) -> Option<Message>
         ensures { result ≡ slice_get self.now.sent k }
     {
-        match self.posts.get(k) {
-            Some(post) => message_of(&self.replicas, post),
-            None => None,
-        }
+        message_of(&self.replicas, self.posts.get(k)?)
     }
 
     // Whether the site sent the message at a place from 0.
@@ -157,10 +154,7 @@ fn message_of<D: Doc>(replicas: &[Replica<D>], post: &Post) -> Option<Message>
     ensures message { result ≡ posted replicas.now post.now }
     ensures some { 1 ≤ post.now.site }
 {
-    match replicas.get(place_of(post.site)) {
-        Some(replica) => replica.sent_at(post.number),
-        None => None,
-    }
+    replicas.get(place_of(post.site))?.sent_at(post.number)
 }
 
 // The site that sent the message.
