@@ -1,4 +1,4 @@
-// What waits, in little room.
+// What waits, each in a place of its own.
 ghost use Rattle.std.specs.Prelude.{◌≡◌, IfOk};
 
 use crate::waiting::Waiting;
@@ -6,8 +6,7 @@ use std::alloc::Global;
 use std::marker::Model;
 use td_base::Memory;
 
-/// One that waits, in a place of its own: what keeps many of them moves no more than where each is. Contracts see what
-/// waits.
+/// One that waits. Who keeps many of them moves no more than where each is. Contracts see what waits.
 #[derive(Debug, Drop)]
 pub struct KeptWaiting {
     kept: Box<Waiting>,
