@@ -15,7 +15,7 @@ use Rattle.td_tree.specs.Parts.{Parts, table, doc_rows, IsTree}
 use Rattle.td_tree.specs.Reading.{shown_at, shown, side_start, side_end}
 use Rattle.td_tree.specs.Walks.{IsStretch}
 use Rattle.td_tree.proofs.Shown.{shown-append, shown_more, entries}
-use Rattle.td_tree.proofs.RowsFound.{filter_true}
+use Rattle.td_doc.proofs.RootRows.{all_in_root}
 use Rattle.td_tree.proofs.SideItems.{SideItems, after_is_at}
 
 pub all-append : (test : ℕ → Bool) (xs ys : List ℕ) → list_all test (xs ++ ys) ≡ (list_all test xs && list_all test ys)
@@ -78,4 +78,4 @@ side_stretch p t x bit s first e = record {
 
 -- the root has all rows
 pub known_root : (p : Parts) (t : IsTree p) (v : List ℕ) → list_all (λ (r : ℕ). is_known_entry v (table p r)) (shown p p.items) ≡ is_known (doc_rows p) Root v
-known_root p t v = known_numbers p v Root (shown p p.items) (ap (map entry_of) (filter_true (doc_rows p)) ∙ entries p t)
+known_root p t v = known_numbers p v Root (shown p p.items) (ap (map entry_of) (all_in_root (doc_rows p)) ∙ entries p t)

@@ -1,5 +1,5 @@
 -- Rows by their identities.
-use Rattle.std.proofs.Common.{◌≡◌, ◌≢◌, ◌<◌, ℕ, List, [], ◌∷◌, Bool, true, false, ◌&&◌, map, filter, length, nat_eq, is_some, Option, Some, None, refl, sym, ap, ◌∙◌, subst, ⊎_elim, arith}
+use Rattle.std.proofs.Common.{◌≡◌, ◌≢◌, ◌<◌, ℕ, List, [], ◌∷◌, Bool, true, false, ◌&&◌, map, length, nat_eq, is_some, Option, Some, None, refl, sym, ap, ◌∙◌, subst, ⊎_elim, arith}
 use Rattle.std.proofs.lemmas.Bool.{eq-eqb}
 use Rattle.std.proofs.lemmas.Bool.Decides.{nat_tests}
 use Rattle.std.specs.Option.{option_map, option_and_then}
@@ -16,6 +16,7 @@ use Rattle.td_path.specs.declared.slot.Slot.TheVariants.{Root, At}
 use Rattle.td_path.specs.declared.slot_path.SlotPath.{SlotPath}
 use Rattle.td_path.specs.declared.slot_path.SlotPath.TheVariants.{Below}
 use Rattle.td_path.specs.SlotPaths.{slot_contains}
+use Rattle.td_doc.proofs.RootRows.{all_in_root, within_root}
 use Rattle.td_doc.specs.Document.{DocRow, has_id, find_row, is_empty_list}
 use Rattle.td_doc.specs.Slots.{slot_path, rows_below, rows_in_slot, is_empty_slot, is_within, is_known, is_known_row}
 use Rattle.td_doc.specs.Deletion.{delete_at}
@@ -81,15 +82,11 @@ not_within rows x slot e = sym (ap is_some (none_below x rows (slot_path rows sl
 pub in_gone_slot : (rows : List DocRow) (x y : AtomIdValue) (bit : Bit) → find_row y rows ≡ None → false ≡ is_within rows x (At y bit)
 in_gone_slot rows x y bit e = sym (ap (λ (q : List DocRow). is_some (find_row x q)) (gone_slot rows y bit e))
 
-pub filter_true : (rows : List DocRow) → filter (λ (r : DocRow). true) rows ≡ rows
-filter_true [] = refl
-filter_true (r ∷ rows) = ap (λ (q : List DocRow). r ∷ q) (filter_true rows)
-
 pub in_root : (rows : List DocRow) (x : AtomIdValue) (r : DocRow) → find_row x rows ≡ Some r → true ≡ is_within rows x Root
-in_root rows x r e = sym (ap (λ (q : List DocRow). is_some (find_row x q)) (filter_true rows) ∙ ap is_some e)
+in_root rows x r e = sym (within_root rows x ∙ ap is_some e)
 
 pub root_empty : (rows : List DocRow) (n : ℕ) → n ≡ length rows → nat_eq n 0 ≡ is_empty_slot rows Root
-root_empty rows n e = by_length rows n e ∙ ap is_empty_list (sym (filter_true rows))
+root_empty rows n e = by_length rows n e ∙ ap is_empty_list (sym (all_in_root rows))
   where
     by_length : (rows : List DocRow) (n : ℕ) → n ≡ length rows → nat_eq n 0 ≡ is_empty_list rows
     by_length [] n e = eq-eqb n 0 e
