@@ -13,3 +13,4 @@ pub mod Seats
 pub mod Found
 pub mod Dropping
 pub mod Reached
+pub mod Reweighed

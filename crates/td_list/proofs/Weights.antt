@@ -2,9 +2,10 @@
 use Rattle.std.proofs.Common.{◌≡◌, ◌+◌, ◌<◌, ◌≤◌, ℕ, zero, suc, List, [], ◌∷◌, ◌++◌, length, take, drop, get_or, set, ◌-◌, refl, ap, ◌∙◌, arith}
 use Rattle.std.proofs.lemmas.List.{drop-drop}
 use Rattle.td_list.specs.declared.item.Item.{Item}
-use Rattle.td_list.specs.Items.{weight_of}
+use Rattle.td_list.specs.Items.{items_before, items_from, weight_of}
 use Rattle.td_list.specs.Places.{nothing}
 use Rattle.td_list.proofs.Names.{weight-append, weight-parts}
+use Rattle.td_list.proofs.Parted.{parts}
 
 pub weight-put : (place : ℕ) (items piece : List Item) → weight_of (take place items ++ piece ++ drop place items) ≡ weight_of items + weight_of piece
 weight-put place items piece =
@@ -58,4 +59,11 @@ weight-lay from to items over h =
     let front = weight-append (take from items) over in
     let ends = weight-append (take from items) (drop to items) in
     let parts = weight-cut from to items h in
+    omega arith
+
+-- the weight before an item is not more than the whole
+pub weight-before : (x : ℕ) (items : List Item) → weight_of (items_before x items) ≤ weight_of items
+weight-before x items =
+    let w = weight-append (items_before x items) (items_from x items) in
+    let e = ap weight_of (parts x items) in
     omega arith

@@ -1,3 +1,4 @@
 pub mod Items
 pub mod Index
 pub mod Places
+pub mod Deferred

@@ -4,6 +4,7 @@ ghost use Rattle.td_list.specs.declared.item.Item.{Item};
 ghost use Rattle.td_list.specs.Items.{IsItem, AreApart, AreNew, items_before, items_from, items_after, items_from_end, put_before, replace, without, renew, place_of, first_name, last_name, first_marked, share_at, weight_of};
 ghost use Rattle.td_list.specs.Index.{all_items, chunk_at, chunks_before, chunks_after, IsIndex};
 
+use crate::deferred::Deferred;
 use crate::index::{FULL, Index};
 use crate::item::{Item, Share};
 use crate::line::Line;
@@ -15,7 +16,8 @@ use td_base::Memory;
 
 /// The list for millions of items: its chunks stand in chunks, which stand in chunks. A call scans a chunk of each
 /// kind, of at most some tens of items, and one line of which each place stands for some tens of thousands of items.
-pub type List = Chunked<Chunked<Chunked<Line>>>;
+/// Who types changes one chunk of items again and again: its weight is told to the chunks above once another changes.
+pub type List = Chunked<Deferred<Chunked<Chunked<Line>>>>;
 
 /// A list in chunks, whose order is a list of another kind.
 #[derive(Drop)]

@@ -3,12 +3,14 @@
 //!
 //! A list puts pieces before a named item, replaces a stretch between two items, tells which of two items stands
 //! first, and finds an item by its weight or the weight before an item, each in a few scans of a chunk. The chunks
-//! stand in an order that is again such a list. Begin at `sequence`, which says what a list answers, and at
-//! `specs/Items.antt`, which says it in terms of one plain list of items.
+//! stand in an order that is again such a list; the order of the chunks of items is told the weight of a chunk that
+//! changes again and again once another changes (`deferred`). Begin at `sequence`, which says what a list answers, and
+//! at `specs/Items.antt`, which says it in terms of one plain list of items.
 #![tactic(auto)]
 
 mod chunk;
 mod chunked;
+mod deferred;
 mod edit;
 mod homes;
 mod index;
@@ -20,6 +22,7 @@ mod scan;
 mod sequence;
 
 pub use chunked::{Chunked, List};
+pub use deferred::Deferred;
 pub use edit::put_each;
 pub use item::{Item, Share};
 pub use line::Line;

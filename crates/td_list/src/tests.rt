@@ -1,6 +1,7 @@
-ghost use Rattle.std.specs.Prelude.{◌≡◌};
+ghost use Rattle.std.specs.Prelude.{◌≡◌, ◌<◌, ◌∷◌, [], true, false, IfOk};
 
 use crate::chunked::{Chunked, List};
+use crate::deferred::Deferred;
 use crate::item::{Item, Share};
 use crate::line::Line;
 use crate::sequence::Sequence;
@@ -24,6 +25,13 @@ fn a_list_in_chunks_answers(rt: HostRuntime) -> Result<(), Memory> {
 #[test]
 fn a_list_in_chunks_in_chunks_answers(rt: HostRuntime) -> Result<(), Memory> {
     let told = tell::<List>(rt.alloc())?;
+    assert_eq!(rt; told, expected());
+    Ok(())
+}
+
+#[test]
+fn a_list_that_is_told_later_answers(rt: HostRuntime) -> Result<(), Memory> {
+    let told = tell::<Deferred<Line>>(rt.alloc())?;
     assert_eq!(rt; told, expected());
     Ok(())
 }
@@ -81,8 +89,12 @@ fn tell<S: Sequence>(alloc: Global) -> Result<Told, Memory> {
 
 #[test]
 fn items_are_taken_out_and_renewed(rt: HostRuntime) -> Result<(), Memory> {
-    let lengths = [edit::<Line>(rt.alloc())?, edit::<List>(rt.alloc())?];
-    assert_eq!(rt; lengths, [12, 12]);
+    let weights = [
+        edit::<Line>(rt.alloc())?,
+        edit::<Deferred<Line>>(rt.alloc())?,
+        edit::<List>(rt.alloc())?,
+    ];
+    assert_eq!(rt; weights, [12, 12, 12]);
     Ok(())
 }
 
@@ -93,6 +105,86 @@ fn edit<S: Sequence>(alloc: Global) -> Result<u32, Memory> {
     list.remove(8);
     list.renew(item(9, 10, true));
     Ok(list.weight())
+}
+
+#[test]
+fn a_change_that_is_pending_counts(rt: HostRuntime) -> Result<(), Memory> {
+    let list = with_eight(rt.alloc(), 7)?;
+    assert_eq!(rt;
+        (list.get(8), list.get(9), list.weight()),
+        (item(8, 7, true), item(9, 1, true), 10)
+    );
+    assert_eq!(rt;
+        (
+            list.weight_before(5),
+            list.weight_before(8),
+            list.weight_before(9)
+        ),
+        (0, 2, 9)
+    );
+    Ok(())
+}
+
+#[test]
+fn a_unit_is_found_round_a_pending_change(rt: HostRuntime) -> Result<(), Memory> {
+    let more = with_eight(rt.alloc(), 7)?;
+    assert_eq!(rt;
+        (
+            more.share_at(1),
+            more.share_at(2),
+            more.share_at(8),
+            more.share_at(9),
+            more.share_at(10)
+        ),
+        (share(5, 1), share(8, 0), share(8, 6), share(9, 0), None)
+    );
+    let less = with_eight(rt.alloc(), 1)?;
+    assert_eq!(rt;
+        (
+            less.share_at(2),
+            less.share_at(3),
+            less.share_at(4),
+            less.share_at(u32::MAX)
+        ),
+        (share(8, 0), share(9, 0), None, None)
+    );
+    Ok(())
+}
+
+#[test]
+fn a_pending_change_is_told(rt: HostRuntime) -> Result<(), Memory> {
+    let mut list = with_eight(rt.alloc(), 7)?;
+    list.renew(item(9, 3, true));
+    assert_eq!(rt; (list.get(8), list.weight()), (item(8, 7, true), 12));
+    list.insert_before(9, &[item(4, 1, false)])?;
+    assert_eq!(rt; (list.weight_before(9), list.weight()), (10, 13));
+    list.renew(item(8, 5, false));
+    assert_eq!(rt;
+        (list.next_marked(5), list.get(8)),
+        (Some(9), item(8, 5, false))
+    );
+    list.renew(item(8, 6, false));
+    list.remove(8);
+    assert_eq!(rt; (list.next(5), list.weight()), (Some(4), 6));
+    Ok(())
+}
+
+// The list of 5, 8, 9 with the weights 2, 4, 1, of which 8 got another weight.
+fn with_eight(alloc: Global, weight: u32) -> Result<Deferred<Line>, Memory>
+    requires { weight < 10 }
+    ensures { IfOk result (λ list. list ≡ record { name = 5; weight = 2; marked = false }
+        ∷ record { name = 8; weight = weight; marked = true }
+        ∷ record { name = 9; weight = 1; marked = true } ∷ []) }
+{
+    let mut list = Deferred::<Line>::empty(alloc)?;
+    list.push(&[item(5, 2, false), item(8, 4, true), item(9, 1, true)])?;
+    list.renew(item(8, 9, true));
+    list.renew(item(8, weight, true));
+    Ok(list)
+}
+
+fn share(name: u32, rest: u32) -> Option<Share> {
+    Some(Share { name, rest })
 }
 
 #[test]

@@ -1,19 +1,11 @@
-use Rattle.std.proofs.Common.{◌≤◌, ◌+◌, ◌∙◌, ℕ, List, sym, ap, arith}
+use Rattle.std.proofs.Common.{◌+◌, ◌∙◌, List, sym, ap, arith}
 use Rattle.td_list.specs.declared.item.Item.{Item}
-use Rattle.td_list.specs.Items.{items_before, items_from, weight_of}
+use Rattle.td_list.specs.Items.{items_before, weight_of}
 use Rattle.td_list.specs.Index.{Parts, all_items}
 use Rattle.td_list.proofs.Changes.{chunk_light}
-use Rattle.td_list.proofs.Names.{weight-append}
-use Rattle.td_list.proofs.Parted.{parts}
 use Rattle.td_list.proofs.Seats.{weight_seat, take_here}
+use Rattle.td_list.proofs.Weights.{weight-before}
 use Rattle.td_list.proofs.chunked.ChunkedSequence.weight_before.Goals as goal
-
--- the weight before an item is not more than the whole
-not_more : (x : ℕ) (items : List Item) → weight_of (items_before x items) ≤ weight_of items
-not_more x items =
-    let w = weight-append (items_before x items) (items_from x items) in
-    let e = ap weight_of (parts x items) in
-    omega arith
 
 pub weight_to-requires-clause-light : goal.weight_to-requires-clause-light
 weight_to-requires-clause-light g c =
@@ -26,7 +18,7 @@ overflow_add-result g c =
     let p : Parts = c.self.inside.index in
     let s = c.seat-seat.ensures in
     let w = weight_seat p c.self.invariant c.seat-seat.result.chunk s.chunk c.args.name s.there in
-    let m = not_more c.args.name (all_items p) in
+    let m = weight-before c.args.name (all_items p) in
     let t = ap weight_of (take_here p c.self.invariant c.seat-seat.result.chunk s.chunk c.args.name s.there c.seat-seat.result.place s.place) in
     let l = c.self.invariant.light in
     omega (arith, c.weight_before.ensures, c.weight_to.ensures)

@@ -1,0 +1,12 @@
+use Rattle.std.proofs.Common.{◌∙◌, List, ap, subst, Option}
+use Rattle.td_list.specs.declared.item.Item.{Item}
+use Rattle.td_list.specs.declared.deferred.Pending.{Pending}
+use Rattle.td_list.specs.Items.{IsItem}
+use Rattle.td_list.specs.Deferred.{items_now}
+use Rattle.td_list.proofs.deferred.DeferredSequence.insert_before.Goals as goal
+
+pub insert_before-requires-clause-new : goal.insert_before-requires-clause-new
+insert_before-requires-clause-new g c =
+    let items : List Item = g.S.Sequence.items c.self.inside.list in
+    let told = c.tell.ensures ∙ ap (λ (o : Option Pending). items_now o items) c.take.ensures.value ∙ c.self.view_is in
+    λ x i j. c.requires.new x i (subst (IsItem x) told j)
