@@ -1,15 +1,20 @@
 -- What was sent and the entries, once more operations are kept.
-use Rattle.std.proofs.Common.{◌≡◌, ◌≤◌, ◌+◌, ℕ, List, Option, sym, subst}
-use Rattle.std.specs.List.{filter_map}
+use Rattle.std.proofs.Common.{◌≡◌, ◌≤◌, ◌<◌, ◌+◌, ◌-◌, ℕ, zero, suc, true≢false, List, [], ◌∷◌, length, Option, Some, sym, ap, ◌∙◌, subst, arith}
+use Rattle.std.proofs.lemmas.Bool.{ne_eqb}
+use Rattle.std.specs.List.{filter_map, slice_get}
+use Rattle.std.specs.Option.{IsSome, option_map, option_and_then}
+use Rattle.td_op.specs.declared.message.Message.TheVariants.{Op}
 use Rattle.td_op.specs.Op.{OpValue}
 use Rattle.td_history.specs.declared.message.CompactMessage.{CompactMessage}
+use Rattle.td_history.specs.declared.message.CompactMessage.TheVariants.{Op as CompactOp}
 use Rattle.td_history.specs.EntriesValue.{EntriesValue}
 use Rattle.td_history.specs.Standing.{StandFor, IsGrown}
 use Rattle.td_history.specs.Messages.{message_of}
 use Rattle.td_history.specs.Entries.{entry_of}
 use Rattle.td_history.specs.HistoryParts.{sent_of, entries_of, IsHistoryParts}
 use Rattle.td_history.specs.LogValue.{LogValue}
-use Rattle.td_history.proofs.Standing.{stand_on, stand_filter_map, grown_none}
+use Rattle.td_history.specs.Past.{kth}
+use Rattle.td_history.proofs.Standing.{stand_on, stand_get, stand_some, stand_filter_map, grown_none}
 use Rattle.td_history.proofs.Grown.{message_grown, entry_grown}
 
 -- they stand for what is told of them
@@ -20,6 +25,24 @@ pub sent_on : (ops more : List OpValue) (sent : List CompactMessage) → IsGrown
     → StandFor (message_of ops) sent (sent_of ops sent) → StandFor (message_of more) sent (sent_of ops sent)
 sent_on ops more sent grown h =
     stand_on (message_of ops) (message_of more) (λ c m e. message_grown ops more c m grown e) sent (sent_of ops sent) h
+
+-- the k-th message sent is what the compact one stands for
+pub sent_is : (ops : List OpValue) (sent : List CompactMessage) (k : ℕ) (c : Option CompactMessage) → 1 ≤ k
+    → StandFor (message_of ops) sent (sent_of ops sent) → c ≡ slice_get sent (k - 1)
+    → option_and_then (message_of ops) c ≡ kth k (sent_of ops sent)
+sent_is ops sent k c some h at =
+    rw (ne_eqb k 0 (λ (e : k ≡ 0). omega arith))
+    (ap (option_and_then (message_of ops)) at ∙ stand_get (message_of ops) sent (sent_of ops sent) (k - 1) h)
+
+-- which is there, where it is an operation
+pub sent_within : (ops : List OpValue) (sent : List CompactMessage) (k number : ℕ)
+    → StandFor (message_of ops) sent (sent_of ops sent) → Some (CompactOp number) ≡ slice_get sent k → number < length ops
+sent_within ops sent k number h at = within ops number (stand_some (message_of ops) sent (sent_of ops sent) k (CompactOp number) h (sym at))
+  where
+    within : (ops : List OpValue) (number : ℕ) → IsSome (option_map Op (slice_get ops number)) → number < length ops
+    within [] number some = absurd (true≢false (sym some))
+    within (x ∷ ops) zero some = omega arith
+    within (x ∷ ops) (suc number) some = omega (arith, within ops number some)
 
 pub entries_on : (ops more : List OpValue) (e : EntriesValue) → IsGrown ops more
     → StandFor (entry_of ops e) e.entries (entries_of ops e) → StandFor (entry_of more e) e.entries (entries_of ops e)

@@ -1,7 +1,7 @@
 -- Lists whose elements stand for others, and lists that were added to at their end.
-use Rattle.std.proofs.Common.{◌≡◌, ℕ, zero, suc, List, [], ◌∷◌, ◌++◌, length, take, Option, Some, refl, ap}
+use Rattle.std.proofs.Common.{◌≡◌, ℕ, zero, suc, List, [], ◌∷◌, ◌++◌, length, take, Option, Some, refl, sym, ap, subst}
 use Rattle.std.specs.List.{filter_map, cons_option, slice_get}
-use Rattle.std.specs.Option.{option_and_then}
+use Rattle.std.specs.Option.{option_and_then, IsSome}
 use Rattle.td_history.specs.Standing.{StandFor, IsGrown}
 
 module _ {X Y : Type 0} (f : X → Option Y) where
@@ -33,6 +33,15 @@ module _ {X Y : Type 0} (f : X → Option Y) where
   stand_get (x ∷ xs) [] k h = absurd h
   stand_get (x ∷ xs) (y ∷ ys) zero h = h.0
   stand_get (x ∷ xs) (y ∷ ys) (suc k) h = stand_get xs ys k h.1
+
+  -- an element stands for something
+  pub stand_some : (xs : List X) (ys : List Y) (k : ℕ) (x : X) → StandFor f xs ys → slice_get xs k ≡ Some x → IsSome (f x)
+  stand_some [] ys k x h at = absurd (cc)
+  stand_some (z ∷ xs) [] k x h at = absurd h
+  stand_some (z ∷ xs) (y ∷ ys) zero x h at =
+      let is : z ≡ x = cc in
+      subst (λ q. IsSome (f q)) is (subst IsSome (sym h.0) refl)
+  stand_some (z ∷ xs) (y ∷ ys) (suc k) x h at = stand_some xs ys k x h.1 at
 
   pub stand_length : (xs : List X) (ys : List Y) → StandFor f xs ys → length xs ≡ length ys
   stand_length [] [] h = refl

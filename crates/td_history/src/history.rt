@@ -6,7 +6,6 @@ ghost use Rattle.td_machine.specs.Counts.{ops_of};
 ghost use Rattle.td_machine.specs.Log.{decision, proposed_slot};
 ghost use Rattle.td_machine.specs.Ready.{is_dot_of};
 ghost use Rattle.td_history.specs.Past.{IsAsBefore, empty_past, kept, resumed, taken, made, voted, entered};
-ghost use Rattle.td_history.specs.Messages.{message_of};
 ghost use Rattle.td_history.specs.Past.{IsNextIn, IsDoneAs, kth};
 
 use crate::entries::Entries;
@@ -237,7 +236,12 @@ impl History {
         if k == 0 {
             return None;
         }
-        self.message_at(k - 1)
+        // each call that hands a message on, and each arm of a `match`, would copy its 240 bytes once more
+        let number = match compact_at(&self.sent, k - 1)? {
+            CompactMessage::Op { number } => number,
+            CompactMessage::Vote { vote } => return Some(Message::Vote(vote.vote())),
+        };
+        Some(Message::Op(self.log.at(number)))
     }
 
     // The entry at a place from 0.
@@ -246,13 +250,6 @@ impl History {
     {
         self.entries.get(&self.log, i)
     }
-
-    // The message at a place from 0.
-    fn message_at(&self, i: u64) -> Option<Message>
-        ensures { result ≡ slice_get self.now.sent i }
-    {
-        whole_message(&self.log, compact_at(&self.sent, i))
-    }
 }
 
 // The compact message at a place from 0.
@@ -260,11 +257,4 @@ fn compact_at(sent: &[CompactMessage], i: u64) -> Option<CompactMessage>
     ensures { result ≡ slice_get sent.now i }
 {
     sent.get(i as usize).copied()
-}
-
-// The message that a compact one stands for.
-fn whole_message(log: &Log, message: Option<CompactMessage>) -> Option<Message>
-    ensures { result ≡ option_and_then (message_of log.now.ops) message }
-{
-    message?.message(log)
 }

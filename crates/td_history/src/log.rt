@@ -149,6 +149,14 @@ impl Log {
         self.ops.get(number)
     }
 
+    /// The operation of a number that there is.
+    pub fn at(&self, number: u32) -> Op
+        requires { number < length self.now.ops }
+        ensures { slice_get self.now.ops number ≡ Some result }
+    {
+        self.ops.at(number)
+    }
+
     /// The text that the operation of a number inserts.
     pub fn run(&self, number: u32) -> Option<Run>
         ensures { result ≡ run_at self.now.ops number }

@@ -1,12 +1,12 @@
 -- Operations whose runs and dependencies stand in lists are those that were stored, also where more was added to the
 -- lists.
 use Rattle.std.proofs.Common.{◌≡◌, ◌<◌, ◌≤◌, ◌+◌, ◌-◌, ◌^◌, ◌++◌, ◌∷◌, [], ℕ, List, length, map, take, drop, get_or, refl, sym, ap, ◌∙◌, subst, arith, length-append}
-use Rattle.std.specs.Prelude.{Some, None, slice_get}
+use Rattle.std.specs.Prelude.{Some, slice_get}
 use Rattle.std.specs.Option.{option_map, IfSome}
 use Rattle.std.specs.List.{All}
-use Rattle.std.proofs.lemmas.List.{map-append, take-append-drop, get_or_append_left, set-get_or}
+use Rattle.std.proofs.lemmas.List.{length-map, map-append, take-append-drop, get_or_append_left, set-get_or}
 use Rattle.std.proofs.lemmas.List.Elements.{All-tail, All-push}
-use Rattle.std.proofs.lemmas.Option.{slice_get-map, slice_get-get_or, slice_get_within, get_or_from_slice_get}
+use Rattle.std.proofs.lemmas.Option.{slice_get-map, slice_get-get_or, slice_get_read}
 use Rattle.std.proofs.Math.Seq.{get_or-append_seam}
 use Rattle.td_clock.specs.Vector.{vector_get, vector_set}
 use Rattle.td_op.specs.declared.body.Body.TheVariants.{Insert as InsertBody}
@@ -37,32 +37,19 @@ added_row rows k op is at =
 
 -- ---- reading
 
-pub kept_at : (size : ℕ) (rows : List (List ℕ)) (runs : List (List (List ℕ))) (ops : List CompactOp) (k : ℕ) (stored : CompactOp) → All (IsKept size rows runs) ops → slice_get ops k ≡ Some stored
-    → IsKept size rows runs stored
-kept_at size rows runs ops k stored kept at =
-    subst (IsKept size rows runs) (get_or_from_slice_get ops k stored stored at) (kept k stored (slice_get_within ops k stored at))
+-- one that is kept, and the operation at its place
+pub record IsKeptAt (size : ℕ) (rows : List (List ℕ)) (runs : List (List (List ℕ))) (ops : List CompactOp) (k : ℕ) (stored : CompactOp) : Type 0 where
+  pub kept : IsKept size rows runs stored
+  pub found : slice_get (map (op_of rows runs) ops) k ≡ Some (op_of rows runs stored)
 
--- its dependencies are found
-pub row_found : (size : ℕ) (rows : List (List ℕ)) (runs : List (List (List ℕ))) (stored : CompactOp) → IsKept size rows runs stored → None ≡ option_map (λ row. deps_of row stored.dot) (slice_get rows stored.row) → ⊥
-row_found size rows runs stored kept none =
-    let row : slice_get rows stored.row ≡ Some (get_or rows stored.row []) = slice_get-get_or rows stored.row [] kept.row in
-    let some : None ≡ Some (deps_of (get_or rows stored.row []) stored.dot) = rw row at none in
-    cc
-
--- with them it is the operation that was stored
-pub read_op : (size : ℕ) (rows : List (List ℕ)) (runs : List (List (List ℕ))) (stored : CompactOp) (deps : List ℕ)
-    → IsKept size rows runs stored → option_map (λ row. deps_of row stored.dot) (slice_get rows stored.row) ≡ Some deps
-    → ◌≡◌ {A = OpValue} (record { dot = stored.dot; deps = deps; body = body_of runs stored.body }) (op_of rows runs stored)
-read_op size rows runs stored deps kept found =
-    let row : slice_get rows stored.row ≡ Some (get_or rows stored.row []) = slice_get-get_or rows stored.row [] kept.row in
-    let some : Some (deps_of (get_or rows stored.row []) stored.dot) ≡ Some deps = rw row at found in
-    let is : deps ≡ deps_of (get_or rows stored.row []) stored.dot = cc in
-    λ i. record { dot = stored.dot; deps = is i; body = body_of runs stored.body }
-
--- which is the one at its place
-pub op_at : (rows : List (List ℕ)) (runs : List (List (List ℕ))) (ops : List CompactOp) (k : ℕ) (stored : CompactOp)
-    → slice_get ops k ≡ Some stored → Some (op_of rows runs stored) ≡ slice_get (map (op_of rows runs) ops) k
-op_at rows runs ops k stored at = sym (slice_get-map (op_of rows runs) ops k ∙ ap (option_map (op_of rows runs)) at)
+pub kept_at : (size : ℕ) (rows : List (List ℕ)) (runs : List (List (List ℕ))) (ops : List CompactOp) (k : ℕ) (stored : CompactOp) → All (IsKept size rows runs) ops
+    → k < length (map (op_of rows runs) ops) → stored ≡ get_or ops k stored → IsKeptAt size rows runs ops k stored
+kept_at size rows runs ops k stored kept bound at =
+    let within : k < length ops = omega (arith, bound, length-map ops (op_of rows runs)) in
+    record {
+      kept = subst (IsKept size rows runs) (sym at) (kept k stored within);
+      found = slice_get-map (op_of rows runs) ops k ∙ ap (option_map (op_of rows runs)) (slice_get_read ops (length ops) k stored refl within at);
+    }
 
 -- ---- more rows and runs
 

@@ -52,15 +52,6 @@ is_read bytes lengths atoms begins front back =
     let parts = parts_of (stored_run bytes) begins.rest bytes begins.is in
     read_parts (stored_run bytes) begins.rest lengths atoms begins.run (rw behind at front ∙ parts.lengths) (rw behind at back ∙ parts.atoms)
 
--- the number of the atoms is there, and as many lengths
-pub lengths_within : (bytes : List ℕ) → BeginsWithRun bytes → get_or bytes 0 0 + 1 ≤ length bytes
-lengths_within bytes begins =
-    let run : List (List ℕ) = stored_run bytes in
-    let count : get_or bytes 0 0 ≡ length run = ap (λ (bs : List ℕ). get_or bs 0 0) begins.is in
-    let long : length bytes ≡ length (stored_bytes run) + length begins.rest = ap length begins.is ∙ length-append (stored_bytes run) begins.rest in
-    let front = length-append (map length run) (concat run) in
-    omega (arith, count, long, front, length-map run length)
-
 -- a run as it was stored, with more behind it
 stored_again : (run : List (List ℕ)) (rest : List ℕ) → stored_run (stored_bytes run ++ rest) ≡ run
 stored_again run rest =

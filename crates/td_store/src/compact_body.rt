@@ -5,6 +5,7 @@ use crate::compact_dot::CompactDot;
 use crate::compact_id::CompactId;
 use crate::compact_slot::CompactSlot;
 use crate::runs::Runs;
+use td_base::{Atom, Run};
 use td_op::Body;
 
 // What an operation does, with the number of its run in a list of runs.
@@ -55,21 +56,33 @@ impl CompactBody {
         requires { HasRun runs.now.runs self.now }
         ensures { result ≡ body_of runs.now.runs self.now }
     {
-        match *self {
-            CompactBody::Insert { slot, run } => Body::Insert {
-                slot: slot.slot(),
-                run: runs.get(run).unwrap(),
-            },
-            CompactBody::Delete { target } => Body::Delete {
-                target: target.id(),
-            },
-            CompactBody::Propose { slot } => Body::Propose { slot: slot.slot() },
-            CompactBody::Commit { proposal } => Body::Commit {
-                proposal: proposal.dot(),
-            },
-            CompactBody::Abort { proposal } => Body::Abort {
-                proposal: proposal.dot(),
-            },
+        // early returns: an arm of a `match` would copy its ninety bytes once more
+        let (slot, run) = match *self {
+            CompactBody::Insert { slot, run } => (slot, run),
+            CompactBody::Delete { target } => {
+                return Body::Delete {
+                    target: target.id(),
+                };
+            }
+            CompactBody::Propose { slot } => return Body::Propose { slot: slot.slot() },
+            CompactBody::Commit { proposal } => {
+                return Body::Commit {
+                    proposal: proposal.dot(),
+                };
+            }
+            CompactBody::Abort { proposal } => {
+                return Body::Abort {
+                    proposal: proposal.dot(),
+                };
+            }
+        };
+        let slot = slot.slot();
+        // most runs are a letter: no call that copies is made for one byte
+        if let Some(letter) = runs.letter(run) {
+            let run = Run::one(Atom::of(&[letter]));
+            return Body::Insert { slot, run };
         }
+        let run = runs.at(run);
+        Body::Insert { slot, run }
     }
 }

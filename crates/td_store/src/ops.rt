@@ -1,4 +1,4 @@
-ghost use Rattle.std.specs.Prelude.{◌≡◌, ◌≤◌, ◌<◌, ◌+◌, ◌∷◌, ◌++◌, [], length, take, slice_get, slice_index_or, OnErr, OnOk};
+ghost use Rattle.std.specs.Prelude.{◌≡◌, ◌≤◌, ◌<◌, ◌+◌, ◌∷◌, ◌++◌, [], length, take, slice_get, slice_index_or, OnErr, OnOk, Some};
 ghost use Rattle.std.specs.Option.{option_map};
 ghost use Rattle.td_op.specs.Op.{OpValue};
 ghost use Rattle.td_store.specs.OpsParts.{deps_of};
@@ -111,10 +111,21 @@ impl Ops {
     pub fn get(&self, k: u32) -> Option<Op>
         ensures { result ≡ slice_get self.now.ops k }
     {
-        let op = self.ops.get(k as usize)?;
+        if k >= self.len() {
+            return None;
+        }
+        Some(self.at(k))
+    }
+
+    /// The operation at a place that there is.
+    pub fn at(&self, k: u32) -> Op
+        requires { k < length self.now.ops }
+        ensures { slice_get self.now.ops k ≡ Some result }
+    {
+        let op = &self.ops[k as usize];
         let dot = op.dot.dot();
-        let deps = deps_at(&self.rows, op.row, dot)?;
-        Some(Op::of(dot, &deps, &op.body.body(&self.runs)))
+        let deps = deps_at(&self.rows, op.row, dot);
+        Op::of(dot, &deps, &op.body.body(&self.runs))
     }
 
     /// The dot of the operation at a place.
@@ -161,11 +172,12 @@ fn row_for(rows: &mut Vectors, last_rows: &mut [u32; SITES], op: &Op) -> u32
 }
 
 // The dependencies of an operation with this dot, from this row.
-fn deps_at(rows: &Vectors, row: u32, dot: Dot) -> Option<Vector>
-    requires { dot.site ≤ rows.now.size }
-    ensures { result ≡ option_map (λ row. deps_of row dot) (slice_get rows.now.rows row) }
+fn deps_at(rows: &Vectors, row: u32, dot: Dot) -> Vector
+    requires row { row < length rows.now.rows }
+    requires site { dot.site ≤ rows.now.size }
+    ensures { result ≡ deps_of (slice_index_or rows.now.rows row []) dot }
 {
-    let mut deps = rows.get(row)?;
+    let mut deps = rows.at(row);
     deps.set(dot.site, dot.seq - 1);
-    Some(deps)
+    deps
 }

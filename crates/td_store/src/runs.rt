@@ -1,4 +1,5 @@
-ghost use Rattle.std.specs.Prelude.{◌≡◌, ◌≤◌, ◌+◌, ◌∷◌, ◌++◌, [], length, slice_get, sum, OnErr, OnOk, vec_len, vec_capacity};
+ghost use Rattle.std.specs.Prelude.{◌≡◌, ◌≤◌, ◌<◌, ◌+◌, ◌∷◌, ◌++◌, [], length, slice_get, slice_index_or, sum, IfSome, OnErr, OnOk, vec_len, vec_capacity};
+ghost use Rattle.td_base.specs.Atom.{IsAtom};
 ghost use Rattle.td_base.specs.Run.{IsRun};
 ghost use Rattle.td_store.specs.RunsParts.{BeginsWithRun, stored_bytes, stored_run};
 
@@ -78,8 +79,29 @@ impl Runs {
     pub fn get(&self, k: u32) -> Option<Run>
         ensures { result ≡ slice_get self.now.runs k }
     {
-        let start = *self.starts.get(k as usize)?;
-        Some(read_stored(&self.bytes[start as usize..]))
+        if k >= self.len() {
+            return None;
+        }
+        Some(self.at(k))
+    }
+
+    /// The run at a place that there is.
+    pub fn at(&self, k: u32) -> Run
+        requires { k < length self.now.runs }
+        ensures { result ≡ slice_index_or self.now.runs k [] }
+    {
+        let start = self.starts[k as usize];
+        read_stored(&self.bytes[start as usize..])
+    }
+
+    // The byte of the run at a place that there is, where it is a letter.
+    pub(crate) fn letter(&self, k: u32) -> Option<u8>
+        requires { k < length self.now.runs }
+        ensures run { IfSome result (λ byte. slice_index_or self.now.runs k [] ≡ (byte ∷ []) ∷ []) }
+        ensures atom { IfSome result (λ byte. IsAtom (byte ∷ [])) }
+    {
+        let start = self.starts[k as usize];
+        stored_letter(&self.bytes[start as usize..])
     }
 
     /// How many runs there are.
@@ -119,6 +141,19 @@ fn read_stored(bytes: &[u8]) -> Run
 {
     let (lengths, atoms) = bytes[1..].split_at(bytes[0] as usize);
     Run::cut(&atoms[..total(lengths)], lengths)
+}
+
+// The byte of the run that the bytes begin with, where it is a letter.
+fn stored_letter(bytes: &[u8]) -> Option<u8>
+    requires { BeginsWithRun bytes.now }
+    ensures run { IfSome result (λ byte. stored_run bytes.now ≡ (byte ∷ []) ∷ []) }
+    ensures atom { IfSome result (λ byte. IsAtom (byte ∷ [])) }
+{
+    if bytes[0] == 1 && bytes[1] == 1 {
+        Some(bytes[2])
+    } else {
+        None
+    }
 }
 
 fn total(lengths: &[u8]) -> usize

@@ -1,4 +1,4 @@
-ghost use Rattle.std.specs.Prelude.{◌≡◌, ◌<◌, ◌≤◌, ◌+◌, ◌∷◌, ◌++◌, [], length, slice_get, slice_index, slice_set, OnErr, OnOk, IfSome, IsTrue};
+ghost use Rattle.std.specs.Prelude.{◌≡◌, ◌<◌, ◌≤◌, ◌+◌, ◌∷◌, ◌++◌, [], length, slice_get, slice_index, slice_index_or, slice_set, OnErr, OnOk, IfSome, IsTrue};
 ghost use Rattle.td_clock.specs.Vector.{vector_get, vector_set};
 
 use std::alloc::Global;
@@ -73,17 +73,15 @@ impl Vectors {
         self.room -= 1;
     }
 
-    /// The vector at a place from 0.
-    pub fn get(&self, k: u32) -> Option<Vector>
-        ensures row { result ≡ slice_get self.now.rows k }
-        ensures size { IfSome result (λ row. length row ≡ self.now.size) }
+    /// The vector at a place from 0 that there is.
+    pub fn at(&self, k: u32) -> Vector
+        requires { k < length self.now.rows }
+        ensures row { result ≡ slice_index_or self.now.rows k [] }
+        ensures size { length result ≡ self.now.size }
     {
-        if k >= self.len {
-            return None;
-        }
         let size = self.size as usize;
         let start = k as usize * size;
-        Some(Vector::of(&self.numbers[start..start + size]))
+        Vector::of(&self.numbers[start..start + size])
     }
 
     /// Whether the vector at a place from 0 is this one, but that it may have any number for the site.
