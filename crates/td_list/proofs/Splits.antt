@@ -1,6 +1,7 @@
 -- A chunk parted in two: the new chunk stands directly before the old one, and the list is as before.
-use Rattle.std.proofs.Common.{◌≡◌, ◌+◌, ◌<◌, ◌^◌, ℕ, List, [], ◌∷◌, ◌++◌, false, length, take, drop, get_or, set, refl, sym, ap, ◌∙◌, subst, inl, ⊎_elim, arith, append_assoc, take-append-drop, length-drop}
+use Rattle.std.proofs.Common.{◌≡◌, ◌+◌, ◌<◌, ◌≤◌, ◌^◌, ℕ, List, [], ◌∷◌, ◌++◌, false, length, take, drop, get_or, set, refl, sym, ap, ◌∙◌, subst, inl, ⊎_elim, arith, append_assoc, take-append-drop, length-drop}
 use Rattle.std.proofs.lemmas.List.{get_or-set_same, length-take-le}
+use Rattle.std.proofs.lemmas.Bool.{cases_lt}
 use Rattle.td_base.specs.Lists.{In}
 use Rattle.td_base.proofs.Lists.{In-back}
 use Rattle.td_list.specs.declared.item.Item.{Item}
@@ -12,15 +13,21 @@ use Rattle.td_list.proofs.Joined.{q, located, not_before, not_after, not_back, w
 use Rattle.td_list.proofs.Changes.{fewer, now, weight_around}
 use Rattle.td_list.proofs.Added.{added_index, added_all}
 
-module _ (p : Parts) (index : IsIndex p) (c : ℕ) (there : IsItem c p.order) (d : ℕ) (rest : List ℕ) (free : p.free ≡ rest ++ d ∷ []) (half : ℕ) (low : 0 < half) (high : half < length (chunk_at p.chunks c)) where
+-- neither side of a cut weighs more than the whole
+pub side_weight : (cut place : ℕ) (side items : List Item) → (place < cut → side ≡ drop cut items) → (cut ≤ place → side ≡ take cut items) → weight_of side ≤ weight_of items
+side_weight cut place side items back front =
+    let parts = weight-parts cut items in
+    ⊎_elim (λ (h : place < cut). let e = ap weight_of (back h) in omega arith) (λ (h : cut ≤ place). let e = ap weight_of (front h) in omega arith) (cases_lt place cut)
+
+module _ (p : Parts) (index : IsIndex p) (c : ℕ) (there : IsItem c p.order) (d : ℕ) (rest : List ℕ) (free : p.free ≡ rest ++ d ∷ []) (cut : ℕ) (low : 0 < cut) (high : cut < length (chunk_at p.chunks c)) where
   abbrev old : List Item
   old = chunk_at p.chunks c
 
   abbrev pub first : List Item
-  first = take half old
+  first = take cut old
 
   abbrev pub second : List Item
-  second = drop half old
+  second = drop cut old
 
   abbrev f : List Item
   f = (q p index c there).front
@@ -88,7 +95,7 @@ module _ (p : Parts) (index : IsIndex p) (c : ℕ) (there : IsItem c p.order) (d
       let l = index.light in
       let all = all_weight p index in
       let o = old_weight in
-      let h = weight-parts half old in
+      let h = weight-parts cut old in
       let a = ap weight_of two_is in
       let w = weight-append f (e ∷ (summary c second ∷ b)) in
       omega arith
@@ -98,7 +105,7 @@ module _ (p : Parts) (index : IsIndex p) (c : ℕ) (there : IsItem c p.order) (d
       let l = index.light in
       let all = all_weight p index in
       let o = old_weight in
-      let h = weight-parts half old in
+      let h = weight-parts cut old in
       let a = ap weight_of three_is in
       let w = weight-append f (summary d first ∷ (summary c second ∷ b)) in
       omega arith
@@ -108,13 +115,13 @@ module _ (p : Parts) (index : IsIndex p) (c : ℕ) (there : IsItem c p.order) (d
   p1 = now p index c there second
 
   second_light : weight_of (chunks_before c p ++ second ++ chunks_after c p) + weight_of first ≡ weight_of (all_items p)
-  second_light = let w = weight_around p index c there second in let h = weight-parts half old in omega arith
+  second_light = let w = weight_around p index c there second in let h = weight-parts cut old in omega arith
 
   whole_apart : AreApart (first ++ second)
-  whole_apart = subst AreApart (sym (take-append-drop half old)) (apart_in p index c there)
+  whole_apart = subst AreApart (sym (take-append-drop cut old)) (apart_in p index c there)
 
   index1 : IsIndex p1
-  index1 = fewer p index c there second (let l = length-drop half old in omega arith) (apart-back first second whole_apart) (λ x j. item_in_back x half old j) (let l = index.light in let s = second_light in omega arith)
+  index1 = fewer p index c there second (let l = length-drop cut old in omega arith) (apart-back first second whole_apart) (λ x j. item_in_back x cut old j) (let l = index.light in let s = second_light in omega arith)
 
   order1 : p1.order ≡ f ++ (summary c second ∷ b)
   order1 = renewed_is p index c there (summary c second) refl
@@ -123,13 +130,13 @@ module _ (p : Parts) (index : IsIndex p) (c : ℕ) (there : IsItem c p.order) (d
       → ((x : ℕ) → (IsItem x first → ⊥) → get_or next x 0 ≡ get_or p.homes x 0)
       → IsIndex (record p { chunks = set (set p.chunks c second) d first; order = f ++ summary d first ∷ (summary c second ∷ b); homes = next; free = rest })
   split_index next long inside outside =
-      added_index p1 index1 f (summary c second ∷ b) order1 d rest free first next (let l = length-take-le half old (omega arith) in omega arith) (apart-front first second whole_apart)
+      added_index p1 index1 f (summary c second ∷ b) order1 d rest free first next (let l = length-take-le cut old (omega arith) in omega arith) (apart-front first second whole_apart)
       (λ x j k. ⊎_elim
-      (λ (m : IsItem x (chunks_before c p ++ second)). ⊎_elim (λ (n : IsItem x (chunks_before c p)). not_before p index c there x n (item_in_front x half old j)) (λ (n : IsItem x second). apart-parts first second whole_apart x j n)
+      (λ (m : IsItem x (chunks_before c p ++ second)). ⊎_elim (λ (n : IsItem x (chunks_before c p)). not_before p index c there x n (item_in_front x cut old j)) (λ (n : IsItem x second). apart-parts first second whole_apart x j n)
       (item-append x (chunks_before c p) second m))
-      (λ (m : IsItem x (chunks_after c p)). not_after p index c there x m (item_in_front x half old j))
+      (λ (m : IsItem x (chunks_after c p)). not_after p index c there x m (item_in_front x cut old j))
       (item-append x (chunks_before c p ++ second) (chunks_after c p) (subst (IsItem x) (changed_all p index c there second) k)))
-      (λ x j. (subst (λ (n : ℕ). x < n) (sym long) (homed p index c there x (item_in_front x half old j)).0, inside x j))
+      (λ x j. (subst (λ (n : ℕ). x < n) (sym long) (homed p index c there x (item_in_front x cut old j)).0, inside x j))
       (λ x h. (subst (λ (n : ℕ). x < n) (sym long) h, λ none. outside x none))
       (let a = ap weight_of (changed_all p index c there second) in let s = second_light in let l = index.light in omega arith)
 
@@ -139,7 +146,7 @@ module _ (p : Parts) (index : IsIndex p) (c : ℕ) (there : IsItem c p.order) (d
       ∙ (λ k. (joined-set p.chunks c second f (q p index c there).away ∙ sym (before_joined p index c there)) k ++ first
       ++ (get_or-set_same p.chunks c second [] (within p index c there) k ++ (joined-set p.chunks c second b (not_back p index c there) ∙ sym (after_joined p index c there)) k))
       ∙ regroup (chunks_before c p) first second (chunks_after c p)
-      ∙ ap (λ (xs : List Item). chunks_before c p ++ xs ++ chunks_after c p) (take-append-drop half old) ∙ sym (located p index c there)
+      ∙ ap (λ (xs : List Item). chunks_before c p ++ xs ++ chunks_after c p) (take-append-drop cut old) ∙ sym (located p index c there)
     where
       regroup : (w x y z : List Item) → w ++ x ++ (y ++ z) ≡ w ++ (x ++ y) ++ z
       regroup w x y z = simp append_assoc

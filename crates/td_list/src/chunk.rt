@@ -9,6 +9,7 @@ use crate::item::Item;
 use crate::scan::{has_mark, place_from, place_of, weight_of};
 use std::alloc::Global;
 use std::marker::Model;
+use std::mem;
 use td_base::Memory;
 
 /// Items that stand next to each other.
@@ -166,6 +167,40 @@ impl Chunk {
         self.weight -= weight_of(&self.items[from..to]);
         take_out(&mut self.items, from, to);
         self.marked = has_mark(&self.items);
+        // the last edit's place moves with its items
+        self.near = self.near.saturating_sub(to - from).max(self.near.min(from));
+    }
+
+    /// The items that a cut parts from a place.
+    pub fn beyond(&self, cut: usize, place: usize) -> &[Item]
+        requires { cut ≤ length self.now }
+        ensures back { place < cut → result.now ≡ drop cut self.now }
+        ensures front { cut ≤ place → result.now ≡ take cut self.now }
+    {
+        if place < cut {
+            &self.items[cut..]
+        } else {
+            &self.items[..cut]
+        }
+    }
+
+    /// Keeps the items from a cut on, and gives those before it. Those that the cut parts from a place come as a copy,
+    /// in memory that just fits them. The others keep the memory with room for more: items are to be put at the place.
+    pub fn part(&mut self, cut: usize, place: usize, copy: Chunk) -> Chunk
+        requires cut { cut ≤ length self.old }
+        requires back { place < cut → copy ≡ drop cut self.old }
+        requires front { cut ≤ place → copy ≡ take cut self.old }
+        ensures front { result ≡ take cut self.old }
+        ensures back { self.new ≡ drop cut self.old }
+    {
+        if place < cut {
+            let end = self.items.len();
+            self.cut(cut, end);
+            mem::replace(self, copy)
+        } else {
+            self.cut(0, cut);
+            copy
+        }
     }
 
     /// Puts another item at a place.

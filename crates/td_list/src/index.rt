@@ -143,7 +143,7 @@ impl<S: Sequence> Index<S> {
         if self.items_of(seat.chunk).len() < FULL {
             return Ok(seat);
         }
-        self.split(seat.chunk)?;
+        self.split(seat.chunk, seat.place)?;
         Ok(self.seat(name))
     }
 
@@ -299,21 +299,23 @@ impl<S: Sequence> Index<S> {
         Ok(())
     }
 
-    /// Parts a chunk: the first half of its items become a chunk of their own before it.
-    pub fn split(&mut self, chunk: u32) -> Result<(), Memory>
+    /// Parts a chunk in which items are to be put at a place: those before a cut beside it become a chunk of their own,
+    /// before the chunk.
+    pub fn split(&mut self, chunk: u32, place: usize) -> Result<(), Memory>
         requires index { IsIndex self.old }
         requires chunk { IsItem chunk self.old.order }
         requires some { 2 ≤ length (chunk_at self.old.chunks chunk) }
+        requires place { place < length (chunk_at self.old.chunks chunk) }
         ensures index { IsIndex self.new }
         ensures all { all_items self.new ≡ all_items self.old }
     {
         self.spare()?;
         let new = self.free[self.free.len() - 1];
-        let half = self.items_of(chunk).len() / 2;
-        let front = Chunk::of(self.alloc, &self.items_of(chunk)[..half])?;
+        let cut = cut_beside(place, self.items_of(chunk).len());
+        let copy = Chunk::of(self.alloc, self.numbered(chunk).beyond(cut, place))?;
         self.order.insert_before(chunk, &[empty_chunk(new)])?;
         self.free.pop();
-        self.chunks[chunk as usize].cut(0, half);
+        let front = self.chunks[chunk as usize].part(cut, place, copy);
         settle(&mut self.homes, front.items(), new);
         self.order.renew(self.chunks[chunk as usize].summary(chunk));
         self.order.renew(front.summary(new));
@@ -341,6 +343,24 @@ impl<S: Sequence> Index<S> {
         settle(&mut self.homes, piece, new);
         self.chunks[new as usize] = chunk;
         Ok(())
+    }
+}
+
+// Where a chunk of so many items is parted, if others are to be put before the one at a place. Typing puts items at one
+// place again and again. So the cut is beside the place: the fewer items stay with it, the longer its part lasts until
+// it is full as well, and the fuller is the other, which is left alone. But a quarter of them stay with it at least, as
+// edits here and there would leave tiny chunks else.
+fn cut_beside(place: usize, length: usize) -> usize
+    requires some { 2 ≤ length }
+    requires place { place < length }
+    ensures low { 0 < result }
+    ensures high { result < length }
+{
+    let quarter = length / 4;
+    if place < length / 2 {
+        quarter.max(place + 1)
+    } else {
+        place.min(length - quarter)
     }
 }
 

@@ -218,6 +218,40 @@ fn an_item_is_replaced(rt: HostRuntime) -> Result<(), Memory> {
     Ok(())
 }
 
+#[test]
+fn items_put_at_three_places_by_turns_stand_in_order(rt: HostRuntime) -> Result<(), Memory> {
+    let list = by_turns(rt.alloc(), 600)?;
+    let mut told = Vec::new(rt.alloc());
+    for unit in 0..600 {
+        told.push(list.share_at(unit))?;
+    }
+    let mut expected = Vec::new(rt.alloc());
+    for rest in 0..3 {
+        for turn in 1..200 {
+            expected.push(Some(Share {
+                name: 3 * turn + rest,
+                rest: 0,
+            }))?;
+        }
+        expected.push(Some(Share {
+            name: rest,
+            rest: 0,
+        }))?;
+    }
+    assert_eq!(rt; told, expected);
+    Ok(())
+}
+
+// The list of 0, 1 and 2 in which each number from 3 up to an end was put directly before its rest by three.
+fn by_turns(alloc: Global, end: u32) -> Result<Chunked<Line>, Memory> {
+    let mut list = Chunked::empty(alloc)?;
+    list.push(&[item(0, 1, false), item(1, 1, false), item(2, 1, false)])?;
+    for name in 3..end {
+        list.insert_before(name % 3, &[item(name, 1, false)])?;
+    }
+    Ok(list)
+}
+
 fn item(name: u32, weight: u32, marked: bool) -> Item
     ensures { result ≡ record { name = name; weight = weight; marked = marked } }
 {
