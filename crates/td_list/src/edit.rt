@@ -1,5 +1,5 @@
 // What is put among items, and taken out. A turn of a slice would clear some kilobytes first.
-ghost use Rattle.std.specs.Prelude.{◌≡◌, ◌≤◌, ◌+◌, ◌++◌, length, take, drop, vec_len, vec_capacity, OnOk, OnErr};
+ghost use Rattle.std.specs.Prelude.{◌≡◌, ◌<◌, ◌≤◌, ◌+◌, ◌^◌, ◌++◌, length, take, drop, vec_len, vec_capacity, OnOk, OnErr};
 
 use crate::item::Item;
 use td_base::Memory;
@@ -17,12 +17,29 @@ pub fn put_in(
         ≡ take place items.old.items ++ piece.now ++ drop place items.old.items) }
     ensures err { OnErr result (items.new.items ≡ items.old.items) }
 {
-    items.reserve(piece.len())?;
+    make_room(items, piece.len())?;
     aside.clear();
     aside.extend_from_slice(&items[place..])?;
     items.truncate(place);
     items.extend_from_slice(piece).unwrap();
     items.extend_from_slice(aside).unwrap();
+    Ok(())
+}
+
+// Room is made for so many items more than are put.
+const AHEAD: usize = 8;
+
+// Makes room for more items, and some that follow. Room for twice the items, as `reserve` makes it, would mostly stay
+// empty: a chunk is parted before it fills it.
+fn make_room(items: &mut Vec<Item>, more: usize) -> Result<(), Memory>
+    requires { more < 2 ^ 63 }
+    ensures items { items.new.items ≡ items.old.items }
+    ensures ok { OnOk result (vec_len items.new + more ≤ vec_capacity items.new) }
+{
+    if more <= items.capacity() - items.len() {
+        return Ok(());
+    }
+    items.reserve_exact(more + AHEAD)?;
     Ok(())
 }
 
