@@ -17,6 +17,7 @@ use crate::deletes::Deletes;
 use crate::flatten::push_array;
 use crate::item_of::{atom_item, close_item, open_item};
 use crate::kept_atom::KeptAtom;
+use crate::kept_id::KeptId;
 use crate::kept_state::{KeptState, MOST_ARRAYS};
 use crate::tokens::Tokens;
 use crate::tree_row::{Array, RowState, TreeRow};
@@ -146,6 +147,7 @@ fn push_row(rows: &mut Vec<TreeRow>, id: AtomId, atom: KeptAtom)
     ensures room { vec_capacity rows.old ≤ vec_capacity rows.new }
     ensures long { vec_len rows.new ≡ vec_len rows.old + 1 }
 {
+    let id = KeptId::of(id);
     let deletes = Deletes::none();
     rows.push(TreeRow { id, atom, deletes }).unwrap();
 }

@@ -131,7 +131,7 @@ impl TreeRow {
     fn is_known(&self, v: &Vector) -> bool
         ensures { result ≡ is_known_entry v.now self.now }
     {
-        v.has(self.id.dot) && has_all(v, self.deletes.as_slice())
+        v.has(self.id.id().dot) && has_all(v, self.deletes.as_slice())
     }
 }
 

@@ -16,6 +16,7 @@ mod found;
 mod growth;
 mod item_of;
 mod kept_atom;
+mod kept_id;
 mod kept_state;
 mod known;
 mod last;

@@ -84,7 +84,7 @@ impl Tokens {
         requires { row < length self.now.rows }
         ensures { result ≡ (table self.now row).id }
     {
-        self.row(row).id
+        self.row(row).id.id()
     }
 
     /// The first token.

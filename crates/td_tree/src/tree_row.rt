@@ -5,10 +5,11 @@ ghost use Rattle.td_tree.specs.KeptState.{FitsKept};
 
 use crate::deletes::Deletes;
 use crate::kept_atom::KeptAtom;
+use crate::kept_id::KeptId;
 use crate::kept_state::KeptState;
 use std::alloc::Global;
 use std::marker::Model;
-use td_base::{AtomId, Dot, Memory};
+use td_base::{Dot, Memory};
 
 /// Where a row is: in brackets of its own, at an index of an array that leaves share, or in the document no longer.
 #[derive(Clone, Copy, Debug, PartialEq, Eq)]
@@ -21,7 +22,7 @@ pub enum RowState {
 /// A row, without its place among the others and where it is.
 #[derive(Debug, Drop)]
 pub struct TreeRow {
-    pub id: AtomId,
+    pub id: KeptId,
     pub atom: KeptAtom,
     pub deletes: Deletes,
 }
