@@ -1,5 +1,5 @@
 -- A list in which one item weighs otherwise: its names, its order and its marks are the same.
-use Rattle.std.proofs.Common.{◌≡◌, ◌+◌, ◌-◌, ◌<◌, ◌≤◌, ◌^◌, ℕ, zero, suc, List, [], ◌∷◌, ◌++◌, Bool, true, false, if◌then◌else◌, map, length, take, drop, refl, sym, ap, ◌∙◌, subst, arith, Option, Some, None}
+use Rattle.std.proofs.Common.{◌≡◌, ◌+◌, ◌-◌, ◌<◌, ◌≤◌, ◌^◌, ℕ, zero, suc, List, [], ◌∷◌, ◌++◌, Bool, true, false, if◌then◌else◌, map, length, take, drop, refl, sym, ap, ◌∙◌, subst, inl, arith, Option, Some, None}
 use Rattle.std.proofs.lemmas.List.{map-append, append-nil}
 use Rattle.std.proofs.lemmas.Bool.{lt-ltb}
 use Rattle.td_base.specs.Lists.{In}
@@ -7,7 +7,7 @@ use Rattle.td_list.specs.declared.item.Item.{Item}
 use Rattle.td_list.specs.declared.deferred.Pending.{Pending}
 use Rattle.td_list.specs.Items.{names, IsItem, is_named, items_before, items_from, items_after, place_of, renew, first_name, last_name, first_marked, share_at, weight_of}
 use Rattle.td_list.specs.Deferred.{items_now, IsPending, IsDeferred}
-use Rattle.td_list.proofs.Names.{weight-append}
+use Rattle.td_list.proofs.Names.{weight-append, item-back}
 use Rattle.td_list.proofs.Parted.{Parted, parted, not_named, before_at, from_at, after_at, before_is, from_is, after_is, place_is, take_place}
 use Rattle.td_list.proofs.Found.{share_here, share_past}
 
@@ -129,13 +129,22 @@ renew_again i j items e there =
     is : renew j items ≡ (parted j.name items there).front ++ j ∷ (parted j.name items there).back
     is = λ k. before_is j.name items there k ++ j ∷ after_is j.name items there k
 
--- an item that is found is the one of the name
-pub told_is : (r i : Item) (items : List Item) → IsItem i.name items → r.marked ≡ i.marked → items_from i.name items ≡ r ∷ items_after i.name items
-    → items_from i.name items ≡ record i { weight = r.weight } ∷ items_after i.name items
-told_is r i items there m e =
+-- an item that the list was just told
+pub just_told : (i : Item) (items all : List Item) → IsItem i.name items → weight_of (renew i items) < 2 ^ 32 → all ≡ renew i items
+    → IsPending (record { item = i; told = i.weight }) all × (renew i all ≡ renew i items)
+just_told i items all there light e =
     let q = parted i.name items there in
-    let named : r.name ≡ i.name = ap (λ (k : Item). k.name) (same_head r q.item (items_after i.name items) q.back (sym e ∙ from_is i.name items there)) ∙ q.named in
-    e ∙ (λ k. record { name = named k; weight = r.weight; marked = m k } ∷ items_after i.name items)
+    let is : all ≡ q.front ++ i ∷ q.back = e ∙ (λ k. before_is i.name items there k ++ i ∷ after_is i.name items there k) in
+    let again : renew i all ≡ renew i items = ap (renew i) e ∙ renew_again i i items refl there in (
+      record {
+        there = subst (IsItem i.name) (sym is) (item-back i.name q.front (i ∷ q.back) (inl refl));
+        is =
+            ap (items_from i.name) is ∙ from_at i.name q.front i q.back refl q.away
+            ∙ (λ k. i ∷ sym (ap (items_after i.name) is ∙ after_at i.name q.front i q.back refl q.away) k);
+        light = subst (λ (n : ℕ). n < 2 ^ 32) (ap weight_of (sym again)) light;
+      },
+      again,
+    )
 
 -- a list and its pending item
 module _ (p : Pending) (items : List Item) (is : IsPending p items) where
@@ -150,6 +159,10 @@ module _ (p : Pending) (items : List Item) (is : IsPending p items) where
 
   now : renew p.item items ≡ q.front ++ p.item ∷ q.back
   now = λ k. before_is p.item.name items is.there k ++ p.item ∷ after_is p.item.name items is.there k
+
+  -- nothing is left to tell where the list has the weight of now
+  pub told_all : p.told ≡ p.item.weight → items ≡ renew p.item items
+  told_all e = was ∙ (λ k. q.front ++ record p.item { weight = e k } ∷ q.back) ∙ sym now
 
   pub alike : unweighed items ≡ unweighed (renew p.item items)
   alike =

@@ -1,4 +1,4 @@
-ghost use Rattle.std.specs.Prelude.{◌≡◌, ◌<◌, ◌^◌, ◌∷◌};
+ghost use Rattle.std.specs.Prelude.{◌≡◌, ◌<◌, ◌^◌, ◌∷◌, IsTrue};
 ghost use Rattle.td_list.specs.Items.{IsItem, items_before, items_from, items_after, renew, share_at, weight_of};
 ghost use Rattle.td_list.specs.Deferred.{items_now, IsPending, IsDeferred};
 
@@ -8,15 +8,15 @@ use std::alloc::Global;
 use std::marker::Model;
 use td_base::Memory;
 
-/// A list that is not told the last change of a weight until another comes: who changes one item again and again
-/// changes the list once.
+/// A list that is told the first change of an item at once, and those of its weight that follow only when another item
+/// changes: who changes one item again and again changes the list twice.
 #[derive(Drop)]
 pub struct Deferred<S: Sequence> {
     list: S,
     pending: Option<Pending>,
 }
 
-// An item that weighs otherwise than the list has it.
+// The item that changed last. It may weigh otherwise than the list has it.
 #[derive(Clone, Copy, Debug)]
 struct Pending {
     // as it is now
@@ -70,7 +70,7 @@ impl<S: Sequence> Sequence for Deferred<S> {
             }
         }
         tell(&mut self.list, self.pending.take());
-        self.pending = defer(&mut self.list, item);
+        self.pending = Some(begin(&mut self.list, item));
     }
 
     fn get(&self, name: u32) -> Item {
@@ -146,6 +146,13 @@ impl Pending {
         list.weight() - self.told + self.item.weight
     }
 
+    // Whether the list has the weight of now.
+    fn is_told(self) -> bool
+        ensures { IsTrue result → self.told ≡ self.item.weight }
+    {
+        self.told == self.item.weight
+    }
+
     // The weight of the items of the list before one.
     fn weight_before<S: Sequence>(self, list: &S, name: u32) -> u32
         requires pending { IsPending self (S.items list.now) }
@@ -153,6 +160,9 @@ impl Pending {
         ensures { result ≡ weight_of (items_before name (renew self.item (S.items list.now))) }
     {
         let before = list.weight_before(name);
+        if self.is_told() {
+            return before;
+        }
         if list.is_before(self.item.name, name) {
             before - self.told + self.item.weight
         } else {
@@ -165,6 +175,9 @@ impl Pending {
         requires { IsPending self (S.items list.now) }
         ensures { result ≡ share_at unit (renew self.item (S.items list.now)) }
     {
+        if self.is_told() {
+            return list.share_at(unit);
+        }
         if unit >= self.weight(list) {
             return None;
         }
@@ -188,25 +201,25 @@ fn tell<S: Sequence>(list: &mut S, pending: Option<Pending>)
     requires { IsDeferred pending (S.items list.old) }
     ensures { S.items list.new ≡ items_now pending (S.items list.old) }
 {
-    if let Some(pending) = pending {
-        list.renew(pending.item);
+    let Some(pending) = pending else {
+        return;
+    };
+    if pending.is_told() {
+        return;
     }
+    list.renew(pending.item);
 }
 
-// Puts an item in place of the one of its name: the list is told only where the mark is another.
-fn defer<S: Sequence>(list: &mut S, item: Item) -> Option<Pending>
+// Puts an item in place of the one of its name. What changes of its weight may wait from then on.
+fn begin<S: Sequence>(list: &mut S, item: Item) -> Pending
     requires there { IsItem item.name (S.items list.old) }
     requires light { weight_of (renew item (S.items list.old)) < 2 ^ 32 }
-    ensures deferred { IsDeferred result (S.items list.new) }
-    ensures items { items_now result (S.items list.new) ≡ renew item (S.items list.old) }
+    ensures pending { IsPending result (S.items list.new) }
+    ensures items { renew result.item (S.items list.new) ≡ renew item (S.items list.old) }
 {
-    let old = list.get(item.name);
-    if old.marked != item.marked {
-        list.renew(item);
-        return None;
-    }
-    Some(Pending {
+    list.renew(item);
+    Pending {
         item,
-        told: old.weight,
-    })
+        told: item.weight,
+    }
 }

@@ -1,8 +1,13 @@
-use Rattle.std.proofs.Common.{◌-◌, ◌∙◌, List, arith}
+use Rattle.std.proofs.Common.{◌-◌, ◌∙◌, List, ap, arith}
 use Rattle.td_list.specs.declared.item.Item.{Item}
-use Rattle.td_list.specs.Items.{renew}
-use Rattle.td_list.proofs.Reweighed.{weight_now, share_before, share_within, share_behind, share_beyond}
+use Rattle.td_list.specs.Items.{renew, share_at}
+use Rattle.td_list.proofs.Reweighed.{told_all, weight_now, share_before, share_within, share_behind, share_beyond}
 use Rattle.td_list.proofs.deferred.Pending.share_at.Goals as goal
+
+pub returns-then-is_told : goal.returns-then-is_told
+returns-then-is_told g c =
+    let items : List Item = g.S.Sequence.items c.args.list.now in
+    c.share_at.ensures ∙ ap (share_at c.args.unit) (told_all c.args.self items c.requires (c.is_told.ensures c.if-is_told.true))
 
 pub returns-then-unit-weight : goal.returns-then-unit-weight
 returns-then-unit-weight g c =
@@ -12,7 +17,7 @@ returns-then-unit-weight g c =
 pub returns-then-unit-before : goal.returns-then-unit-before
 returns-then-unit-before g c =
     let items : List Item = g.S.Sequence.items c.args.list.now in
-    c.share_at.ensures ∙ share_before c.args.self items c.requires c.args.unit (omega (arith, c.weight_before-before.ensures, c.if-unit-before.true))
+    c.share_at-then-unit-before.ensures ∙ share_before c.args.self items c.requires c.args.unit (omega (arith, c.weight_before-before.ensures, c.if-unit-before.true))
 
 pub returns-then-rest-self : goal.returns-then-rest-self
 returns-then-rest-self g c =

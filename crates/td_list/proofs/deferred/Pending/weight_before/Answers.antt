@@ -1,10 +1,16 @@
-use Rattle.std.proofs.Common.{◌∙◌, List, sym, arith}
+use Rattle.std.proofs.Common.{◌∙◌, List, ap, sym, arith}
 use Rattle.std.proofs.lemmas.Bool.{ltb-true, ltb-false}
 use Rattle.td_list.specs.declared.item.Item.{Item}
-use Rattle.td_list.specs.Items.{place_of, renew}
-use Rattle.td_list.proofs.Reweighed.{before_same, before_more, before_told}
+use Rattle.td_list.specs.Items.{items_before, place_of, renew, weight_of}
+use Rattle.td_list.proofs.Reweighed.{told_all, before_same, before_more, before_told}
 use Rattle.td_list.proofs.Weights.{weight-before}
 use Rattle.td_list.proofs.deferred.Pending.weight_before.Goals as goal
+
+pub returns-then-is_told : goal.returns-then-is_told
+returns-then-is_told g c =
+    let items : List Item = g.S.Sequence.items c.args.list.now in
+    c.weight_before-before.ensures
+    ∙ ap (λ (all : List Item). weight_of (items_before c.args.name all)) (told_all c.args.self items c.requires.pending (c.is_told.ensures c.if-is_told.true))
 
 pub overflow_sub-result : goal.overflow_sub-result
 overflow_sub-result g c =
