@@ -2,8 +2,9 @@
 ghost use Rattle.std.specs.Prelude.{◌≡◌, ◌<◌, ◌≤◌, ◌+◌, ◌-◌, ◌++◌, ℕ, length, true, Some, IfOk, OnOk, OnErr};
 ghost use Rattle.std.specs.List.{slice_get};
 ghost use Rattle.td_base.specs.Lists.{In};
+ghost use Rattle.td_op.specs.declared.input.Input.TheVariants.{Next};
 ghost use Rattle.td_op.specs.declared.message.Message.{Message};
-ghost use Rattle.td_world.specs.World.{IsWorld, size, moved_all, is_for};
+ghost use Rattle.td_world.specs.World.{IsWorld, size, moved, moved_all, is_for};
 ghost use Rattle.td_world.specs.Calls.{is_wanted, nexts_after, give_moves, took, found_moves, found_given, numbered_moves, numbered_given, wanted_moves, wanted_given, wanted_answer, offered, offer_moves, give_all_moves, give_all_given, IsCutShort};
 ghost use Rattle.td_world.specs.Parts.{IsPassed, ArePassed};
 ghost use Rattle.td_world.specs.Promises.{NobodyReady, IsPromised};
@@ -13,7 +14,7 @@ use crate::world::World;
 use std::alloc::Global;
 use td_base::{Memory, Site};
 use td_doc::Doc;
-use td_op::{Input, Message};
+use td_op::{Input, Message, Reply};
 use td_replica::Given;
 
 impl<D: Doc> World<D> {
@@ -142,9 +143,19 @@ impl<D: Doc> World<D> {
             if !self.replica(site).ready() {
                 return Ok(k);
             }
-            self.step(site, &Input::Next)?;
+            self.take_next(site)?;
         }
         Ok(waiting)
+    }
+
+    // The site takes the next of what waits there.
+    fn take_next(&mut self, site: Site) -> Result<Reply, Memory>
+        requires { site ≤ size self.old }
+        ensures ok { OnOk result (self.new ≡ moved (record { site = site; input = Next }) self.old) }
+        ensures err { OnErr result (self.new ≡ self.old) }
+        ensures world { IsWorld self.new }
+    {
+        self.step(site, &Input::Next)
     }
 
     // Gives a site each message that `give_all` gives it, and answers how many these are.

@@ -11,8 +11,8 @@ replica-requires-in-loop-k g c =
     doing_size _ _ c.args.self.now c.loop-k.self c.loop-k.invariant.0.doing in
     omega (arith, same, c.requires)
 
-pub step-requires-clause-within : goal.step-requires-clause-within
-step-requires-clause-within g c =
+pub take_next-requires : goal.take_next-requires
+take_next-requires g c =
     let same : size c.loop-k.self ≡ size c.args.self.now =
     doing_size _ _ c.args.self.now c.loop-k.self c.loop-k.invariant.0.doing in
     omega (arith, same, c.requires)
@@ -30,8 +30,8 @@ loop-k-preserved g c =
     let on : is_ready (machine_of c.loop-k.self c.args.site) ≡ true =
     ap (λ (r : ReplicaValue). is_ready r.machine) (sym c.replica-in-loop-k.ensures.replica) ∙ sym c.ready.ensures
     ∙ c.if-not-ready.false in (
-      going_more c.args.site c.waiting-waiting.result c.loop-k.k c.args.self.now c.loop-k.self c.step.new.self
-          c.loop-k-test.true c.loop-k.invariant.0 on c.in_ok-step.ensures.ok,
-      c.in_ok-step.ensures.world,
+      going_more c.args.site c.waiting-waiting.result c.loop-k.k c.args.self.now c.loop-k.self c.take_next.new.self
+          c.loop-k-test.true c.loop-k.invariant.0 on c.in_ok-take_next.ensures.ok,
+      c.in_ok-take_next.ensures.world,
       c.loop-k.invariant.2,
     )
