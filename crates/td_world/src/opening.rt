@@ -67,10 +67,13 @@ impl<D: Doc> World<D> {
 fn post_all(posts: &mut Vec<Post>, site: Site, count: u64) -> Result<(), Memory>
     ensures ok { OnOk result (posts.new.items ≡ posts.old.items ++ new_posts site count 0) }
 {
+    if count > u64::from(u32::MAX) {
+        return Err(Memory);
+    }
     for number in 0..count {
         posts.push(Post {
             site,
-            number: number + 1,
+            number: number as u32 + 1,
         })?;
     }
     Ok(())

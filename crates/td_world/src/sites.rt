@@ -1,5 +1,5 @@
 // The replicas of the sites, that of site s at place s - 1.
-ghost use Rattle.std.specs.Prelude.{◌≡◌, ◌<◌, ◌≤◌, ◌+◌, ◌-◌, length, set, IfOk, OnErr, OnOk, vec_len};
+ghost use Rattle.std.specs.Prelude.{◌≡◌, ◌<◌, ◌≤◌, ◌+◌, ◌-◌, ◌^◌, length, set, IfOk, OnErr, OnOk, vec_len};
 ghost use Rattle.td_base.specs.declared.site.TheConstants.{MAX_SITE};
 ghost use Rattle.td_replica.specs.Replica.{after_step};
 ghost use Rattle.td_world.specs.World.{replica_from};
@@ -38,6 +38,7 @@ pub fn step_of<D: Doc>(
     ensures ok { OnOk result (replicas.new.items
         ≡ set replicas.old.items (site - 1) (after_step input.now (replica_from replicas.old.items (site - 1)))) }
     ensures err { OnErr result (replicas.new.items ≡ replicas.old.items) }
+    ensures few { IfOk result (λ done. done.before + 2 < 2 ^ 32) }
 {
     step_one(&mut replicas[place_of(site)], input)
 }
@@ -46,8 +47,12 @@ fn step_one<D: Doc>(replica: &mut Replica<D>, input: &Input) -> Result<Done, Mem
     ensures done { IfOk result (λ done. IsDone replica.old input.now done) }
     ensures ok { OnOk result (replica.new ≡ after_step input.now replica.old) }
     ensures err { OnErr result (replica.new ≡ replica.old) }
+    ensures few { IfOk result (λ done. done.before + 2 < 2 ^ 32) }
 {
     let before = replica.sent();
+    if before > MOST_SENT {
+        return Err(Memory);
+    }
     let reply = replica.step_on(input)?;
     Ok(Done {
         reply,
@@ -55,6 +60,10 @@ fn step_one<D: Doc>(replica: &mut Replica<D>, input: &Input) -> Result<Done, Mem
         after: replica.sent(),
     })
 }
+
+// So many messages a site may have sent where it takes a step, so that what it sends then has a number too. It never
+// sends as many (`Post`).
+const MOST_SENT: u64 = u32::MAX as u64 - 2;
 
 /// Where the replica of a site stands.
 pub fn place_of(site: Site) -> usize

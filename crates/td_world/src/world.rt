@@ -1,4 +1,4 @@
-ghost use Rattle.std.specs.Prelude.{◌≡◌, ◌<◌, ◌≤◌, ◌+◌, ◌-◌, ◌++◌, ℕ, length, map, true, false, vec_len, vec_capacity, IfOk, OnOk, OnErr, IfSome, IsTrue, Some};
+ghost use Rattle.std.specs.Prelude.{◌≡◌, ◌<◌, ◌≤◌, ◌+◌, ◌-◌, ◌^◌, ◌++◌, ℕ, length, map, true, false, vec_len, vec_capacity, IfOk, OnOk, OnErr, IfSome, IsTrue, Some};
 ghost use Rattle.std.specs.List.{slice_get};
 ghost use Rattle.std.specs.Option.{option_map};
 ghost use Rattle.td_base.specs.declared.site.TheConstants.{MAX_SITE};
@@ -154,7 +154,9 @@ fn message_of<D: Doc>(replicas: &[Replica<D>], post: &Post) -> Option<Message>
     ensures message { result ≡ posted replicas.now post.now }
     ensures some { 1 ≤ post.now.site }
 {
-    replicas.get(place_of(post.site))?.sent_at(post.number)
+    replicas
+        .get(place_of(post.site))?
+        .sent_at(u64::from(post.number))
 }
 
 // The site that sent the message.
@@ -171,12 +173,13 @@ fn sender(message: &Message) -> Site
 fn post(posts: &mut Vec<Post>, site: Site, before: u64, after: u64)
     requires order { before ≤ after }
     requires room { vec_len posts.old + (after - before) ≤ vec_capacity posts.old }
+    requires few { after < 2 ^ 32 }
     ensures { posts.new.items ≡ posts.old.items ++ new_posts site (after - before) before }
 {
     for number in before..after {
         posts.push_reserved(Post {
             site,
-            number: number + 1,
+            number: number as u32 + 1,
         });
     }
 }

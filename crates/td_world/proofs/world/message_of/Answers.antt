@@ -1,4 +1,4 @@
-use Rattle.std.proofs.Common.{◌≤◌, length, ap, ◌∙◌, arith}
+use Rattle.std.proofs.Common.{◌≡◌, ◌≤◌, length, ap, ◌∙◌, arith, ℕ}
 use Rattle.td_history.specs.Past.{kth}
 use Rattle.td_replica.specs.Replica.{ReplicaValue}
 use Rattle.td_world.specs.World.{replica_from}
@@ -10,7 +10,9 @@ pub returns-clause-message : goal.returns-clause-message
 returns-clause-message g c =
     let within : c.args.post.now.site ≤ length c.args.replicas.now =
     omega (arith, c.place_of.ensures.place, c.place_of.ensures.least, c.in_ok-get.ensures.lookup.3.0) in
-    c.sent_at.ensures
+    let same : c.from.result ≡ c.args.post.now.number = c.from.ensures in
+    let at = ap (λ (k : ℕ). kth k c.in_ok-get.field-0.now.machine.sent) same in
+    c.sent_at.ensures ∙ at
     ∙ ap (λ (r : ReplicaValue). kth c.args.post.now.number r.machine.sent)
     (at_site c.args.replicas.now c.args.post.now.site c.place_of.result c.in_ok-get.field-0.now c.place_of.ensures.place
     c.place_of.ensures.least within c.in_ok-get.ensures.lookup.1)

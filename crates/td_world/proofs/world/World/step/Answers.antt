@@ -22,6 +22,13 @@ post-requires-clause-room g c =
     let few : length (step m c.args.input.now).machine.sent ≤ length m.sent + 2 = step_few m c.args.input.now in
     omega (arith, d.before, d.after, few, c.in_ok-reserve.ensures.ok)
 
+pub post-requires-clause-few : goal.post-requires-clause-few
+post-requires-clause-few g c =
+    let m = (replica_from c.self.inside.replicas.items (c.args.site - 1)).machine in
+    let d = c.in_ok-done.ensures.done in
+    let few : length (step m c.args.input.now).machine.sent ≤ length m.sent + 2 = step_few m c.args.input.now in
+    omega (arith, d.before, d.after, few, c.in_ok-done.ensures.few)
+
 kept : (g : Over) (c : goal.After-look_again g)
     → IsKept (world_value c.self.inside.replicas.items c.self.inside.posts.items)
     (record { site = c.args.site; input = c.args.input.now }) c.step_of.new.replicas.items c.post.new.posts.items
