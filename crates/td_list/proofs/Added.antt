@@ -3,8 +3,7 @@ use Rattle.std.proofs.Common.{◌≡◌, ◌≢◌, ◌+◌, ◌-◌, ◌<◌, �
 use Rattle.std.proofs.lemmas.List.{get_or-set_same, get_or-set_other, length-set, length_push, get_or_append_left, get_or_default}
 use Rattle.td_base.specs.Lists.{In, Successive}
 use Rattle.td_base.proofs.Lists.{In-append, In-front, In-back, In-map, all_of, across, successive_front, successive_append}
-use Rattle.td_list.specs.declared.item.Item.{Item}
-use Rattle.td_list.specs.Items.{names, IsItem, AreApart, AreNew, without, weight_of}
+use Rattle.td_list.specs.Items.{Item, names, IsItem, AreApart, AreNew, without, weight_of}
 use Rattle.td_list.specs.Index.{Parts, chunk_at, joined, all_items, chunks_before, chunks_after, summary, AreHomes, IsChunk, IsIndex}
 use Rattle.td_list.proofs.Names.{weight-append, item-append, item-front, item-back, apart-ends, apart-append, apart-front, apart-back, apart-parts}
 use Rattle.td_list.proofs.Distinct.{In_at}
@@ -109,7 +108,7 @@ module _ (p : Parts) (index : IsIndex p) where
     counted = let h = index.counted in let l = length_push p.chunks [] in let n = length_push p.free (length p.chunks) in omega arith;
     roomy = let l = length_push p.chunks [] in omega arith;
     few = let l = length_push p.chunks [] in omega arith;
-    light = subst (λ (xs : List Item). weight_of xs < 2 ^ 32) (sym (spared_all [])) index.light;
+    light = subst (λ (xs : List Item). weight_of xs < 2 ^ 31) (sym (spared_all [])) index.light;
   }
     where
       clash : (a b : ℕ) → a < b → a ≡ b → ⊥
@@ -137,7 +136,7 @@ module _ (p : Parts) (index : IsIndex p) where
     counted = let h = index.counted in let l = length_push p.chunks [] in omega arith;
     roomy = let l = length_push p.chunks [] in omega arith;
     few = let l = length_push p.chunks [] in omega arith;
-    light = subst (λ (xs : List Item). weight_of xs < 2 ^ 32) (sym (spared_all [])) index.light;
+    light = subst (λ (xs : List Item). weight_of xs < 2 ^ 31) (sym (spared_all [])) index.light;
   }
 
 -- a new chunk in the order, between a front and a back
@@ -174,7 +173,7 @@ module _ (p : Parts) (index : IsIndex p) (front back : List Item) (is : p.order 
 
   pub added_index : (next : List ℕ) → 0 < length new → AreApart new → AreNew new (all_items p) → AreHomes d new next
       → ((x : ℕ) → x < length p.homes → (x < length next) × ((IsItem x new → ⊥) → get_or next x 0 ≡ get_or p.homes x 0))
-      → weight_of (all_items p) + weight_of new < 2 ^ 32 → IsIndex (record p { chunks = set p.chunks d new; order = order_with; homes = next; free = rest })
+      → weight_of (all_items p) + weight_of new < 2 ^ 31 → IsIndex (record p { chunks = set p.chunks d new; order = order_with; homes = next; free = rest })
   added_index next filled apart fresh home kept light = record {
     each = λ i m. ⊎_elim (λ (k : In i front). other i (in_front i k) (λ e. not_in_front (item_named p index i front d k e)))
         (λ (k : In i (summary d new ∷ back)). ⊎_elim (λ (e : i ≡ summary d new). subst (IsChunk (set p.chunks d new) next) (sym e) here)

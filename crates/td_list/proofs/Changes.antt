@@ -2,8 +2,7 @@
 use Rattle.std.proofs.Common.{◌≡◌, ◌≢◌, ◌⊎◌, ◌+◌, ◌-◌, ◌<◌, ◌≤◌, ◌^◌, ℕ, zero, suc, List, [], ◌∷◌, ◌++◌, length, take, drop, get_or, set, refl, sym, ap, ◌∙◌, subst, inl, inr, ⊎_elim, arith, append_assoc, take-append-drop, length-append, length-drop}
 use Rattle.std.proofs.lemmas.List.{length-take-le, drop-drop, get_or_default, get_or-set_same}
 use Rattle.td_base.specs.Lists.{In, Successive}
-use Rattle.td_list.specs.declared.item.Item.{Item}
-use Rattle.td_list.specs.Items.{names, IsItem, AreApart, AreNew, weight_of}
+use Rattle.td_list.specs.Items.{Item, names, IsItem, AreApart, AreNew, weight_of}
 use Rattle.td_list.specs.Index.{Parts, chunk_at, all_items, chunks_before, chunks_after, IsIndex}
 use Rattle.td_list.specs.Places.{nothing}
 use Rattle.td_list.proofs.Names.{weight-append, item-append, item-front, item-back, item_in_front, item_in_back, apart-parts, apart-front, apart-back, apart-append, apart-between}
@@ -63,7 +62,7 @@ module _ (p : Parts) (index : IsIndex p) (c : ℕ) (there : IsItem c p.order) wh
 
   -- items that were there
   pub fewer : (new : List Item) → 0 < length new → AreApart new → ((x : ℕ) → IsItem x new → IsItem x old)
-      → weight_of (chunks_before c p ++ new ++ chunks_after c p) < 2 ^ 32 → IsIndex (now new)
+      → weight_of (chunks_before c p ++ new ++ chunks_after c p) < 2 ^ 31 → IsIndex (now new)
   fewer new filled apart sub light =
       changed_index p index c there new p.homes filled apart (λ x i. homed p index c there x (sub x i)) (λ x h. (h, λ n. refl))
       (λ x i j. ⊎_elim (λ (k : IsItem x (chunks_before c p)). not_before p index c there x k (sub x i)) (λ (k : IsItem x (chunks_after c p)). not_after p index c there x k (sub x i))
@@ -88,7 +87,7 @@ module _ (p : Parts) (index : IsIndex p) (c : ℕ) (there : IsItem c p.order) wh
   pub chunk_light : weight_of old ≤ weight_of (all_items p)
   chunk_light = let e = weight_around [] in let f = weight-append (chunks_before c p ++ []) (chunks_after c p) in omega arith
 
-  pub cut_light : (from to : ℕ) → from ≤ to → weight_of (chunks_before c p ++ (take from old ++ drop to old) ++ chunks_after c p) < 2 ^ 32
+  pub cut_light : (from to : ℕ) → from ≤ to → weight_of (chunks_before c p ++ (take from old ++ drop to old) ++ chunks_after c p) < 2 ^ 31
   cut_light from to h =
       let e = weight_around (take from old ++ drop to old) in
       let f = weight-cut from to old h in
@@ -155,7 +154,7 @@ module _ (p : Parts) (index : IsIndex p) (c : ℕ) (there : IsItem c p.order) wh
     pub splice_index : (next : List ℕ) → 0 < from + length piece + (length old - to) → AreApart piece → IsFreshPiece
         → ((x : ℕ) → IsItem x piece → (x < length next) × (get_or next x 0 ≡ c))
         → ((x : ℕ) → x < length p.homes → (x < length next) × ((IsItem x piece → ⊥) → get_or next x 0 ≡ get_or p.homes x 0))
-        → weight_of (all_items p) + weight_of piece < 2 ^ 32
+        → weight_of (all_items p) + weight_of piece < 2 ^ 31
         → IsIndex (record p { chunks = set p.chunks c spliced; order = order_now p index c there spliced; homes = next })
     splice_index next filled a f settled kept light =
         changed_index p index c there spliced next (spliced_filled filled) (spliced_apart a f)
@@ -175,7 +174,7 @@ module _ (p : Parts) (index : IsIndex p) (c : ℕ) (there : IsItem c p.order) wh
 
   -- another item of the same name at a place
   pub renewed_index : (place : ℕ) (i : Item) → place < length old → i.name ≡ (get_or old place nothing).name
-      → weight_of (chunks_before c p ++ (take place old ++ i ∷ drop (place + 1) old) ++ chunks_after c p) < 2 ^ 32 → IsIndex (now (take place old ++ i ∷ drop (place + 1) old))
+      → weight_of (chunks_before c p ++ (take place old ++ i ∷ drop (place + 1) old) ++ chunks_after c p) < 2 ^ 31 → IsIndex (now (take place old ++ i ∷ drop (place + 1) old))
   renewed_index place i below named light =
       let same = names_renewed old place i below named in
       fewer (take place old ++ i ∷ drop (place + 1) old) (let e = length_renewed old place i below in omega arith)

@@ -2,9 +2,8 @@
 use Rattle.std.proofs.Common.{◌≡◌, ◌≢◌, ◌<◌, ◌≤◌, ℕ, zero, suc, List, [], ◌∷◌, length, get_or, refl, sym, ap, ◌∙◌, subst, inl, inr, ⊎_elim, arith}
 use Rattle.td_base.specs.Lists.{In, Successive}
 use Rattle.td_base.proofs.Lists.{all_in, all_of}
-use Rattle.td_list.specs.declared.item.Item.{Item}
+use Rattle.td_list.specs.Items.{Item, names, IsItem, AreApart, place_of}
 use Rattle.std.proofs.lemmas.Bool.{cases_lt}
-use Rattle.td_list.specs.Items.{names, IsItem, AreApart, place_of}
 use Rattle.td_list.specs.Places.{nothing}
 use Rattle.td_list.proofs.Names.{item_at}
 use Rattle.td_list.proofs.Parted.{name_there, place_below}

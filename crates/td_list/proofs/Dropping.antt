@@ -2,8 +2,7 @@
 use Rattle.std.proofs.Common.{◌≡◌, ◌≢◌, ◌<◌, ℕ, List, [], ◌∷◌, ◌++◌, length, take, drop, set, refl, sym, ap, ◌∙◌, subst, inl, inr, ⊎_elim, arith, append_assoc, length-append, Option, Some, None}
 use Rattle.std.proofs.lemmas.List.{get_or-set_other, append-nil}
 use Rattle.std.specs.Option.{ForSome}
-use Rattle.td_list.specs.declared.item.Item.{Item}
-use Rattle.td_list.specs.Items.{IsItem, AreApart, items_before, items_from, items_after, items_from_end, first_name, without}
+use Rattle.td_list.specs.Items.{Item, IsItem, AreApart, items_before, items_from, items_after, items_from_end, first_name, without}
 use Rattle.td_list.specs.Index.{Parts, chunk_at, IsIndex}
 use Rattle.td_list.proofs.Names.{item-append, item-front, item-back, apart-parts, apart-back}
 use Rattle.td_list.proofs.Parted.{Parted, parted, before_is, from_is, before_at, after_at, from_at}

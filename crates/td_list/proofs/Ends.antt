@@ -1,8 +1,7 @@
 -- The first and the last item of a list.
 use Rattle.std.proofs.Common.{◌≡◌, ◌-◌, ◌<◌, ℕ, suc, List, [], ◌∷◌, ◌++◌, length, drop, refl, ap, ◌∙◌, arith, zero, get_or, Some}
-use Rattle.td_list.specs.declared.item.Item.{Item}
+use Rattle.td_list.specs.Items.{Item, first_name, last_name}
 use Rattle.td_list.specs.Places.{nothing}
-use Rattle.td_list.specs.Items.{first_name, last_name}
 
 pub last_at : (items : List Item) → first_name (drop (length items - 1) items) ≡ last_name items
 last_at [] = refl

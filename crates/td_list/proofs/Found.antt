@@ -3,9 +3,8 @@ use Rattle.std.proofs.Common.{◌≡◌, ◌+◌, ◌-◌, ◌<◌, ◌≤◌, �
 use Rattle.std.proofs.lemmas.Bool.{cases_lt, lt-ltb, le-ltb, ltb-true, ltb-false}
 use Rattle.std.proofs.lemmas.List.{append-nil}
 use Rattle.td_base.specs.Lists.{In}
-use Rattle.td_list.specs.declared.item.Item.{Item}
+use Rattle.td_list.specs.Items.{Item, IsItem, items_after, first_name, last_name, first_marked, has_mark, share_at, weight_of}
 use Rattle.td_list.specs.declared.item.Share.{Share}
-use Rattle.td_list.specs.Items.{IsItem, items_after, first_name, last_name, first_marked, has_mark, share_at, weight_of}
 use Rattle.td_list.specs.Index.{Parts, chunk_at, joined, summary, IsIndex}
 use Rattle.td_list.proofs.Names.{item-back}
 use Rattle.td_list.proofs.Parted.{after_is}

@@ -3,8 +3,7 @@ use Rattle.std.proofs.Common.{◌≡◌, ◌≢◌, ◌<◌, ◌^◌, ℕ, suc, 
 use Rattle.std.proofs.lemmas.List.{get_or-set_same, get_or-set_other, length-set}
 use Rattle.td_base.specs.Lists.{In, Successive}
 use Rattle.td_base.proofs.Lists.{In-append, In-front, In-back, In-map}
-use Rattle.td_list.specs.declared.item.Item.{Item}
-use Rattle.td_list.specs.Items.{names, IsItem, AreApart, items_before, items_after, renew, weight_of}
+use Rattle.td_list.specs.Items.{Item, names, IsItem, AreApart, items_before, items_after, renew, weight_of}
 use Rattle.td_list.specs.Index.{Parts, chunk_at, joined, all_items, chunks_before, chunks_after, summary, AreHomes, IsChunk, IsIndex}
 use Rattle.td_list.proofs.Names.{weight-append, item-append, item-front, item-back}
 use Rattle.td_list.proofs.Parted.{Parted, parted, before_is, after_is, not_behind}
@@ -165,7 +164,7 @@ module _ (p : Parts) (index : IsIndex p) where
       pub changed_index : (next : List ℕ) → 0 < length new → AreApart new → AreHomes c new next
           → ((x : ℕ) → x < length p.homes → (x < length next) × ((IsItem x new → ⊥) → get_or next x 0 ≡ get_or p.homes x 0))
           → ((x : ℕ) → IsItem x new → IsItem x (chunks_before c p ++ chunks_after c p) → ⊥)
-          → weight_of (chunks_before c p ++ new ++ chunks_after c p) < 2 ^ 32
+          → weight_of (chunks_before c p ++ new ++ chunks_after c p) < 2 ^ 31
           → IsIndex (record p { chunks = set p.chunks c new; order = order_now; homes = next })
       changed_index next filled apart home_now kept fresh light = record {
         each = λ i m. ⊎_elim (λ (f : In i q.front). other i (front_in i f) (λ e. q.away (named_in i q.front f e))
@@ -181,7 +180,7 @@ module _ (p : Parts) (index : IsIndex p) where
         counted = let h = index.counted in let e = changed_length in let l = length-set p.chunks c new in omega arith;
         roomy = let h = index.roomy in let l = length-set p.chunks c new in omega arith;
         few = let h = index.few in let l = length-set p.chunks c new in omega arith;
-        light = subst (λ (xs : List Item). weight_of xs < 2 ^ 32) (sym changed_all) light;
+        light = subst (λ (xs : List Item). weight_of xs < 2 ^ 31) (sym changed_all) light;
       }
         where
           named_in : (i : Item) (order : List Item) → In i order → i.name ≡ c → IsItem c order

@@ -2,8 +2,7 @@
 use Rattle.std.proofs.Common.{◌≡◌, ◌+◌, ◌<◌, ◌≤◌, ℕ, List, ◌++◌, length, take, get_or, set, sym, ap, ◌∙◌, subst, ⊎_elim, arith}
 use Rattle.std.proofs.lemmas.List.{get_or-set_same, get_or-set_other, get_or-take, get_or_append_left, length-take-le, length-set}
 use Rattle.std.proofs.lemmas.Bool.{cases_eq}
-use Rattle.td_list.specs.declared.item.Item.{Item}
-use Rattle.td_list.specs.Items.{names, IsItem, AreApart, place_of}
+use Rattle.td_list.specs.Items.{Item, names, IsItem, AreApart, place_of}
 use Rattle.td_list.specs.Places.{nothing, ArePlaces}
 use Rattle.td_list.proofs.Parted.{place_below, name_there}
 use Rattle.td_list.proofs.Distinct.{successive_of, differ, name_at, names_counted}

@@ -1,8 +1,7 @@
 -- Whether an item of a list is marked, where the list is changed at a place.
 use Rattle.std.proofs.Common.{not, true≢false, ◌≡◌, ◌<◌, ℕ, zero, suc, length, get_or, set, arith, List, [], ◌∷◌, ◌++◌, Bool, true, false, ◌||◌, take, drop, refl, sym, ap, ◌∙◌, take-append-drop}
 use Rattle.std.proofs.Math.Bool.{beq}
-use Rattle.td_list.specs.declared.item.Item.{Item}
-use Rattle.td_list.specs.Items.{has_mark}
+use Rattle.td_list.specs.Items.{Item, has_mark}
 
 or_assoc : (a b c : Bool) → (a || b) || c ≡ a || (b || c)
 or_assoc true b c = refl

@@ -4,8 +4,7 @@ use Rattle.std.proofs.lemmas.List.{map-append, take_more, get_or-set_same, get_o
 use Rattle.std.proofs.lemmas.Bool.{cases_eq}
 use Rattle.td_base.specs.Lists.{In, Successive}
 use Rattle.td_base.proofs.Lists.{In-append, In-front, In-back, across, successive_front, successive_back, successive_append}
-use Rattle.td_list.specs.declared.item.Item.{Item}
-use Rattle.td_list.specs.Items.{names, IsItem, AreApart, AreNew, weight_of}
+use Rattle.td_list.specs.Items.{Item, names, IsItem, AreApart, AreNew, weight_of}
 use Rattle.td_list.specs.Places.{nothing}
 
 pub weight-append : (xs ys : List Item) → weight_of (xs ++ ys) ≡ weight_of xs + weight_of ys

@@ -3,8 +3,7 @@ use Rattle.std.proofs.Common.{◌≡◌, ◌≢◌, ◌+◌, ◌<◌, ℕ, List,
 use Rattle.std.proofs.lemmas.List.{take_at, drop_at, get_or_at, length_push}
 use Rattle.std.proofs.lemmas.Bool.{eqb-true, eq-eqb, cases_Bool}
 use Rattle.td_base.proofs.Lists.{all_in}
-use Rattle.td_list.specs.declared.item.Item.{Item}
-use Rattle.td_list.specs.Items.{names, IsItem, AreApart, is_named, items_before, items_from, items_after, place_of}
+use Rattle.td_list.specs.Items.{Item, names, IsItem, AreApart, is_named, items_before, items_from, items_after, place_of}
 use Rattle.td_list.specs.Places.{nothing}
 use Rattle.td_list.proofs.Names.{apart-back}
 

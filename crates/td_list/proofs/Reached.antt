@@ -2,8 +2,7 @@
 use Rattle.std.proofs.Common.{◌≡◌, ◌+◌, ◌≤◌, ℕ, List, [], ◌∷◌, ◌++◌, set, sym, ap, ◌∙◌, subst, inl, inr, arith, Option, None}
 use Rattle.std.proofs.lemmas.List.{get_or-set_other, get_or-set_same}
 use Rattle.std.specs.Option.{ForSome}
-use Rattle.td_list.specs.declared.item.Item.{Item}
-use Rattle.td_list.specs.Items.{IsItem, AreApart, items_before, items_from, items_after, items_from_end, renew, weight_of}
+use Rattle.td_list.specs.Items.{Item, IsItem, AreApart, items_before, items_from, items_after, items_from_end, renew, weight_of}
 use Rattle.td_list.specs.Index.{Parts, chunk_at, joined, all_items, chunks_before, chunks_after, summary, IsIndex}
 use Rattle.td_list.proofs.Names.{weight-append, item-front, item-back, apart-parts, apart-back}
 use Rattle.td_list.proofs.Parted.{Parted, parted, before_is, from_is, after_is, before_at, after_at}

@@ -3,9 +3,8 @@ use Rattle.std.proofs.Common.{◌≡◌, ◌+◌, ◌-◌, ◌<◌, ◌≤◌, �
 use Rattle.std.proofs.lemmas.List.{map-append, append-nil}
 use Rattle.std.proofs.lemmas.Bool.{lt-ltb}
 use Rattle.td_base.specs.Lists.{In}
-use Rattle.td_list.specs.declared.item.Item.{Item}
+use Rattle.td_list.specs.Items.{Item, names, IsItem, is_named, items_before, items_from, items_after, place_of, renew, first_name, last_name, first_marked, share_at, weight_of}
 use Rattle.td_list.specs.declared.deferred.Pending.{Pending}
-use Rattle.td_list.specs.Items.{names, IsItem, is_named, items_before, items_from, items_after, place_of, renew, first_name, last_name, first_marked, share_at, weight_of}
 use Rattle.td_list.specs.Deferred.{items_now, IsPending, IsDeferred}
 use Rattle.td_list.proofs.Names.{weight-append, item-back}
 use Rattle.td_list.proofs.Parted.{Parted, parted, not_named, before_at, from_at, after_at, before_is, from_is, after_is, place_is, take_place}
@@ -130,7 +129,7 @@ renew_again i j items e there =
     is = λ k. before_is j.name items there k ++ j ∷ after_is j.name items there k
 
 -- an item that the list was just told
-pub just_told : (i : Item) (items all : List Item) → IsItem i.name items → weight_of (renew i items) < 2 ^ 32 → all ≡ renew i items
+pub just_told : (i : Item) (items all : List Item) → IsItem i.name items → weight_of (renew i items) < 2 ^ 31 → all ≡ renew i items
     → IsPending (record { item = i; told = i.weight }) all × (renew i all ≡ renew i items)
 just_told i items all there light e =
     let q = parted i.name items there in
@@ -141,7 +140,7 @@ just_told i items all there light e =
         is =
             ap (items_from i.name) is ∙ from_at i.name q.front i q.back refl q.away
             ∙ (λ k. i ∷ sym (ap (items_after i.name) is ∙ after_at i.name q.front i q.back refl q.away) k);
-        light = subst (λ (n : ℕ). n < 2 ^ 32) (ap weight_of (sym again)) light;
+        light = subst (λ (n : ℕ). n < 2 ^ 31) (ap weight_of (sym again)) light;
       },
       again,
     )
@@ -285,9 +284,11 @@ alike_now (Some p) items all is e = alike p items is ∙ ap unweighed e
 
 -- an item that is pending gets another weight
 pub pending_again : (o : Option Pending) (p : Pending) (items all : List Item) → o ≡ Some p → IsDeferred o items → items_now o items ≡ all
-    → (i : Item) → p.item.name ≡ i.name → p.item.marked ≡ i.marked → weight_of (renew i all) < 2 ^ 32
-    → IsPending (record p { item = record p.item { weight = i.weight } }) items × (renew (record p.item { weight = i.weight }) items ≡ renew i all)
+    → (i : Item) → p.item.name ≡ i.name → p.item.marked ≡ i.marked → weight_of (renew i all) < 2 ^ 31
+    → IsPending (record p { item = i }) items × (renew i items ≡ renew i all)
 pending_again o p items all some deferred e i n m light =
     let is : IsPending p items = subst (λ (o : Option Pending). IsDeferred o items) some deferred in
     let again = renewed p items is i n m ∙ ap (renew i) (ap (λ (o : Option Pending). items_now o items) (sym some) ∙ e) in
-    (record { there = is.there; is = is.is; light = subst (λ (n : ℕ). n < 2 ^ 32) (ap weight_of (sym again)) light }, again)
+    let same : record p.item { weight = i.weight } ≡ i = λ k. record { name = n k; weight = i.weight; marked = m k } in
+    subst (λ (j : Item). IsPending (record p { item = j }) items × (renew j items ≡ renew i all)) same
+    (record { there = is.there; is = is.is; light = subst (λ (n : ℕ). n < 2 ^ 31) (ap weight_of (sym again)) light }, again)

@@ -2,8 +2,7 @@
 use Rattle.std.proofs.Common.{◌≡◌, ◌+◌, ◌<◌, ◌≤◌, ℕ, zero, suc, List, [], ◌∷◌, ◌++◌, length, take, drop, get_or, nat_lt, refl, sym, ap, ◌∙◌, subst, ⊎_elim, arith, append_assoc, length-append, take-append-drop, inl, inr, Some, None}
 use Rattle.std.proofs.lemmas.List.{append-nil, drop_all, take_all}
 use Rattle.std.proofs.lemmas.Bool.{cases_lt, lt-ltb, le-ltb}
-use Rattle.td_list.specs.declared.item.Item.{Item}
-use Rattle.td_list.specs.Items.{IsItem, items_before, items_from, items_after, place_of, weight_of, AreNew, put_before, renew, without, last_name}
+use Rattle.td_list.specs.Items.{Item, IsItem, items_before, items_from, items_after, place_of, weight_of, AreNew, put_before, renew, without, last_name}
 use Rattle.td_list.specs.Index.{Parts, chunk_at, joined, all_items, chunks_before, chunks_after, IsIndex}
 use Rattle.td_list.specs.Places.{nothing}
 use Rattle.td_list.proofs.Ends.{last-append}

@@ -4,8 +4,7 @@ use Rattle.std.proofs.lemmas.List.{get_or-set_same, length-take-le}
 use Rattle.std.proofs.lemmas.Bool.{cases_lt}
 use Rattle.td_base.specs.Lists.{In}
 use Rattle.td_base.proofs.Lists.{In-back}
-use Rattle.td_list.specs.declared.item.Item.{Item}
-use Rattle.td_list.specs.Items.{IsItem, AreApart, put_before, renew, items_before, items_after, weight_of}
+use Rattle.td_list.specs.Items.{Item, IsItem, AreApart, put_before, renew, items_before, items_after, weight_of}
 use Rattle.td_list.specs.Index.{Parts, chunk_at, joined, all_items, chunks_before, chunks_after, summary, IsIndex}
 use Rattle.td_list.proofs.Names.{weight-append, weight-parts, item-append, item-front, item-back, item_in_front, item_in_back, apart-parts, apart-front, apart-back}
 use Rattle.td_list.proofs.Parted.{before_is, from_is, before_at, after_at}
@@ -90,7 +89,7 @@ module _ (p : Parts) (index : IsIndex p) (c : ℕ) (there : IsItem c p.order) (d
       let t = ap (λ (j : Item). j.weight) (told p index c there) in
       omega arith
 
-  pub two_light : weight_of order_two < 2 ^ 32
+  pub two_light : weight_of order_two < 2 ^ 31
   two_light =
       let l = index.light in
       let all = all_weight p index in
@@ -100,7 +99,7 @@ module _ (p : Parts) (index : IsIndex p) (c : ℕ) (there : IsItem c p.order) (d
       let w = weight-append f (e ∷ (summary c second ∷ b)) in
       omega arith
 
-  pub three_light : weight_of order_three < 2 ^ 32
+  pub three_light : weight_of order_three < 2 ^ 31
   three_light =
       let l = index.light in
       let all = all_weight p index in

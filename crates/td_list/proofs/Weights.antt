@@ -1,8 +1,7 @@
 -- The weight of a list that is changed at a place.
 use Rattle.std.proofs.Common.{◌≡◌, ◌+◌, ◌<◌, ◌≤◌, ℕ, zero, suc, List, [], ◌∷◌, ◌++◌, length, take, drop, get_or, set, ◌-◌, refl, ap, ◌∙◌, arith}
 use Rattle.std.proofs.lemmas.List.{drop-drop}
-use Rattle.td_list.specs.declared.item.Item.{Item}
-use Rattle.td_list.specs.Items.{items_before, items_from, weight_of}
+use Rattle.td_list.specs.Items.{Item, items_before, items_from, weight_of}
 use Rattle.td_list.specs.Places.{nothing}
 use Rattle.td_list.proofs.Names.{weight-append, weight-parts}
 use Rattle.td_list.proofs.Parted.{parts}

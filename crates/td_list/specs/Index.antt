@@ -2,8 +2,7 @@
 -- each chunk, named by its number, with the weight of the chunk, and marked where one of its items is.
 use Rattle.std.specs.Prelude.{◌≡◌, ◌≢◌, ◌+◌, ◌<◌, ◌≤◌, ◌^◌, ℕ, List, [], ◌++◌, ◌∷◌, length, get_or}
 use Rattle.td_base.specs.Lists.{In, Successive}
-use Rattle.td_list.specs.declared.item.Item.{Item}
-use Rattle.td_list.specs.Items.{IsItem, AreApart, has_mark, weight_of, items_before, items_after}
+use Rattle.td_list.specs.Items.{Item, IsItem, AreApart, has_mark, weight_of, items_before, items_after}
 
 -- the parts of a list: the chunks by number, their order, the chunk of each item by its name, the numbers that no
 -- chunk has now, and for how many of these there is room
@@ -57,4 +56,4 @@ pub record IsIndex (p : Parts) : Type 0 where
   pub counted : length p.order + length p.free ≤ length p.chunks
   pub roomy : length p.chunks ≤ p.room
   pub few : length p.chunks < 2 ^ 32
-  pub light : weight_of (all_items p) < 2 ^ 32
+  pub light : weight_of (all_items p) < 2 ^ 31

@@ -1,8 +1,18 @@
 -- A list of named items with weights, and what is asked of it.
-use Rattle.std.specs.Prelude.{◌≢◌, ◌+◌, ◌-◌, ℕ, List, [], ◌∷◌, ◌++◌, Bool, false, ◌||◌, if◌then◌else◌, map, length, drop, nat_eq, nat_lt, Option, Some, None}
+use Rattle.std.specs.Prelude.{◌≢◌, ◌+◌, ◌-◌, ◌*◌, ℕ, List, [], ◌∷◌, ◌++◌, Bool, false, ◌||◌, if◌then◌else◌, map, length, drop, nat_eq, nat_lt, Option, Some, None}
 use Rattle.td_base.specs.Lists.{In, Successive}
-use Rattle.td_list.specs.declared.item.Item.{Item}
 use Rattle.td_list.specs.declared.item.Share.{Share}
+
+-- what contracts see of an item
+pub record Item : Type 0 where
+  pub name : ℕ
+  pub weight : ℕ
+  -- whether it is one of those that a search for marks stops at
+  pub marked : Bool
+
+-- a weight and a mark as one number
+abbrev pub load_of : ℕ → Bool → ℕ
+load_of weight marked = 2 * weight + (if marked then 1 else 0)
 
 abbrev pub names : List Item → List ℕ
 names items = map (λ (i : Item). i.name) items

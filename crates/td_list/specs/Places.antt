@@ -1,7 +1,6 @@
 -- How a short list keeps its items: in one line, with the place of each by its name.
 use Rattle.std.specs.Prelude.{◌≡◌, ◌<◌, ◌^◌, ℕ, List, length, get_or, false}
-use Rattle.td_list.specs.declared.item.Item.{Item}
-use Rattle.td_list.specs.Items.{weight_of}
+use Rattle.td_list.specs.Items.{Item, weight_of}
 
 abbrev pub nothing : Item
 nothing = record { name = 0; weight = 0; marked = false }
@@ -15,4 +14,4 @@ ArePlaces items places =
 pub record IsLine (items : List Item) (places : List ℕ) : Type 0 where
   pub each : ArePlaces items places
   pub few : length items < 2 ^ 32
-  pub light : weight_of items < 2 ^ 32
+  pub light : weight_of items < 2 ^ 31

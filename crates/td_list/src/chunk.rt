@@ -23,15 +23,15 @@ pub struct Chunk {
 }
 
 impl Model for Chunk {
-    ghost use Rattle.std.specs.Prelude.{◌≡◌, List};
-    ghost use Rattle.td_list.specs.declared.item.Item.{Item};
-    ghost use Rattle.td_list.specs.Items.{has_mark, weight_of};
+    ghost use Rattle.std.specs.Prelude.{◌≡◌, ◌<◌, ◌^◌, List};
+    ghost use Rattle.td_list.specs.Items.{Item, has_mark, weight_of};
 
     ghost Value = { List Item };
 
     ghost view = { λ c. c.items.items };
 
-    ghost invariant = { λ c. (c.weight ≡ weight_of c.items.items) × (c.marked ≡ has_mark c.items.items) };
+    ghost invariant = { λ c. (c.weight ≡ weight_of c.items.items) × (c.marked ≡ has_mark c.items.items)
+        × (c.weight < 2 ^ 31) };
 }
 
 impl Chunk {
@@ -48,7 +48,7 @@ impl Chunk {
 
     /// A chunk of these items.
     pub fn of(alloc: Global, items: &[Item]) -> Result<Chunk, Memory>
-        requires { weight_of items.now < 2 ^ 32 }
+        requires { weight_of items.now < 2 ^ 31 }
         ensures { IfOk result (λ chunk. chunk ≡ items.now) }
     {
         Ok(Chunk {
@@ -69,11 +69,7 @@ impl Chunk {
     pub fn summary(&self, number: u32) -> Item
         ensures { result ≡ summary number self.now }
     {
-        Item {
-            name: number,
-            weight: self.weight,
-            marked: self.marked,
-        }
+        Item::new(number, self.weight, self.marked)
     }
 
     /// The place of an item. It is looked for behind the last edit first.
@@ -93,7 +89,7 @@ impl Chunk {
     /// The weight of the items before a place, by these or by the others, whichever are fewer.
     pub fn weight_to(&self, place: usize) -> u32
         requires place { place ≤ length self.now }
-        requires light { weight_of self.now < 2 ^ 32 }
+        requires light { weight_of self.now < 2 ^ 31 }
         ensures { result ≡ weight_of (take place self.now) }
     {
         if place > self.items.len() / 2 {
@@ -106,7 +102,7 @@ impl Chunk {
     // Puts a piece at a place.
     fn put(&mut self, place: usize, piece: &[Item], aside: &mut Vec<Item>) -> Result<(), Memory>
         requires place { place ≤ length self.old }
-        requires light { weight_of self.old + weight_of piece.now < 2 ^ 32 }
+        requires light { weight_of self.old + weight_of piece.now < 2 ^ 31 }
         ensures ok { OnOk result (self.new ≡ take place self.old ++ piece.now ++ drop place self.old) }
         ensures err { OnErr result (self.new ≡ self.old) }
     {
@@ -127,7 +123,7 @@ impl Chunk {
     ) -> Result<(), Memory>
         requires from { from ≤ to }
         requires to { to ≤ length self.old }
-        requires light { weight_of self.old + weight_of piece.now < 2 ^ 32 }
+        requires light { weight_of self.old + weight_of piece.now < 2 ^ 31 }
         ensures ok { OnOk result (self.new ≡ take from self.old ++ piece.now ++ drop to self.old) }
         ensures err { OnErr result (self.new ≡ self.old) }
     {
@@ -149,7 +145,7 @@ impl Chunk {
     fn lay(&mut self, from: usize, to: usize, over: &[Item])
         requires long { from + length over.now ≡ to }
         requires within { to ≤ length self.old }
-        requires light { weight_of self.old + weight_of over.now < 2 ^ 32 }
+        requires light { weight_of self.old + weight_of over.now < 2 ^ 31 }
         ensures { self.new ≡ take from self.old ++ over.now ++ drop to self.old }
     {
         let gone = weight_of(&self.items[from..to]);
@@ -206,14 +202,14 @@ impl Chunk {
     /// Puts another item at a place.
     pub fn renew(&mut self, place: usize, item: Item)
         requires place { place < length self.old }
-        requires light { weight_of self.old + item.weight < 2 ^ 32 + (get_or self.old place nothing).weight }
+        requires light { weight_of self.old + item.weight < 2 ^ 31 + (get_or self.old place nothing).weight }
         ensures { self.new ≡ take place self.old ++ item ∷ drop (place + 1) self.old }
     {
         let old = self.items[place];
-        self.weight -= old.weight;
-        self.weight += item.weight;
+        self.weight -= old.weight();
+        self.weight += item.weight();
         self.items[place] = item;
-        if item.marked != old.marked {
+        if item.marked() != old.marked() {
             self.marked = has_mark(&self.items);
         }
         self.near = place;

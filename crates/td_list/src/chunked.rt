@@ -1,7 +1,6 @@
 ghost use Rattle.std.specs.Prelude.{◌≡◌, ◌<◌, ◌≤◌, ◌+◌, ◌^◌, ◌++◌, ◌∷◌, List, [], nat_lt, length, drop, Option, IfOk, OnOk, OnErr};
 ghost use Rattle.std.specs.Option.{ForSome};
-ghost use Rattle.td_list.specs.declared.item.Item.{Item};
-ghost use Rattle.td_list.specs.Items.{IsItem, AreApart, AreNew, items_before, items_from, items_after, items_from_end, put_before, replace, without, renew, place_of, first_name, last_name, first_marked, share_at, weight_of};
+ghost use Rattle.td_list.specs.Items.{Item, IsItem, AreApart, AreNew, items_before, items_from, items_after, items_from_end, put_before, replace, without, renew, place_of, first_name, last_name, first_marked, share_at, weight_of};
 ghost use Rattle.td_list.specs.Index.{all_items, chunk_at, chunks_before, chunks_after, IsIndex};
 
 use crate::deferred::Deferred;
@@ -27,7 +26,7 @@ pub struct Chunked<S: Sequence> {
 
 impl<S: Sequence> Model for Chunked<S> {
     ghost use Rattle.std.specs.Prelude.{List};
-    ghost use Rattle.td_list.specs.declared.item.Item.{Item};
+    ghost use Rattle.td_list.specs.Items.{Item};
     ghost use Rattle.td_list.specs.Index.{all_items, IsIndex};
 
     ghost Value = { List Item };
@@ -75,7 +74,7 @@ impl<S: Sequence> Sequence for Chunked<S> {
     }
 
     fn renew(&mut self, item: Item) {
-        let seat = self.index.seat(item.name);
+        let seat = self.index.seat(item.name());
         self.index.renew(seat.chunk, seat.place, item);
     }
 
@@ -102,7 +101,7 @@ impl<S: Sequence> Sequence for Chunked<S> {
         let seat = self.index.seat(name);
         let items = self.index.items_of(seat.chunk);
         if seat.place + 1 < items.len() {
-            return Some(items[seat.place + 1].name);
+            return Some(items[seat.place + 1].name());
         }
         self.index.head_after(seat.chunk)
     }
@@ -150,7 +149,7 @@ impl<S: Sequence> Chunked<S> {
         requires end { ForSome end (λ x. IsItem x self.old × (place_of first self.old ≤ place_of x self.old)) }
         requires apart { AreApart piece.now }
         requires new { AreNew piece.now (items_before first self.old ++ items_from_end end self.old) }
-        requires light { weight_of self.old + weight_of piece.now < 2 ^ 32 }
+        requires light { weight_of self.old + weight_of piece.now < 2 ^ 31 }
         ensures ok { OnOk result (self.new ≡ replace first end piece.now self.old) }
         ensures err { OnErr result (self.new ≡ self.old) }
     {
@@ -174,7 +173,7 @@ impl<S: Sequence> Chunked<S> {
         requires some { 0 < length piece.now }
         requires apart { AreApart piece.now }
         requires new { AreNew piece.now (items_before name self.old ++ items_after name self.old) }
-        requires light { weight_of self.old + weight_of piece.now < 2 ^ 32 }
+        requires light { weight_of self.old + weight_of piece.now < 2 ^ 31 }
         ensures ok { OnOk result (self.new ≡ items_before name self.old ++ (piece.now ++ items_after name self.old)) }
         ensures err { OnErr result (self.new ≡ self.old) }
     {
@@ -200,7 +199,7 @@ impl<S: Sequence> Chunked<S> {
     fn begin(&mut self, piece: &[Item]) -> Result<(), Memory>
         requires apart { AreApart piece.now }
         requires new { AreNew piece.now self.old }
-        requires light { weight_of self.old + weight_of piece.now < 2 ^ 32 }
+        requires light { weight_of self.old + weight_of piece.now < 2 ^ 31 }
         ensures ok { OnOk result (self.new ≡ self.old ++ piece.now) }
         ensures err { OnErr result (self.new ≡ self.old) }
     {

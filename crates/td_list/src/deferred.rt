@@ -27,7 +27,7 @@ struct Pending {
 
 impl<S: Sequence> Model for Deferred<S> {
     ghost use Rattle.std.specs.Prelude.{List};
-    ghost use Rattle.td_list.specs.declared.item.Item.{Item};
+    ghost use Rattle.td_list.specs.Items.{Item};
     ghost use Rattle.td_list.specs.Deferred.{items_now, IsDeferred};
 
     ghost Value = { List Item };
@@ -64,8 +64,8 @@ impl<S: Sequence> Sequence for Deferred<S> {
 
     fn renew(&mut self, item: Item) {
         if let Some(pending) = &mut self.pending {
-            if pending.item.name == item.name && pending.item.marked == item.marked {
-                pending.item.weight = item.weight;
+            if pending.item.name() == item.name() && pending.item.marked() == item.marked() {
+                pending.item = item;
                 return;
             }
         }
@@ -130,7 +130,7 @@ impl Pending {
         ensures { items_from name (renew self.item (S.items list.now))
             ≡ result ∷ items_after name (renew self.item (S.items list.now)) }
     {
-        if self.item.name == name {
+        if self.item.name() == name {
             self.item
         } else {
             list.get(name)
@@ -143,14 +143,14 @@ impl Pending {
         ensures value { result ≡ weight_of (renew self.item (S.items list.now)) }
         ensures light { weight_of (S.items list.now) < 2 ^ 32 }
     {
-        list.weight() - self.told + self.item.weight
+        list.weight() - self.told + self.item.weight()
     }
 
     // Whether the list has the weight of now.
     fn is_told(self) -> bool
         ensures { IsTrue result → self.told ≡ self.item.weight }
     {
-        self.told == self.item.weight
+        self.told == self.item.weight()
     }
 
     // The weight of the items of the list before one.
@@ -163,8 +163,8 @@ impl Pending {
         if self.is_told() {
             return before;
         }
-        if list.is_before(self.item.name, name) {
-            before - self.told + self.item.weight
+        if list.is_before(self.item.name(), name) {
+            before - self.told + self.item.weight()
         } else {
             before
         }
@@ -181,18 +181,18 @@ impl Pending {
         if unit >= self.weight(list) {
             return None;
         }
-        let before = list.weight_before(self.item.name);
+        let before = list.weight_before(self.item.name());
         if unit < before {
             return list.share_at(unit);
         }
         let rest = unit - before;
-        if rest < self.item.weight {
+        if rest < self.item.weight() {
             return Some(Share {
-                name: self.item.name,
+                name: self.item.name(),
                 rest,
             });
         }
-        list.share_at(unit - self.item.weight + self.told)
+        list.share_at(unit - self.item.weight() + self.told)
     }
 }
 
@@ -204,22 +204,23 @@ fn tell<S: Sequence>(list: &mut S, pending: Option<Pending>)
     let Some(pending) = pending else {
         return;
     };
+    let now = pending.item;
     if pending.is_told() {
         return;
     }
-    list.renew(pending.item);
+    list.renew(now);
 }
 
 // Puts an item in place of the one of its name. What changes of its weight may wait from then on.
 fn begin<S: Sequence>(list: &mut S, item: Item) -> Pending
     requires there { IsItem item.name (S.items list.old) }
-    requires light { weight_of (renew item (S.items list.old)) < 2 ^ 32 }
+    requires light { weight_of (renew item (S.items list.old)) < 2 ^ 31 }
     ensures pending { IsPending result (S.items list.new) }
     ensures items { renew result.item (S.items list.new) ≡ renew item (S.items list.old) }
 {
     list.renew(item);
     Pending {
         item,
-        told: item.weight,
+        told: item.weight(),
     }
 }

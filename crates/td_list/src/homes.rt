@@ -13,7 +13,7 @@ pub fn settle(homes: &mut Vec<u32>, items: &[Item], home: u32)
     ensures outside { (x : ℕ) → (IsItem x items.now → ⊥) → get_or homes.new.items x 0 ≡ get_or homes.old.items x 0 }
 {
     for i in 0..items.len() {
-        homes[items[i].name as usize] = home;
+        homes[items[i].name() as usize] = home;
     }
 }
 
@@ -24,7 +24,7 @@ pub fn grow(homes: &mut Vec<u32>, items: &[Item]) -> Result<(), Memory>
     ensures ok { OnOk result ((x : ℕ) → IsItem x items.now → x < length homes.new.items) }
 {
     for i in 0..items.len() {
-        reach(homes, items[i].name)?;
+        reach(homes, items[i].name())?;
     }
     Ok(())
 }

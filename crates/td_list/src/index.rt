@@ -86,7 +86,7 @@ impl<S: Sequence> Index<S> {
     pub fn weight_to(&self, chunk: u32, place: usize) -> u32
         requires chunk { chunk < length self.now.chunks }
         requires place { place ≤ length (chunk_at self.now.chunks chunk) }
-        requires light { weight_of (chunk_at self.now.chunks chunk) < 2 ^ 32 }
+        requires light { weight_of (chunk_at self.now.chunks chunk) < 2 ^ 31 }
         ensures { result ≡ weight_of (take place (chunk_at self.now.chunks chunk)) }
     {
         self.numbered(chunk).weight_to(place)
@@ -98,7 +98,7 @@ impl<S: Sequence> Index<S> {
         requires chunk { IsItem chunk self.now.order }
         ensures { first_name (chunk_at self.now.chunks chunk) ≡ Some result }
     {
-        self.items_of(chunk)[0].name
+        self.items_of(chunk)[0].name()
     }
 
     /// The last item of a chunk.
@@ -108,7 +108,7 @@ impl<S: Sequence> Index<S> {
         ensures { last_name (chunk_at self.now.chunks chunk) ≡ Some result }
     {
         let items = self.items_of(chunk);
-        items[items.len() - 1].name
+        items[items.len() - 1].name()
     }
 
     /// Where an item is.
@@ -164,7 +164,7 @@ impl<S: Sequence> Index<S> {
         requires new { AreNew piece.now (chunks_before chunk self.old
             ++ (take from (chunk_at self.old.chunks chunk) ++ drop to (chunk_at self.old.chunks chunk))
             ++ chunks_after chunk self.old) }
-        requires light { weight_of (all_items self.old) + weight_of piece.now < 2 ^ 32 }
+        requires light { weight_of (all_items self.old) + weight_of piece.now < 2 ^ 31 }
         ensures index { IsIndex self.new }
         ensures ok { OnOk result (all_items self.new ≡ chunks_before chunk self.old
             ++ (take from (chunk_at self.old.chunks chunk) ++ piece.now ++ drop to (chunk_at self.old.chunks chunk))
@@ -209,7 +209,7 @@ impl<S: Sequence> Index<S> {
         requires named { item.name ≡ (get_or (chunk_at self.old.chunks chunk) place nothing).name }
         requires light { weight_of (chunks_before chunk self.old
             ++ (take place (chunk_at self.old.chunks chunk) ++ item ∷ drop (place + 1) (chunk_at self.old.chunks chunk))
-            ++ chunks_after chunk self.old) < 2 ^ 32 }
+            ++ chunks_after chunk self.old) < 2 ^ 31 }
         ensures index { IsIndex self.new }
         ensures all { all_items self.new ≡ chunks_before chunk self.old
             ++ (take place (chunk_at self.old.chunks chunk) ++ item ∷ drop (place + 1) (chunk_at self.old.chunks chunk))
@@ -223,7 +223,7 @@ impl<S: Sequence> Index<S> {
     pub fn front_with(&self, chunk: u32, place: usize, piece: &[Item]) -> Result<Chunk, Memory>
         requires chunk { chunk < length self.now.chunks }
         requires place { place ≤ length (chunk_at self.now.chunks chunk) }
-        requires light { weight_of (chunk_at self.now.chunks chunk) + weight_of piece.now < 2 ^ 32 }
+        requires light { weight_of (chunk_at self.now.chunks chunk) + weight_of piece.now < 2 ^ 31 }
         ensures { IfOk result (λ new. new ≡ take place (chunk_at self.now.chunks chunk) ++ piece.now) }
     {
         let mut new = Chunk::of(self.alloc, &self.items_of(chunk)[..place])?;
@@ -242,7 +242,7 @@ impl<S: Sequence> Index<S> {
         requires fresh { AreNew piece.now (chunks_before chunk self.old
             ++ take place (chunk_at self.old.chunks chunk) ++ chunks_after chunk self.old) }
         requires room { (x : ℕ) → IsItem x piece.now → x < length self.old.homes }
-        requires light { weight_of (all_items self.old) + weight_of piece.now < 2 ^ 32 }
+        requires light { weight_of (all_items self.old) + weight_of piece.now < 2 ^ 31 }
         ensures index { IsIndex self.new }
         ensures all { all_items self.new ≡ chunks_before chunk self.old ++ new ++ chunks_after chunk self.old }
     {
@@ -329,7 +329,7 @@ impl<S: Sequence> Index<S> {
         requires some { 0 < length piece.now }
         requires apart { AreApart piece.now }
         requires new { AreNew piece.now (all_items self.old) }
-        requires light { weight_of (all_items self.old) + weight_of piece.now < 2 ^ 32 }
+        requires light { weight_of (all_items self.old) + weight_of piece.now < 2 ^ 31 }
         ensures index { IsIndex self.new }
         ensures ok { OnOk result (all_items self.new ≡ all_items self.old ++ piece.now) }
         ensures err { OnErr result (all_items self.new ≡ all_items self.old) }
@@ -368,11 +368,7 @@ fn cut_beside(place: usize, length: usize) -> usize
 fn empty_chunk(number: u32) -> Item
     ensures { result ≡ record { name = number; weight = 0; marked = false } }
 {
-    Item {
-        name: number,
-        weight: 0,
-        marked: false,
-    }
+    Item::new(number, 0, false)
 }
 
 // Puts an item in place of the one of its name, unless it is the same.
@@ -380,7 +376,7 @@ fn tell<S: Sequence>(order: &mut S, told: Item, now: Item)
     requires named { now.name ≡ told.name }
     requires there { IsItem told.name (S.items order.old) }
     requires is { items_from told.name (S.items order.old) ≡ told ∷ items_after told.name (S.items order.old) }
-    requires light { weight_of (renew now (S.items order.old)) < 2 ^ 32 }
+    requires light { weight_of (renew now (S.items order.old)) < 2 ^ 31 }
     ensures { S.items order.new ≡ renew now (S.items order.old) }
 {
     if !is_same(told, now) {

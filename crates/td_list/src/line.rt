@@ -1,6 +1,5 @@
 ghost use Rattle.std.specs.Prelude.{◌≡◌, ◌<◌, ◌≤◌, ◌+◌, ◌-◌, ◌^◌, ◌++◌, ◌∷◌, ℕ, List, [], nat_lt, length, take, drop, get_or, IfOk, OnOk, OnErr};
-ghost use Rattle.td_list.specs.declared.item.Item.{Item};
-ghost use Rattle.td_list.specs.Items.{IsItem, AreApart, AreNew, items_before, items_from, items_after, put_before, without, renew, place_of, first_name, last_name, first_marked, share_at, weight_of};
+ghost use Rattle.td_list.specs.Items.{Item, IsItem, AreApart, AreNew, items_before, items_from, items_after, put_before, without, renew, place_of, first_name, last_name, first_marked, share_at, weight_of};
 ghost use Rattle.td_list.specs.Places.{nothing, ArePlaces, IsLine};
 
 use crate::edit::put_each;
@@ -23,8 +22,7 @@ pub struct Line {
 
 impl Model for Line {
     ghost use Rattle.std.specs.Prelude.{◌≡◌, List};
-    ghost use Rattle.td_list.specs.declared.item.Item.{Item};
-    ghost use Rattle.td_list.specs.Items.{weight_of};
+    ghost use Rattle.td_list.specs.Items.{Item, weight_of};
     ghost use Rattle.td_list.specs.Places.{IsLine};
 
     ghost Value = { List Item };
@@ -50,7 +48,7 @@ impl Line {
         ensures { result ≡ first_name (drop place self.now) }
     {
         if place < self.items.len() {
-            Some(self.items[place].name)
+            Some(self.items[place].name())
         } else {
             None
         }
@@ -61,7 +59,7 @@ impl Line {
         requires place { place ≤ length self.old }
         requires apart { AreApart piece.now }
         requires new { AreNew piece.now self.old }
-        requires light { weight_of self.old + weight_of piece.now < 2 ^ 32 }
+        requires light { weight_of self.old + weight_of piece.now < 2 ^ 31 }
         ensures ok { OnOk result (self.new ≡ take place self.old ++ piece.now ++ drop place self.old) }
         ensures err { OnErr result (self.new ≡ self.old) }
     {
@@ -102,13 +100,13 @@ impl Sequence for Line {
         let place = self.place(name);
         let item = self.items.remove(place);
         note(&mut self.places, &self.items, place);
-        self.weight -= item.weight;
+        self.weight -= item.weight();
     }
 
     fn renew(&mut self, item: Item) {
-        let place = self.place(item.name);
-        self.weight -= self.items[place].weight;
-        self.weight += item.weight;
+        let place = self.place(item.name());
+        self.weight -= self.items[place].weight();
+        self.weight += item.weight();
         self.items[place] = item;
     }
 
@@ -163,6 +161,6 @@ fn note(places: &mut Vec<u32>, items: &[Item], from: usize)
     ensures { ArePlaces items.now places.new.items }
 {
     for place in from..items.len() {
-        places[items[place].name as usize] = place as u32;
+        places[items[place].name() as usize] = place as u32;
     }
 }

@@ -22,7 +22,7 @@ impl<S: Sequence> Index<S> {
         requires new { AreNew piece.now
             ((chunks_before from.chunk self.old ++ take from.place (chunk_at self.old.chunks from.chunk))
             ++ (drop to.place (chunk_at self.old.chunks to.chunk) ++ chunks_after to.chunk self.old)) }
-        requires light { weight_of (all_items self.old) + weight_of piece.now < 2 ^ 32 }
+        requires light { weight_of (all_items self.old) + weight_of piece.now < 2 ^ 31 }
         ensures index { IsIndex self.new }
         ensures ok { OnOk result (all_items self.new
             ≡ (chunks_before from.chunk self.old ++ take from.place (chunk_at self.old.chunks from.chunk)) ++ piece.now
@@ -45,7 +45,7 @@ impl<S: Sequence> Index<S> {
         requires apart { AreApart piece.now }
         requires new { AreNew piece.now
             (chunks_before from.chunk self.old ++ take from.place (chunk_at self.old.chunks from.chunk)) }
-        requires light { weight_of (all_items self.old) + weight_of piece.now < 2 ^ 32 }
+        requires light { weight_of (all_items self.old) + weight_of piece.now < 2 ^ 31 }
         ensures index { IsIndex self.new }
         ensures ok { OnOk result (all_items self.new
             ≡ (chunks_before from.chunk self.old ++ take from.place (chunk_at self.old.chunks from.chunk))
@@ -69,7 +69,7 @@ impl<S: Sequence> Index<S> {
         requires fresh { AreNew piece.now (chunks_before from.chunk self.old
             ++ take from.place (chunk_at self.old.chunks from.chunk) ++ chunks_after from.chunk self.old) }
         requires room { (x : ℕ) → IsItem x piece.now → x < length self.old.homes }
-        requires light { weight_of (all_items self.old) + weight_of piece.now < 2 ^ 32 }
+        requires light { weight_of (all_items self.old) + weight_of piece.now < 2 ^ 31 }
         ensures index { IsIndex self.new }
         ensures all { all_items self.new
             ≡ chunks_before from.chunk self.old ++ new ++ chunks_after from.chunk self.old }

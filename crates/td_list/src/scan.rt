@@ -13,7 +13,7 @@ pub fn place_of(items: &[Item], name: u32) -> usize
 {
     let mut place = 0;
     for item in items {
-        if item.name == name {
+        if item.name() == name {
             return place;
         }
         place += 1;
@@ -26,7 +26,7 @@ pub fn place_from(items: &[Item], name: u32, from: usize) -> Option<usize>
     ensures { IfSome result (λ k. (k < length items.now) × ((get_or items.now k nothing).name ≡ name)) }
 {
     for place in from..items.len() {
-        if items[place].name == name {
+        if items[place].name() == name {
             return Some(place);
         }
     }
@@ -35,12 +35,12 @@ pub fn place_from(items: &[Item], name: u32, from: usize) -> Option<usize>
 
 /// The weight of the items together.
 pub fn weight_of(items: &[Item]) -> u32
-    requires { weight_of items.now < 2 ^ 32 }
+    requires { weight_of items.now < 2 ^ 31 }
     ensures { result ≡ weight_of items.now }
 {
     let mut weight = 0;
     for item in items {
-        weight += item.weight;
+        weight += item.weight();
     }
     weight
 }
@@ -50,7 +50,7 @@ pub fn has_mark(items: &[Item]) -> bool
     ensures { result ≡ has_mark items.now }
 {
     for item in items {
-        if item.marked {
+        if item.marked() {
             return true;
         }
     }
@@ -62,8 +62,8 @@ pub fn first_marked(items: &[Item], from: usize) -> Option<u32>
     ensures { result ≡ first_marked (drop from items.now) }
 {
     for place in from..items.len() {
-        if items[place].marked {
-            return Some(items[place].name);
+        if items[place].marked() {
+            return Some(items[place].name());
         }
     }
     None
@@ -75,13 +75,13 @@ pub fn share_at(items: &[Item], unit: u32) -> Option<Share>
 {
     let mut rest = unit;
     for item in items {
-        if rest < item.weight {
+        if rest < item.weight() {
             return Some(Share {
-                name: item.name,
+                name: item.name(),
                 rest,
             });
         }
-        rest -= item.weight;
+        rest -= item.weight();
     }
     None
 }

@@ -1,12 +1,11 @@
 ghost use Rattle.std.specs.Prelude.{◌≡◌, ◌<◌, ◌+◌, ◌^◌, ◌++◌, ◌∷◌, List, [], nat_lt, IfOk, OnOk, OnErr};
-ghost use Rattle.td_list.specs.declared.item.Item.{Item};
-ghost use Rattle.td_list.specs.Items.{IsItem, AreApart, AreNew, items_before, items_from, items_after, put_before, without, renew, place_of, first_name, last_name, first_marked, share_at, weight_of};
+ghost use Rattle.td_list.specs.Items.{Item, IsItem, AreApart, AreNew, items_before, items_from, items_after, put_before, without, renew, place_of, first_name, last_name, first_marked, share_at, weight_of};
 
 use crate::item::{Item, Share};
 use std::alloc::Global;
 use td_base::Memory;
 
-/// A list of items, in which each is found by its name. No two have one name, and all weigh less than 2^32 together.
+/// A list of items, in which each is found by its name. No two have one name, and all weigh less than 2^31 together.
 pub trait Sequence: Sized + Drop {
     /// The items in their order.
     ghost items: { Self → List Item };
@@ -19,7 +18,7 @@ pub trait Sequence: Sized + Drop {
     fn push(&mut self, piece: &[Item]) -> Result<(), Memory>
         requires apart { AreApart piece.now }
         requires new { AreNew piece.now (items self.old) }
-        requires light { weight_of (items self.old) + weight_of piece.now < 2 ^ 32 }
+        requires light { weight_of (items self.old) + weight_of piece.now < 2 ^ 31 }
         ensures ok { OnOk result (items self.new ≡ items self.old ++ piece.now) }
         ensures err { OnErr result (items self.new ≡ items self.old) };
 
@@ -28,7 +27,7 @@ pub trait Sequence: Sized + Drop {
         requires there { IsItem name (items self.old) }
         requires apart { AreApart piece.now }
         requires new { AreNew piece.now (items self.old) }
-        requires light { weight_of (items self.old) + weight_of piece.now < 2 ^ 32 }
+        requires light { weight_of (items self.old) + weight_of piece.now < 2 ^ 31 }
         ensures ok { OnOk result (items self.new ≡ put_before name piece.now (items self.old)) }
         ensures err { OnErr result (items self.new ≡ items self.old) };
 
@@ -40,7 +39,7 @@ pub trait Sequence: Sized + Drop {
     /// Puts another item in place of the one of its name.
     fn renew(&mut self, item: Item)
         requires there { IsItem item.name (items self.old) }
-        requires light { weight_of (renew item (items self.old)) < 2 ^ 32 }
+        requires light { weight_of (renew item (items self.old)) < 2 ^ 31 }
         ensures { items self.new ≡ renew item (items self.old) };
 
     /// The item with a name.

@@ -1,4 +1,4 @@
-ghost use Rattle.std.specs.Prelude.{◌≡◌, ◌<◌, ◌∷◌, [], true, false, IfOk};
+ghost use Rattle.std.specs.Prelude.{◌≡◌, ◌<◌, ◌^◌, ◌∷◌, [], true, false, IfOk};
 
 use crate::chunked::{Chunked, List};
 use crate::deferred::Deferred;
@@ -36,6 +36,19 @@ fn a_list_that_is_told_later_answers(rt: HostRuntime) -> Result<(), Memory> {
     Ok(())
 }
 
+#[test]
+fn items_of_the_greatest_numbers_are_read_back(rt: HostRuntime) {
+    for weight in [0, 1, (1 << 31) - 1] {
+        for marked in [false, true] {
+            let item = Item::new(u32::MAX, weight, marked);
+            assert_eq!(rt;
+                (item.name(), item.weight(), item.marked()),
+                (u32::MAX, weight, marked)
+            );
+        }
+    }
+}
+
 // What a list of the items 5, 3, 8, 9 with the weights 2, 0, 4, 1 answers, of which 8 and 9 are marked.
 #[derive(Clone, Copy, Debug, PartialEq, Eq)]
 struct Told {
@@ -62,7 +75,7 @@ fn expected() -> Told {
         three_before_eight: true,
         weight: 7,
         before_nine: 6,
-        third: item(8, 4, true),
+        third: Item::new(8, 4, true),
         third_unit: Some(Share { name: 8, rest: 1 }),
         beyond: None,
     }
@@ -70,8 +83,8 @@ fn expected() -> Told {
 
 fn tell<S: Sequence>(alloc: Global) -> Result<Told, Memory> {
     let mut list = S::empty(alloc)?;
-    list.push(&[item(5, 2, false), item(9, 1, true)])?;
-    list.insert_before(9, &[item(3, 0, false), item(8, 4, true)])?;
+    list.push(&[Item::new(5, 2, false), Item::new(9, 1, true)])?;
+    list.insert_before(9, &[Item::new(3, 0, false), Item::new(8, 4, true)])?;
     Ok(Told {
         first: list.first(),
         last: list.last(),
@@ -101,9 +114,13 @@ fn items_are_taken_out_and_renewed(rt: HostRuntime) -> Result<(), Memory> {
 // The weight of the list 5, 8, 9 after 8 went and 9 got the weight 10.
 fn edit<S: Sequence>(alloc: Global) -> Result<u32, Memory> {
     let mut list = S::empty(alloc)?;
-    list.push(&[item(5, 2, false), item(8, 4, true), item(9, 1, true)])?;
+    list.push(&[
+        Item::new(5, 2, false),
+        Item::new(8, 4, true),
+        Item::new(9, 1, true),
+    ])?;
     list.remove(8);
-    list.renew(item(9, 10, true));
+    list.renew(Item::new(9, 10, true));
     Ok(list.weight())
 }
 
@@ -112,7 +129,7 @@ fn a_change_that_is_pending_counts(rt: HostRuntime) -> Result<(), Memory> {
     let list = with_eight(rt.alloc(), 7)?;
     assert_eq!(rt;
         (list.get(8), list.get(9), list.weight()),
-        (item(8, 7, true), item(9, 1, true), 10)
+        (Item::new(8, 7, true), Item::new(9, 1, true), 10)
     );
     assert_eq!(rt;
         (
@@ -154,16 +171,16 @@ fn a_unit_is_found_round_a_pending_change(rt: HostRuntime) -> Result<(), Memory>
 #[test]
 fn a_pending_change_is_told(rt: HostRuntime) -> Result<(), Memory> {
     let mut list = with_eight(rt.alloc(), 7)?;
-    list.renew(item(9, 3, true));
-    assert_eq!(rt; (list.get(8), list.weight()), (item(8, 7, true), 12));
-    list.insert_before(9, &[item(4, 1, false)])?;
+    list.renew(Item::new(9, 3, true));
+    assert_eq!(rt; (list.get(8), list.weight()), (Item::new(8, 7, true), 12));
+    list.insert_before(9, &[Item::new(4, 1, false)])?;
     assert_eq!(rt; (list.weight_before(9), list.weight()), (10, 13));
-    list.renew(item(8, 5, false));
+    list.renew(Item::new(8, 5, false));
     assert_eq!(rt;
         (list.next_marked(5), list.get(8)),
-        (Some(9), item(8, 5, false))
+        (Some(9), Item::new(8, 5, false))
     );
-    list.renew(item(8, 6, false));
+    list.renew(Item::new(8, 6, false));
     list.remove(8);
     assert_eq!(rt; (list.next(5), list.weight()), (Some(4), 6));
     Ok(())
@@ -177,9 +194,13 @@ fn with_eight(alloc: Global, weight: u32) -> Result<Deferred<Line>, Memory>
         ∷ record { name = 9; weight = 1; marked = true } ∷ []) }
 {
     let mut list = Deferred::<Line>::empty(alloc)?;
-    list.push(&[item(5, 2, false), item(8, 4, true), item(9, 1, true)])?;
-    list.renew(item(8, 9, true));
-    list.renew(item(8, weight, true));
+    list.push(&[
+        Item::new(5, 2, false),
+        Item::new(8, 4, true),
+        Item::new(9, 1, true),
+    ])?;
+    list.renew(Item::new(8, 9, true));
+    list.renew(Item::new(8, weight, true));
     Ok(list)
 }
 
@@ -190,8 +211,12 @@ fn share(name: u32, rest: u32) -> Option<Share> {
 #[test]
 fn a_stretch_is_replaced(rt: HostRuntime) -> Result<(), Memory> {
     let mut list = List::empty(rt.alloc())?;
-    list.push(&[item(5, 2, false), item(8, 4, true), item(9, 1, true)])?;
-    list.replace(5, Some(9), &[item(8, 3, true)])?;
+    list.push(&[
+        Item::new(5, 2, false),
+        Item::new(8, 4, true),
+        Item::new(9, 1, true),
+    ])?;
+    list.replace(5, Some(9), &[Item::new(8, 3, true)])?;
     assert_eq!(rt;
         (list.first(), list.next(8), list.weight()),
         (Some(8), Some(9), 4)
@@ -202,9 +227,20 @@ fn a_stretch_is_replaced(rt: HostRuntime) -> Result<(), Memory> {
 #[test]
 fn an_item_is_replaced(rt: HostRuntime) -> Result<(), Memory> {
     let mut list = List::empty(rt.alloc())?;
-    list.push(&[item(5, 2, false), item(8, 4, true), item(9, 1, true)])?;
-    list.replace_one(8, &[item(3, 1, true), item(8, 1, true), item(4, 2, true)])?;
-    list.replace_one(4, &[item(6, 7, true)])?;
+    list.push(&[
+        Item::new(5, 2, false),
+        Item::new(8, 4, true),
+        Item::new(9, 1, true),
+    ])?;
+    list.replace_one(
+        8,
+        &[
+            Item::new(3, 1, true),
+            Item::new(8, 1, true),
+            Item::new(4, 2, true),
+        ],
+    )?;
+    list.replace_one(4, &[Item::new(6, 7, true)])?;
     assert_eq!(rt;
         (
             list.next(5),
@@ -243,21 +279,17 @@ fn items_put_at_three_places_by_turns_stand_in_order(rt: HostRuntime) -> Result<
 }
 
 // The list of 0, 1 and 2 in which each number from 3 up to an end was put directly before its rest by three.
-fn by_turns(alloc: Global, end: u32) -> Result<Chunked<Line>, Memory> {
+fn by_turns(alloc: Global, end: u32) -> Result<Chunked<Line>, Memory>
+    requires { end < 2 ^ 31 }
+{
     let mut list = Chunked::empty(alloc)?;
-    list.push(&[item(0, 1, false), item(1, 1, false), item(2, 1, false)])?;
+    list.push(&[
+        Item::new(0, 1, false),
+        Item::new(1, 1, false),
+        Item::new(2, 1, false),
+    ])?;
     for name in 3..end {
-        list.insert_before(name % 3, &[item(name, 1, false)])?;
+        list.insert_before(name % 3, &[Item::new(name, 1, false)])?;
     }
     Ok(list)
-}
-
-fn item(name: u32, weight: u32, marked: bool) -> Item
-    ensures { result ≡ record { name = name; weight = weight; marked = marked } }
-{
-    Item {
-        name,
-        weight,
-        marked,
-    }
 }

@@ -8,8 +8,7 @@ use Rattle.td_base.proofs.Lists.{In-append, In-front, In-back, In-map, map_In, s
 use Rattle.td_doc.specs.Document.{DocRow, is_empty_list, IsDocument}
 use Rattle.td_doc.specs.Deletion.{mark_deleted, delete}
 use Rattle.td_doc.proofs.Deleted.{delete_document}
-use Rattle.td_list.specs.declared.item.Item.{Item}
-use Rattle.td_list.specs.Items.{names, IsItem, renew, weight_of}
+use Rattle.td_list.specs.Items.{Item, names, IsItem, renew, weight_of}
 use Rattle.td_list.proofs.Names.{weight-append}
 use Rattle.td_list.proofs.Parted.{Parted, parted, before_is, after_is, not_behind}
 use Rattle.td_brackets.specs.Brackets.{Token, Open, Atom, Close, Leaf, rows_of, numbers_of, IsBrackets}

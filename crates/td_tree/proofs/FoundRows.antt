@@ -1,7 +1,7 @@
 -- What stands in a stretch of items.
 use Rattle.std.proofs.Common.{◌≡◌, ◌+◌, ◌<◌, ◌≤◌, ◌^◌, ℕ, List, [], ◌∷◌, ◌++◌, length, take, drop, get_or, refl, sym, ap, ◌∙◌, subst, arith, append_assoc, length-append, take-append-drop, Option}
 use Rattle.std.proofs.lemmas.List.{append-nil, map_more}
-use Rattle.td_list.specs.declared.item.Item.{Item}
+use Rattle.td_list.specs.Items.{Item}
 use Rattle.td_brackets.specs.Brackets.{Token, Open, Atom, Close, Leaf, Entry}
 use Rattle.td_brackets.specs.Laws.{live_number, live_numbers}
 use Rattle.td_brackets.specs.RowNumbers.{row_numbers_at, row_numbers}

@@ -8,8 +8,7 @@ use Rattle.td_path.specs.declared.slot.Slot.{Slot}
 use Rattle.td_doc.specs.Document.{is_empty_list, IsDocument}
 use Rattle.td_doc.specs.Flatten.{flatten}
 use Rattle.td_doc.proofs.Flattened.{flatten_document}
-use Rattle.td_list.specs.declared.item.Item.{Item}
-use Rattle.td_list.specs.Items.{IsItem, AreApart, AreNew, weight_of}
+use Rattle.td_list.specs.Items.{Item, IsItem, AreApart, AreNew, weight_of}
 use Rattle.td_list.proofs.Names.{weight-append, apart-between, apart-ends, item-append, item-front, item-back}
 use Rattle.td_brackets.specs.Brackets.{Token, Open, Atom, Close, Leaf, Entry, Level, AllFit, numbers_at, numbers_of, rows_of, IsWord, IsBrackets}
 use Rattle.td_brackets.specs.Laws.{leaf_word, live_number, live_numbers}

@@ -3,8 +3,7 @@ use Rattle.std.proofs.Common.{◌≡◌, ◌⊎◌, ◌+◌, ◌-◌, ◌*◌, �
 use Rattle.td_base.specs.Lists.{In}
 use Rattle.td_base.proofs.Lists.{In-map}
 use Rattle.td_doc.specs.Document.{DocRow}
-use Rattle.td_list.specs.declared.item.Item.{Item}
-use Rattle.td_list.specs.Items.{IsItem, AreApart, weight_of, items_before, first_name}
+use Rattle.td_list.specs.Items.{Item, IsItem, AreApart, weight_of, items_before, first_name}
 use Rattle.td_list.proofs.Parted.{here_named}
 use Rattle.td_brackets.specs.Brackets.{Token, Leaf, Entry, numbers_of, rows_of, IsBrackets}
 use Rattle.td_tree.specs.declared.tree_row.RowState.{RowState}

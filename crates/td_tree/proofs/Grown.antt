@@ -8,8 +8,7 @@ use Rattle.td_base.proofs.Lists.{In-append, In-front, In-back, map_In}
 use Rattle.td_path.specs.declared.slot_path.SlotPath.{SlotPath}
 use Rattle.td_doc.specs.Array.{named}
 use Rattle.td_doc.proofs.ArrayRows.{array_names}
-use Rattle.td_list.specs.declared.item.Item.{Item}
-use Rattle.td_list.specs.Items.{IsItem, AreApart, AreNew, first_name, weight_of}
+use Rattle.td_list.specs.Items.{Item, IsItem, AreApart, AreNew, first_name, weight_of}
 use Rattle.td_list.proofs.Names.{weight-append, apart-between, apart-parts, item-append, item-front, item-back}
 use Rattle.td_list.proofs.Parted.{before_at, from_at}
 use Rattle.td_brackets.specs.Brackets.{Token, Open, Atom, Close, Leaf, Entry, Level, move, atom_of, leaf_rows, slot_of, row_at as token_rows, rows_from, numbers_at, numbers_of, IsBrackets}
@@ -132,7 +131,7 @@ module _ (p : Parts) (t : IsTree p) (front back : List Item) (is : p.items ≡ f
         (named_new : (a k : ℕ) → length p.arrays ≤ a → a < length q.arrays → k < length (array_at q a) → row_of_array q a k < length q.rows)
         (short_new : (a : ℕ) → length p.arrays ≤ a → a < length q.arrays → length (array_at q a) ≤ 2 ^ 30)
         (nodes_are : q.nodes ≡ p.nodes + nodes_of W) (count_is : q.count ≡ p.count + length (row_numbers W))
-        (rows_are_few : length (row_numbers W) ≤ length more) (numbers_are : length (numbers_of W) ≤ length more) (weight_is : weight_of piece ≤ length more) (most : length q.rows ≤ 2 ^ 30) where
+        (rows_are_few : length (row_numbers W) ≤ length more) (numbers_are : length (numbers_of W) ≤ length more) (weight_is : weight_of piece ≤ length more) (most : length q.rows < 2 ^ 30) where
       pub fresh_piece : AreNew piece (front ++ back)
       fresh_piece x i j =
           let k = map_In (λ (y : Item). y.name) x (front ++ back) j in

@@ -5,8 +5,7 @@ use Rattle.td_base.specs.Lists.{In}
 use Rattle.td_base.proofs.Lists.{In-front, In-map}
 use Rattle.td_doc.specs.Document.{is_empty_list}
 use Rattle.td_doc.specs.Answers.{live_before}
-use Rattle.td_list.specs.declared.item.Item.{Item}
-use Rattle.td_list.specs.Items.{weight_of, items_before, items_from, items_after}
+use Rattle.td_list.specs.Items.{Item, weight_of, items_before, items_from, items_after}
 use Rattle.td_list.proofs.Names.{weight-append}
 use Rattle.td_list.proofs.Parted.{parts}
 use Rattle.td_brackets.specs.Brackets.{Token, Open, Atom, Close, Leaf, Entry}

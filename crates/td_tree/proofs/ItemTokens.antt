@@ -4,8 +4,7 @@ use Rattle.std.proofs.lemmas.List.{map-append}
 use Rattle.td_base.specs.Lists.{In}
 use Rattle.td_base.proofs.Lists.{map_In, In-map}
 use Rattle.td_doc.specs.Document.{is_empty_list}
-use Rattle.td_list.specs.declared.item.Item.{Item}
-use Rattle.td_list.specs.Items.{IsItem}
+use Rattle.td_list.specs.Items.{Item, IsItem}
 use Rattle.td_brackets.specs.Brackets.{Open, Atom, Close, Leaf, Entry, numbers_at}
 use Rattle.td_tree.specs.declared.tree_row.RowState.{RowState}
 use Rattle.td_tree.specs.declared.tree_row.RowState.TheVariants.{Node, InArray, Gone}

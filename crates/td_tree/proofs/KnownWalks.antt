@@ -6,8 +6,7 @@ use Rattle.td_doc.specs.Slots.{rows_in_slot, is_known}
 use Rattle.td_base.specs.declared.bit.Bit.{Bit}
 use Rattle.td_path.specs.declared.slot.Slot.{Slot}
 use Rattle.td_path.specs.declared.slot.Slot.TheVariants.{Root}
-use Rattle.td_list.specs.declared.item.Item.{Item}
-use Rattle.td_list.specs.Items.{first_name, items_after}
+use Rattle.td_list.specs.Items.{Item, first_name, items_after}
 use Rattle.td_list.specs.Places.{nothing}
 use Rattle.td_brackets.specs.RowNumbers.{entry_of, is_known_entry}
 use Rattle.td_brackets.proofs.Entries.{all_known}

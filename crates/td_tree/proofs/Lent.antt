@@ -6,8 +6,7 @@ use Rattle.std.proofs.lemmas.Bool.{eqb-true, eq-eqb}
 use Rattle.td_base.specs.Lists.{In}
 use Rattle.td_base.proofs.Lists.{In-front, In-back, In-map}
 use Rattle.td_base.proofs.Elements.{same_head, same_tail}
-use Rattle.td_list.specs.declared.item.Item.{Item}
-use Rattle.td_list.specs.Items.{IsItem, AreApart, first_name, items_before, items_from, items_from_end}
+use Rattle.td_list.specs.Items.{Item, IsItem, AreApart, first_name, items_before, items_from, items_from_end}
 use Rattle.td_list.proofs.Parted.{here_named, not_named}
 use Rattle.td_list.proofs.Names.{apart-parts, apart-back}
 use Rattle.td_tree.specs.Parts.{Parts, IsTree}

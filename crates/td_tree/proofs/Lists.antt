@@ -2,8 +2,7 @@
 use Rattle.std.proofs.Common.{◌≡◌, ℕ, List, [], ◌∷◌, ◌++◌, length, refl, sym, ap, ◌∙◌, subst, inl, Option, Some}
 use Rattle.td_base.specs.Lists.{In}
 use Rattle.td_base.proofs.Lists.{In-back}
-use Rattle.td_list.specs.declared.item.Item.{Item}
-use Rattle.td_list.specs.Items.{IsItem, AreApart, items_before, items_after, items_from_end, first_name}
+use Rattle.td_list.specs.Items.{Item, IsItem, AreApart, items_before, items_after, items_from_end, first_name}
 use Rattle.td_list.proofs.Names.{apart-parts}
 use Rattle.td_list.proofs.Parted.{parted, from_at, before_is, after_is}
 

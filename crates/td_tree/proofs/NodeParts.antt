@@ -4,8 +4,7 @@ use Rattle.td_base.specs.Lists.{In}
 use Rattle.td_base.proofs.Lists.{In-back, In-map, map_In}
 use Rattle.td_base.proofs.Elements.{same_head, same_tail}
 use Rattle.td_doc.specs.Document.{DocRow}
-use Rattle.td_list.specs.declared.item.Item.{Item}
-use Rattle.td_list.specs.Items.{IsItem}
+use Rattle.td_list.specs.Items.{Item, IsItem}
 use Rattle.td_brackets.specs.Brackets.{Token, Open, Atom, Close, move_all, IsWord, slot_round, IsBrackets, rows_of}
 use Rattle.td_brackets.specs.RowNumbers.{row_numbers}
 use Rattle.td_brackets.proofs.Words.{Node, node}

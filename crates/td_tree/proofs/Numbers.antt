@@ -2,7 +2,7 @@
 use Rattle.std.proofs.Common.{◌≡◌, ◌≢◌, ◌⊎◌, ℕ, List, [], ◌∷◌, ◌++◌, refl, ap, ◌∙◌, subst, ⊎_elim}
 use Rattle.td_base.specs.Lists.{In, Successive}
 use Rattle.td_base.proofs.Lists.{In-front, In-back, across, successive_back}
-use Rattle.td_list.specs.declared.item.Item.{Item}
+use Rattle.td_list.specs.Items.{Item}
 use Rattle.td_brackets.specs.Brackets.{Token, Entry, numbers_at, numbers_of}
 use Rattle.td_brackets.proofs.NodeRows.{numbers-append}
 use Rattle.td_tree.specs.Parts.{Parts, token_of, tokens_of}

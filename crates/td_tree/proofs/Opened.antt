@@ -4,8 +4,7 @@ use Rattle.std.proofs.lemmas.List.{get_or-set_same, get_or-set_other, length-set
 use Rattle.std.proofs.lemmas.Bool.{cases_eq}
 use Rattle.td_base.specs.Lists.{In}
 use Rattle.td_base.proofs.Lists.{In-append, In-front, In-back, map_In}
-use Rattle.td_list.specs.declared.item.Item.{Item}
-use Rattle.td_list.specs.Items.{IsItem, AreApart, AreNew, weight_of}
+use Rattle.td_list.specs.Items.{Item, IsItem, AreApart, AreNew, weight_of}
 use Rattle.td_list.proofs.Names.{weight-append, apart-between, apart-ends, item-append, item-front, item-back}
 use Rattle.td_brackets.specs.Brackets.{Token, Atom, Close, Leaf, Entry, numbers_at, numbers_of, rows_of, IsBrackets}
 use Rattle.td_doc.specs.Document.{DocRow}

@@ -2,7 +2,7 @@
 use Rattle.std.proofs.Common.{◌+◌, ◌<◌, ◌≤◌, ◌^◌, List, [], ◌∷◌, length, arith, length-append}
 use Rattle.td_base.specs.Lists.{In}
 use Rattle.td_base.proofs.Lists.{In-map}
-use Rattle.td_list.specs.declared.item.Item.{Item}
+use Rattle.td_list.specs.Items.{Item}
 use Rattle.td_brackets.specs.Brackets.{Token, Open, Atom, Close, Leaf, numbers_at, numbers_of}
 use Rattle.td_tree.specs.Parts.{Parts, tokens, nodes_of, open_count, IsTree}
 use Rattle.td_tree.proofs.Lists.{PartedAt, parted_at}

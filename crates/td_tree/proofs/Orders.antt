@@ -6,8 +6,7 @@ use Rattle.td_base.specs.Lists.{In}
 use Rattle.td_base.proofs.Lists.{In-back, In-map}
 use Rattle.td_base.proofs.Elements.{In-slice_get}
 use Rattle.td_doc.specs.Allocation.{first_id, next_id}
-use Rattle.td_list.specs.declared.item.Item.{Item}
-use Rattle.td_list.specs.Items.{IsItem, first_marked, first_name, items_before, items_after}
+use Rattle.td_list.specs.Items.{Item, IsItem, first_marked, first_name, items_before, items_after}
 use Rattle.td_list.proofs.Parted.{Parted, parted, before_is, after_is, after_at}
 use Rattle.td_brackets.specs.Brackets.{Token, Open, Atom, Close, Leaf}
 use Rattle.td_brackets.specs.RowNumbers.{row_numbers_at, first_number}

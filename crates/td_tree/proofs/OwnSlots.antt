@@ -7,8 +7,7 @@ use Rattle.td_path.specs.declared.slot.Slot.{Slot}
 use Rattle.td_doc.specs.Document.{DocRow, row_id, find_row}
 use Rattle.td_doc.specs.Slots.{own_slot}
 use Rattle.td_doc.specs.Answers.{row_told, live_before}
-use Rattle.td_list.specs.declared.item.Item.{Item}
-use Rattle.td_list.specs.Items.{items_before, items_after}
+use Rattle.td_list.specs.Items.{Item, items_before, items_after}
 use Rattle.td_brackets.specs.Brackets.{Token, Entry, move, move_all, slot_round}
 use Rattle.td_brackets.specs.RowNumbers.{entry_of}
 use Rattle.td_brackets.proofs.Words.{move-append}

@@ -5,8 +5,7 @@ use Rattle.td_base.specs.Value.{DotValue}
 use Rattle.td_base.specs.Lists.{In}
 use Rattle.td_base.proofs.Lists.{all_of, In-append}
 use Rattle.td_doc.specs.Document.{is_empty_list}
-use Rattle.td_list.specs.declared.item.Item.{Item}
-use Rattle.td_list.specs.Items.{names, IsItem, AreApart, weight_of}
+use Rattle.td_list.specs.Items.{Item, names, IsItem, AreApart, weight_of}
 use Rattle.td_list.proofs.Names.{weight-append, apart-append, item-append}
 use Rattle.td_brackets.specs.Brackets.{Token, Open, Atom, Leaf, numbers_of}
 use Rattle.td_brackets.specs.Laws.{leaf_word, whole}

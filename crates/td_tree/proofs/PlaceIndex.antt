@@ -7,8 +7,7 @@ use Rattle.td_base.specs.Value.{AtomIdValue}
 use Rattle.td_path.specs.declared.slot.Slot.{Slot}
 use Rattle.td_doc.specs.Document.{is_empty_list}
 use Rattle.td_doc.specs.Answers.{is_live_found, is_live_id, live_before}
-use Rattle.td_list.specs.declared.item.Item.{Item}
-use Rattle.td_list.specs.Items.{IsItem, AreApart, first_name, items_before, items_after, weight_of}
+use Rattle.td_list.specs.Items.{Item, IsItem, AreApart, first_name, items_before, items_after, weight_of}
 use Rattle.td_list.proofs.Names.{weight-append, apart-parts}
 use Rattle.td_list.proofs.Parted.{before_at}
 use Rattle.td_brackets.specs.Brackets.{Entry}

@@ -17,8 +17,7 @@ use Rattle.td_base.proofs.Orders.{id_total, equal_ids}
 use Rattle.td_doc.specs.Document.{find_row}
 use Rattle.td_doc.specs.Slots.{slot_path}
 use Rattle.td_doc.proofs.Rules.{fresh}
-use Rattle.td_list.specs.declared.item.Item.{Item}
-use Rattle.td_list.specs.Items.{IsItem, AreApart, items_after, items_from_end, first_name}
+use Rattle.td_list.specs.Items.{Item, IsItem, AreApart, items_after, items_from_end, first_name}
 use Rattle.td_list.proofs.Names.{apart-parts}
 use Rattle.td_list.proofs.Parted.{after_at}
 use Rattle.td_brackets.specs.Brackets.{Token, Open, Atom, Close, Leaf, Level, move_all, numbers_at, numbers_of, slot_of, rows_from, rows_of, IsWord, IsBrackets}

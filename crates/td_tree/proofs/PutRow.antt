@@ -9,8 +9,7 @@ use Rattle.td_doc.specs.Document.{find_row}
 use Rattle.td_doc.specs.Slots.{slot_path}
 use Rattle.td_doc.specs.Answers.{is_rooted}
 use Rattle.td_doc.specs.Insertion.{insert_atom}
-use Rattle.td_list.specs.declared.item.Item.{Item}
-use Rattle.td_list.specs.Items.{IsItem, AreApart, AreNew, first_name}
+use Rattle.td_list.specs.Items.{Item, IsItem, AreApart, AreNew, first_name}
 use Rattle.td_list.proofs.Names.{item-front, item-back}
 use Rattle.td_base.proofs.Lists.{map_In}
 use Rattle.td_brackets.specs.Brackets.{Entry, numbers_of, slot_of, rows_of, IsBrackets}
@@ -72,7 +71,7 @@ module _ (p : Parts) (t : IsTree p) (at : Option ℕ) (id : AtomIdValue) (atom :
     count = p.count + 1;
   }
 
-  module _ (slot : Slot) (place : IsNewPlace p slot id at) (unknown : IsNone (find_row id (doc_rows p))) (few : length p.rows < 2 ^ 30) (rooted : IsTrue (is_rooted (doc_rows p) slot)) where
+  module _ (slot : Slot) (place : IsNewPlace p slot id at) (unknown : IsNone (find_row id (doc_rows p))) (few : length p.rows + 1 < 2 ^ 30) (rooted : IsTrue (is_rooted (doc_rows p) slot)) where
     abbrev pl : IsPlace p slot id at
     pl = place.place
 
@@ -148,5 +147,5 @@ module _ (p : Parts) (t : IsTree p) (at : Option ℕ) (id : AtomIdValue) (atom :
         ap (rows_of (table q)) (new_tokens p t pl.front pl.back pl.is q (node_items n [] []) (new_row ∷ []) [] items_are refl arrays_are (group n) (node_items_tokens q n [] [] node))
         ∙ put_rows_are (table p) (table q) (tokens p) t.brackets n id atom agrees entry unknown (tokens_of p pl.front) (tokens_of p pl.back) was pl.stack slot standing_now after_now there
 
-  pub is_put : IsNone (find_row id (doc_rows p)) → length p.rows < 2 ^ 30 → IsPut p with_row at id atom
+  pub is_put : IsNone (find_row id (doc_rows p)) → length p.rows + 1 < 2 ^ 30 → IsPut p with_row at id atom
   is_put unknown few = record { rows = refl; items = refl; nodes = refl; there = λ slot place rooted. (row_tree slot place unknown few rooted, row_rows slot place unknown few rooted) }

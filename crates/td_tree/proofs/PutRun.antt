@@ -14,8 +14,7 @@ use Rattle.td_doc.specs.Slots.{slot_path}
 use Rattle.td_doc.specs.Answers.{IsFresh, is_rooted}
 use Rattle.td_doc.specs.Insertion.{insert_run}
 use Rattle.td_doc.proofs.Rules.{unfound}
-use Rattle.td_list.specs.declared.item.Item.{Item}
-use Rattle.td_list.specs.Items.{AreApart}
+use Rattle.td_list.specs.Items.{Item, AreApart}
 use Rattle.td_brackets.specs.Brackets.{Token, Leaf, Entry, atom_of, numbers_of, slot_of, rows_of, IsBrackets}
 use Rattle.td_brackets.specs.Laws.{Standing, AllAfter}
 use Rattle.td_brackets.proofs.Kept.{same_standing}

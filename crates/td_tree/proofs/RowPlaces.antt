@@ -5,8 +5,7 @@ use Rattle.std.proofs.lemmas.Option.{slice_get-get_or}
 use Rattle.td_base.specs.Lists.{In}
 use Rattle.td_base.proofs.Lists.{In-back, map_In}
 use Rattle.td_base.proofs.Elements.{same_head}
-use Rattle.td_list.specs.declared.item.Item.{Item}
-use Rattle.td_list.specs.Items.{IsItem, items_from, items_after}
+use Rattle.td_list.specs.Items.{Item, IsItem, items_from, items_after}
 use Rattle.td_list.proofs.Parted.{parted, from_is}
 use Rattle.td_brackets.specs.RowNumbers.{row_numbers_at}
 use Rattle.td_tree.specs.declared.tree_row.RowState.{RowState}

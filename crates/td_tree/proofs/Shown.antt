@@ -3,8 +3,7 @@ use Rattle.std.proofs.Common.{◌≡◌, ◌≢◌, ◌⊎◌, ◌+◌, ◌-◌,
 use Rattle.std.proofs.lemmas.List.{append-nil, take_more}
 use Rattle.td_base.specs.Lists.{In, Successive}
 use Rattle.td_base.proofs.Lists.{In-append, In-front, In-back, map_In, In-map}
-use Rattle.td_list.specs.declared.item.Item.{Item}
-use Rattle.td_list.specs.Items.{IsItem}
+use Rattle.td_list.specs.Items.{Item, IsItem}
 use Rattle.td_list.specs.Places.{nothing}
 use Rattle.td_brackets.specs.Brackets.{Token, Open, Atom, Close, IsBrackets}
 use Rattle.td_brackets.specs.RowNumbers.{row_numbers_at, row_numbers, entry_of}

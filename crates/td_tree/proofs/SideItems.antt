@@ -13,8 +13,7 @@ use Rattle.td_path.specs.declared.slot.Slot.TheVariants.{At}
 use Rattle.td_doc.specs.Document.{DocRow, row_id, has_id, find_row, is_empty_list}
 use Rattle.td_doc.specs.Slots.{rows_in_slot, is_empty_slot, is_within}
 use Rattle.td_doc.proofs.Placement.{self_id}
-use Rattle.td_list.specs.declared.item.Item.{Item}
-use Rattle.td_list.specs.Items.{names, IsItem, AreApart, first_name, items_before, items_after, place_of}
+use Rattle.td_list.specs.Items.{Item, names, IsItem, AreApart, first_name, items_before, items_after, place_of}
 use Rattle.td_list.proofs.Parted.{before_at, after_at}
 use Rattle.td_list.proofs.Names.{apart-parts, apart-back}
 use Rattle.td_brackets.specs.Brackets.{Token, Leaf, Entry, IsWord, rows_of}

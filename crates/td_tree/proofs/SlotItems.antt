@@ -9,8 +9,7 @@ use Rattle.td_path.specs.declared.slot_path.SlotPath.TheVariants.{Whole}
 use Rattle.td_doc.specs.Document.{live_rows}
 use Rattle.td_doc.specs.Array.{named, array}
 use Rattle.td_doc.proofs.SlotRows.{Split, split_flatten}
-use Rattle.td_list.specs.declared.item.Item.{Item}
-use Rattle.td_list.specs.Items.{items_after, first_name}
+use Rattle.td_list.specs.Items.{Item, items_after, first_name}
 use Rattle.td_brackets.specs.Brackets.{Token, Open, Atom, Close, move_all, rows_of, IsWord}
 use Rattle.td_brackets.specs.Laws.{Sides, leaf_word, live_numbers}
 use Rattle.td_brackets.proofs.SidesOf.{sides_of}

@@ -4,8 +4,7 @@ use Rattle.std.specs.Prelude.{◌==◌}
 use Rattle.td_base.specs.Lists.{In, Successive}
 use Rattle.td_base.proofs.Lists.{In-append, In-front, In-back, map_In, all_in}
 use Rattle.td_path.specs.declared.slot.Slot.{Slot}
-use Rattle.td_list.specs.declared.item.Item.{Item}
-use Rattle.td_list.specs.Items.{IsItem, AreApart, AreNew, items_before, items_from_end, first_name, place_of, replace, weight_of}
+use Rattle.td_list.specs.Items.{Item, IsItem, AreApart, AreNew, items_before, items_from_end, first_name, place_of, replace, weight_of}
 use Rattle.td_list.proofs.Names.{weight-append, apart-parts, item-back}
 use Rattle.td_list.proofs.Parted.{before_at}
 use Rattle.td_brackets.specs.Brackets.{Token, Open, Atom, Close, Leaf, Entry, numbers_of, IsBrackets}

@@ -8,8 +8,7 @@ use Rattle.td_base.specs.declared.bit.Bit.TheVariants.{Left, Right}
 use Rattle.td_base.specs.Lists.{In}
 use Rattle.td_base.proofs.Lists.{In-back}
 use Rattle.td_path.specs.declared.slot.Slot.TheVariants.{Root, At}
-use Rattle.td_list.specs.declared.item.Item.{Item}
-use Rattle.td_list.specs.Items.{IsItem, AreApart, first_name, items_before, items_after, items_from_end}
+use Rattle.td_list.specs.Items.{Item, IsItem, AreApart, first_name, items_before, items_after, items_from_end}
 use Rattle.td_list.proofs.Parted.{parted, after_is, before_at, after_at}
 use Rattle.td_list.proofs.Names.{apart-parts, item-back}
 use Rattle.td_brackets.specs.Brackets.{Token, Open, Atom, Close, Leaf, Level, move, move_all, AllFit, Fits, slot_round}

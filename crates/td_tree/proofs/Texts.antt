@@ -5,8 +5,7 @@ use Rattle.td_base.specs.Lists.{In}
 use Rattle.td_base.specs.Value.{DotValue}
 use Rattle.td_base.proofs.Lists.{In-map}
 use Rattle.td_doc.specs.Document.{text_of, is_empty_list}
-use Rattle.td_list.specs.declared.item.Item.{Item}
-use Rattle.td_list.specs.Items.{first_name}
+use Rattle.td_list.specs.Items.{Item, first_name}
 use Rattle.td_list.specs.Places.{nothing}
 use Rattle.td_brackets.specs.Brackets.{Token, Leaf, Entry}
 use Rattle.td_brackets.specs.RowNumbers.{row_numbers_at, text_of_numbers}

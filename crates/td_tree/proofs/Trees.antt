@@ -2,8 +2,7 @@
 use Rattle.std.proofs.Common.{◌≡◌, ◌≢◌, ◌+◌, ◌-◌, ◌/◌, ◌%◌, ◌<◌, ◌≤◌, ℕ, zero, suc, List, [], ◌∷◌, refl, sym, ap, ◌∙◌, subst, ⊎_elim, arith}
 use Rattle.td_base.specs.Lists.{In}
 use Rattle.td_base.proofs.Lists.{all_in, In-map}
-use Rattle.td_list.specs.declared.item.Item.{Item}
-use Rattle.td_list.specs.Items.{names, AreApart}
+use Rattle.td_list.specs.Items.{Item, names, AreApart}
 use Rattle.td_brackets.specs.Brackets.{numbers_at}
 use Rattle.td_tree.specs.declared.tree_row.RowState.{RowState}
 use Rattle.td_tree.specs.declared.tree_row.RowState.TheVariants.{Node, InArray, Gone}

@@ -3,8 +3,7 @@ use Rattle.std.proofs.Common.{◌≡◌, ◌≢◌, ℕ, List, [], ◌∷◌, �
 use Rattle.std.proofs.lemmas.List.{append-nil}
 use Rattle.td_base.specs.Lists.{In}
 use Rattle.td_base.proofs.Lists.{In-back, In-map, all_in}
-use Rattle.td_list.specs.declared.item.Item.{Item}
-use Rattle.td_list.specs.Items.{names, IsItem, AreApart, first_name, items_from}
+use Rattle.td_list.specs.Items.{Item, names, IsItem, AreApart, first_name, items_from}
 use Rattle.td_list.proofs.Parted.{from_at}
 use Rattle.td_list.proofs.Names.{apart-parts, apart-back}
 use Rattle.td_tree.specs.Parts.{Parts, IsTree}

@@ -3,8 +3,7 @@ use Rattle.std.proofs.Common.{◌≡◌, ◌≢◌, ◌+◌, ◌-◌, ◌/◌, �
 use Rattle.std.proofs.lemmas.Bool.{ltb-true, ltb-false, cases_eq}
 use Rattle.td_base.specs.Lists.{In}
 use Rattle.td_base.proofs.Lists.{In-append}
-use Rattle.td_list.specs.declared.item.Item.{Item}
-use Rattle.td_list.specs.Items.{IsItem, AreApart, items_before, items_after, weight_of}
+use Rattle.td_list.specs.Items.{Item, IsItem, AreApart, items_before, items_after, weight_of}
 use Rattle.td_list.proofs.Names.{weight-append, apart-parts, apart-front, apart-back, item-append, item-front}
 use Rattle.td_tree.specs.declared.stretch.Stretch.{Stretch}
 use Rattle.td_tree.specs.declared.tree_row.RowState.TheVariants.{Node}

@@ -10,9 +10,8 @@ use Rattle.td_base.proofs.Lists.{In-map}
 use Rattle.td_base.specs.RunAtoms.{NamedAtom}
 use Rattle.td_doc.specs.Document.{DocRow, row_id, live_rows, live_id_at, is_empty_list}
 use Rattle.td_doc.specs.Array.{named}
-use Rattle.td_list.specs.declared.item.Item.{Item}
+use Rattle.td_list.specs.Items.{Item, IsItem, weight_of, share_at}
 use Rattle.td_list.specs.declared.item.Share.{Share}
-use Rattle.td_list.specs.Items.{IsItem, weight_of, share_at}
 use Rattle.td_brackets.specs.Brackets.{Token, Open, Atom, Close, Leaf, Entry, atom_of, rows_of}
 use Rattle.td_brackets.specs.RowNumbers.{row_numbers_at}
 use Rattle.td_brackets.specs.Laws.{live_number, live_numbers}

@@ -7,8 +7,7 @@ use Rattle.td_doc.specs.Document.{DocRow, is_empty_list}
 use Rattle.td_doc.specs.Deletion.{delete, add_dot}
 use Rattle.td_doc.specs.Flatten.{flatten}
 use Rattle.td_path.specs.declared.slot.Slot.{Slot}
-use Rattle.td_list.specs.declared.item.Item.{Item}
-use Rattle.td_list.specs.Items.{IsItem, AreApart, weight_of}
+use Rattle.td_list.specs.Items.{Item, IsItem, AreApart, weight_of}
 use Rattle.td_tree.specs.declared.tree_row.RowState.{RowState}
 use Rattle.td_tree.specs.declared.tree_row.RowState.TheVariants.{Node, InArray, Gone}
 use Rattle.td_brackets.specs.Brackets.{Token, Open, Atom, Close, Leaf, Entry, numbers_of, rows_of, IsBrackets}
@@ -193,7 +192,7 @@ pub record IsTree (p : Parts) : Type 0 where
   -- each row is one of those that have numbers
   pub few : length (numbers_of (tokens p)) ≤ length p.rows
   pub light : weight_of p.items ≤ length p.rows
-  pub most : length p.rows ≤ 2 ^ 30
+  pub most : length p.rows < 2 ^ 30
 
 -- the same rows, and some more of them in brackets
 pub record IsMoreOpen (p q : Parts) : Type 0 where

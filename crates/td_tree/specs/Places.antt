@@ -10,8 +10,7 @@ use Rattle.td_path.specs.Infix.{path_cmp}
 use Rattle.td_path.specs.SlotPaths.{path_in}
 use Rattle.td_doc.specs.Document.{DocRow}
 use Rattle.td_doc.specs.Slots.{slot_path}
-use Rattle.td_list.specs.declared.item.Item.{Item}
-use Rattle.td_list.specs.Items.{first_name, put_before}
+use Rattle.td_list.specs.Items.{Item, first_name, put_before}
 use Rattle.td_brackets.specs.Brackets.{Level, Entry, move_all, slot_of, rows_of, rows_from}
 use Rattle.td_tree.specs.declared.tree_row.RowState.TheVariants.{Node, InArray}
 use Rattle.td_doc.specs.Answers.{is_rooted}

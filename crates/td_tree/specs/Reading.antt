@@ -4,7 +4,7 @@ use Rattle.td_base.specs.declared.bit.Bit.{Bit}
 use Rattle.td_base.specs.declared.bit.Bit.TheVariants.{Left, Right}
 use Rattle.td_base.specs.Lists.{In}
 use Rattle.td_path.specs.declared.slot.Slot.{Slot}
-use Rattle.td_list.specs.declared.item.Item.{Item}
+use Rattle.td_list.specs.Items.{Item}
 use Rattle.td_brackets.specs.RowNumbers.{row_numbers_at, row_numbers}
 use Rattle.td_tree.specs.declared.tree_row.RowState.{RowState}
 use Rattle.td_tree.specs.declared.tree_row.RowState.TheVariants.{Node, InArray, Gone}

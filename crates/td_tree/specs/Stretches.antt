@@ -2,8 +2,7 @@
 use Rattle.std.specs.Prelude.{◌≡◌, ◌+◌, ◌/◌, ◌<◌, ◌++◌, ℕ, List, [], ◌∷◌, length, get_or, Option, Some, None}
 use Rattle.td_path.specs.declared.slot.Slot.{Slot}
 use Rattle.td_doc.specs.Flatten.{flatten}
-use Rattle.td_list.specs.declared.item.Item.{Item}
-use Rattle.td_list.specs.Items.{items_before}
+use Rattle.td_list.specs.Items.{Item, items_before}
 use Rattle.td_brackets.specs.Brackets.{Token, Open, Atom, Close, Leaf, rows_of, IsWord}
 use Rattle.td_brackets.specs.Laws.{live_number, live_numbers, leaf_word}
 use Rattle.td_brackets.specs.RowNumbers.{row_numbers_at, row_numbers}

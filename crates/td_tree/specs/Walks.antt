@@ -2,8 +2,7 @@
 use Rattle.std.specs.Prelude.{◌≡◌, ◌+◌, ◌/◌, ◌%◌, ◌==◌, ◌⊎◌, ◌++◌, ℕ, List, if◌then◌else◌, Option, Some, None}
 use Rattle.td_base.specs.declared.bit.Bit.{Bit}
 use Rattle.td_base.specs.declared.bit.Bit.TheVariants.{Left, Right}
-use Rattle.td_list.specs.declared.item.Item.{Item}
-use Rattle.td_list.specs.Items.{first_name}
+use Rattle.td_list.specs.Items.{Item, first_name}
 use Rattle.td_tree.specs.declared.tree_row.RowState.TheVariants.{InArray}
 use Rattle.td_tree.specs.Parts.{Parts, state_at}
 

@@ -1,8 +1,7 @@
 -- A leaf opened down to one of its rows, in one piece.
 use Rattle.std.specs.Prelude.{◌≡◌, ◌<◌, ◌≤◌, ◌^◌, ◌+◌, ◌-◌, ◌*◌, ◌/◌, ◌++◌, ℕ, List, [], ◌∷◌, length, get_or, set}
 use Rattle.td_base.specs.Lists.{In}
-use Rattle.td_list.specs.declared.item.Item.{Item}
-use Rattle.td_list.specs.Items.{AreApart, AreNew, items_before, items_after, weight_of}
+use Rattle.td_list.specs.Items.{Item, AreApart, AreNew, items_before, items_after, weight_of}
 use Rattle.td_tree.specs.declared.stretch.Stretch.{Stretch}
 use Rattle.td_tree.specs.declared.tree_row.RowState.{RowState}
 use Rattle.td_tree.specs.declared.tree_row.RowState.TheVariants.{Node}
@@ -48,6 +47,6 @@ pub record IsWay (p : Parts) (leaf : Stretch) (index : ℕ) (piece : List Item) 
   pub some : 0 < length piece
   pub apart : AreApart piece
   pub new : AreNew piece (items_before (leaf_name p leaf) p.items ++ items_after (leaf_name p leaf) p.items)
-  pub light : weight_of p.items + weight_of piece < 2 ^ 32
+  pub light : weight_of p.items + weight_of piece < 2 ^ 31
   pub known : (r : ℕ) → In r tops → r < length p.rows
   pub counted : p.nodes + length tops < 2 ^ 32

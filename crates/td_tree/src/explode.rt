@@ -47,7 +47,7 @@ impl Tokens {
         ensures node { OnOk result (state_at self.new (row_of_array self.old leaf.array index) ≡ Node) }
         ensures few { (d : ℕ) → leaf.len < 2 ^ d → self.new.nodes ≤ self.old.nodes + d }
     {
-        let name = self.whole(leaf).name;
+        let name = self.whole(leaf).name();
         let way = self.way_down(leaf, index)?;
         self.list.replace_one(name, &way.piece)?;
         make_nodes(&mut self.states, &way.tops);

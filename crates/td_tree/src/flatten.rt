@@ -113,7 +113,7 @@ fn put_leaf(list: &mut List, first: u32, end: Option<u32>, live: &[u32]) -> Resu
     requires first { IsItem first list.old }
     requires end { ForSome end (λ x. IsItem x list.old × (place_of first list.old ≤ place_of x list.old)) }
     requires new { AreNew (leaf_of live.now) (items_before first list.old ++ items_from_end end list.old) }
-    requires light { weight_of list.old + length live.now < 2 ^ 32 }
+    requires light { weight_of list.old + length live.now < 2 ^ 31 }
     ensures ok { OnOk result (list.new ≡ replace first end (leaf_of live.now) list.old) }
     ensures err { OnErr result (list.new ≡ list.old) }
 {

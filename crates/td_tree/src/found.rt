@@ -2,7 +2,7 @@
 ghost use Rattle.std.specs.Prelude.{◌≡◌, ◌<◌, ◌≤◌, ◌+◌, ◌%◌, ◌^◌, length, IfOk, OnOk};
 ghost use Rattle.td_base.specs.Lists.{In};
 ghost use Rattle.td_brackets.specs.RowNumbers.{row_numbers};
-ghost use Rattle.td_list.specs.declared.item.Item.{Item};
+ghost use Rattle.td_list.specs.Items.{Item};
 ghost use Rattle.td_tree.specs.Parts.{array_at, part, token_of, tokens_of, IsTree};
 ghost use Rattle.td_tree.specs.Stretches.{IsFound, IsFoundAt, IsFoundAmong, items_up_to};
 ghost use Rattle.td_tree.specs.Walks.{IsStretch};
@@ -74,9 +74,9 @@ impl Tokens {
             found.old.live.items found.old.nodes.items found.old.dead
             found.new.live.items found.new.nodes.items found.new.dead) }
     {
-        match item.name % 3 {
+        match item.name() % 3 {
             0 => {
-                found.nodes.push(item.name / 3)?;
+                found.nodes.push(item.name() / 3)?;
                 Ok(())
             }
             1 => self.find_row(found, item),
@@ -94,14 +94,14 @@ impl Tokens {
             found.old.live.items found.old.nodes.items found.old.dead
             found.new.live.items found.new.nodes.items found.new.dead) }
     {
-        let row = item.name / 3;
+        let row = item.name() / 3;
         match self.leaf_at(item) {
             Some(leaf) => {
                 found.live.extend_from_slice(self.part(leaf))?;
                 Ok(())
             }
             None => {
-                if item.weight > 0 {
+                if item.weight() > 0 {
                     found.live.push(row)?;
                 } else {
                     found.dead += 1;
@@ -130,7 +130,7 @@ pub fn items_up_to(items: &[Item], end: Option<u32>) -> &[Item]
         return items;
     };
     for place in 0..items.len() {
-        if items[place].name == name {
+        if items[place].name() == name {
             return &items[..place];
         }
     }

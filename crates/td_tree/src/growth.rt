@@ -179,7 +179,7 @@ fn put(list: &mut List, at: Option<u32>, piece: &[Item]) -> Result<(), Memory>
     requires there { ForSome at (λ x. IsItem x list.old) }
     requires apart { AreApart piece.now }
     requires new { AreNew piece.now list.old }
-    requires light { weight_of list.old + weight_of piece.now < 2 ^ 32 }
+    requires light { weight_of list.old + weight_of piece.now < 2 ^ 31 }
     ensures ok { OnOk result (list.new ≡ put_at at piece.now list.old) }
     ensures err { OnErr result (list.new ≡ list.old) }
 {

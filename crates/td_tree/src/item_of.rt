@@ -9,23 +9,16 @@ pub fn open_item(row: u32) -> Item
     requires { row < 2 ^ 30 }
     ensures { result ≡ open_item row }
 {
-    Item {
-        name: 3 * row,
-        weight: 0,
-        marked: false,
-    }
+    Item::new(3 * row, 0, false)
 }
 
 /// A row itself, or a leaf of which it is the top, with so many live rows.
 pub fn atom_item(row: u32, weight: u32) -> Item
-    requires { row < 2 ^ 30 }
+    requires known { row < 2 ^ 30 }
+    requires light { weight < 2 ^ 31 }
     ensures { result ≡ atom_item row weight }
 {
-    Item {
-        name: 3 * row + 1,
-        weight,
-        marked: true,
-    }
+    Item::new(3 * row + 1, weight, true)
 }
 
 /// The bracket that closes a row.
@@ -33,9 +26,5 @@ pub fn close_item(row: u32) -> Item
     requires { row < 2 ^ 30 }
     ensures { result ≡ close_item row }
 {
-    Item {
-        name: 3 * row + 2,
-        weight: 0,
-        marked: false,
-    }
+    Item::new(3 * row + 2, 0, false)
 }

@@ -5,7 +5,7 @@ ghost use Rattle.td_base.specs.Lists.{In};
 ghost use Rattle.td_clock.specs.Vector.{vector_has};
 ghost use Rattle.td_path.specs.declared.slot.Slot.TheVariants.{Root, At};
 ghost use Rattle.td_doc.specs.Slots.{is_known};
-ghost use Rattle.td_list.specs.declared.item.Item.{Item};
+ghost use Rattle.td_list.specs.Items.{Item};
 ghost use Rattle.td_brackets.specs.RowNumbers.{is_known_entry};
 ghost use Rattle.td_tree.specs.declared.tree_row.RowState.TheVariants.{Gone};
 ghost use Rattle.td_tree.specs.Parts.{state_at, table, array_at, part, doc_rows, IsTree};
@@ -94,12 +94,12 @@ impl Tokens {
         requires there { In item self.now.items }
         ensures { result ≡ list_all (λ (r : ℕ). is_known_entry v.now (table self.now r)) (shown_at self.now item) }
     {
-        if item.name % 3 != 1 {
+        if item.name() % 3 != 1 {
             return true;
         }
         match self.leaf_at(item) {
             Some(leaf) => self.is_part_known(leaf, v),
-            None => self.is_row_known(item.name / 3, v),
+            None => self.is_row_known(item.name() / 3, v),
         }
     }
 

@@ -21,9 +21,9 @@ impl Tokens {
             token_of self.now item ≡ Leaf (part (array_at self.now s.array) s.from s.len)) }
         ensures row { IfNone result (token_of self.now item ≡ Atom (item.name / 3)) }
     {
-        match self.state(item.name / 3) {
+        match self.state(item.name() / 3) {
             RowState::InArray { array, index } => {
-                let len = item.weight;
+                let len = item.weight();
                 let from = index - len / 2;
                 Some(Stretch { array, from, len })
             }

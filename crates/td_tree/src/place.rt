@@ -42,8 +42,8 @@ impl Tokens {
         ensures { (id : AtomIdValue) → IsPlace self.now (At (table self.now row).id bit) id result }
     {
         match bit {
-            Bit::Left => self.next(open_item(row).name),
-            Bit::Right => self.next(atom_item(row, 0).name),
+            Bit::Left => self.next(open_item(row).name()),
+            Bit::Right => self.next(atom_item(row, 0).name()),
         }
     }
 

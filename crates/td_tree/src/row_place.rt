@@ -1,8 +1,7 @@
 // Where rows stand among the tokens.
 ghost use Rattle.std.specs.Prelude.{◌≡◌, ◌≢◌, ◌<◌, ◌^◌, length, slice_get};
 ghost use Rattle.td_base.specs.Lists.{In};
-ghost use Rattle.td_list.specs.declared.item.Item.{Item};
-ghost use Rattle.td_list.specs.Items.{IsItem};
+ghost use Rattle.td_list.specs.Items.{Item, IsItem};
 ghost use Rattle.td_tree.specs.declared.tree_row.RowState.TheVariants.{Gone};
 ghost use Rattle.td_tree.specs.Parts.{state_at, IsTree};
 ghost use Rattle.td_tree.specs.Reading.{shown_at, StandsAt};
@@ -56,7 +55,7 @@ impl Tokens {
         let row = place.name / 3;
         match self.state(row) {
             RowState::InArray { array, index } => {
-                let len = self.list.get(place.name).weight;
+                let len = self.list.get(place.name).weight();
                 if place.rest < len {
                     Some(self.row_in(array, index - len / 2 + place.rest))
                 } else {

@@ -2,7 +2,7 @@
 ghost use Rattle.std.specs.Prelude.{◌≡◌, ◌<◌, ◌++◌, [], ℕ, List, length, OnOk, OnErr};
 ghost use Rattle.td_base.specs.Lists.{In};
 ghost use Rattle.td_doc.specs.Document.{text_of};
-ghost use Rattle.td_list.specs.declared.item.Item.{Item};
+ghost use Rattle.td_list.specs.Items.{Item};
 ghost use Rattle.td_brackets.specs.RowNumbers.{text_of_numbers};
 ghost use Rattle.td_tree.specs.Parts.{table, doc_rows, IsTree};
 ghost use Rattle.td_tree.specs.Reading.{shown_at, shown};
@@ -61,9 +61,9 @@ impl Tokens {
         ensures ok { OnOk result (text.new ≡ text.old ++ text_of_numbers (table self.now) (shown_at self.now item)) }
         ensures front { (more : List ℕ) × (text.new ≡ text.old ++ more) }
     {
-        match item.weight {
+        match item.weight() {
             0 => Ok(()),
-            1 => self.push_row(item.name / 3, text),
+            1 => self.push_row(item.name() / 3, text),
             _ => {
                 let leaf = self.leaf_at(item).unwrap();
                 self.push_rows(self.part(leaf), text)

@@ -4,8 +4,7 @@ ghost use Rattle.std.specs.Option.{ForSome};
 ghost use Rattle.td_doc.specs.Document.{DocRow, find_row};
 ghost use Rattle.td_doc.specs.Slots.{own_slot};
 ghost use Rattle.td_doc.specs.Answers.{row_told, live_before};
-ghost use Rattle.td_list.specs.declared.item.Item.{Item};
-ghost use Rattle.td_list.specs.Items.{IsItem, items_after, first_name, weight_of};
+ghost use Rattle.td_list.specs.Items.{Item, IsItem, items_after, first_name, weight_of};
 ghost use Rattle.td_brackets.specs.Brackets.{move_all, slot_round};
 ghost use Rattle.td_tree.specs.declared.tree_row.RowState.TheVariants.{Node, Gone};
 ghost use Rattle.td_tree.specs.Parts.{state_at, table, tokens_of, doc_rows, IsTree};
@@ -83,7 +82,7 @@ impl Tokens {
         ensures node { IsTrue result → state_at self.now row ≡ Node }
         ensures next { IsTrue result → first_name (items_after (3 * row + 1) self.now.items) ≡ at }
     {
-        at == Some(close_item(row).name) && self.next(atom_item(row, 0).name) == at
+        at == Some(close_item(row).name()) && self.next(atom_item(row, 0).name()) == at
     }
 
     // The slot in which a row stands.

@@ -1,5 +1,5 @@
 use Rattle.std.proofs.Common.{◌∙◌, List, Option, sym, ap, subst}
-use Rattle.td_list.specs.declared.item.Item.{Item}
+use Rattle.td_list.specs.Items.{Item}
 use Rattle.td_list.specs.declared.deferred.Pending.{Pending}
 use Rattle.td_list.specs.Deferred.{items_now, IsPending, IsDeferred}
 use Rattle.td_list.proofs.Reweighed.{told_all}

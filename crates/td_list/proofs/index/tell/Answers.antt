@@ -1,6 +1,5 @@
 use Rattle.std.proofs.Common.{◌≡◌, ◌∙◌, ◌++◌, List, refl, ap, sym}
-use Rattle.td_list.specs.declared.item.Item.{Item}
-use Rattle.td_list.specs.Items.{items_before, renew}
+use Rattle.td_list.specs.Items.{Item, items_before, renew}
 use Rattle.td_list.proofs.Parted.{parts}
 use Rattle.td_list.proofs.index.tell.Goals as goal
 

@@ -1,6 +1,5 @@
 use Rattle.std.proofs.Common.{◌≡◌, ◌⊎◌, ◌+◌, ◌%◌, ◌++◌, ◌∷◌, ℕ, List, [], sym, ap, subst, inl, inr, ⊎_elim, arith}
-use Rattle.td_list.specs.declared.item.Item.{Item}
-use Rattle.td_list.specs.Items.{IsItem, items_before, items_from, put_before, weight_of}
+use Rattle.td_list.specs.Items.{Item, IsItem, items_before, items_from, put_before, weight_of}
 use Rattle.td_list.proofs.Names.{weight-append, item-append, item-front, item-back}
 use Rattle.td_list.proofs.Parted.{parts}
 use Rattle.td_list.proofs.tests.by_turns.Goals as goal
@@ -34,22 +33,22 @@ module _ (y : ℕ) (piece items : List Item) where
 
 pub insert_before-requires-clause-new : goal.insert_before-requires-clause-new
 insert_before-requires-clause-new c = λ x m j.
-    let named = ap (λ (i : Item). i.name) c.item-in-loop-name.ensures in
+    let named = ap (λ (i : Item). i.name) c.new-in-loop-name.ensures in
     let used = c.loop-name.invariant.used x j in
-    ⊎_elim (λ (e : x ≡ c.item-in-loop-name.result.name). omega arith) (λ (z : ⊥). z) m
+    ⊎_elim (λ (e : x ≡ c.new-in-loop-name.result.name). omega arith) (λ (z : ⊥). z) m
 
 pub loop-name-preserved : goal.loop-name-preserved
 loop-name-preserved c =
     let y : ℕ = c.loop-name.name % 3 in
-    let piece : List Item = c.item-in-loop-name.result ∷ [] in
+    let piece : List Item = c.new-in-loop-name.result ∷ [] in
     let items : List Item = c.loop-name.list in
     let is = c.in_ok-insert_before.ensures.ok in
-    let named = ap (λ (i : Item). i.name) c.item-in-loop-name.ensures in
-    let weighed = ap (λ (i : Item). i.weight) c.item-in-loop-name.ensures in
+    let named = ap (λ (i : Item). i.name) c.new-in-loop-name.ensures in
+    let weighed = ap (λ (i : Item). i.weight) c.new-in-loop-name.ensures in
     record {
       there = λ x h. subst (IsItem x) (sym is) (kept y piece items x (c.loop-name.invariant.there x h));
       used = λ x h. ⊎_elim (λ (i : IsItem x items). let u = c.loop-name.invariant.used x i in omega arith)
-          (λ (i : IsItem x piece). ⊎_elim (λ (e : x ≡ c.item-in-loop-name.result.name). omega arith) (λ (z : ⊥). absurd z) i)
+          (λ (i : IsItem x piece). ⊎_elim (λ (e : x ≡ c.new-in-loop-name.result.name). omega arith) (λ (z : ⊥). absurd z) i)
           (old_or_new y piece items x (subst (IsItem x) is h));
       weight = let w = ap weight_of is in let v = heavier y piece items in let was = c.loop-name.invariant.weight in omega arith;
     }

@@ -1,6 +1,5 @@
 use Rattle.std.proofs.Common.{◌∙◌, ◌++◌, ◌∷◌, ◌<◌, List, [], length, ap, sym, subst}
-use Rattle.td_list.specs.declared.item.Item.{Item}
-use Rattle.td_list.specs.Items.{AreNew, items_before, items_from_end}
+use Rattle.td_list.specs.Items.{Item, AreNew, items_before, items_from_end}
 use Rattle.td_tree.proofs.SlotStretches.{leaf_some, not_none}
 use Rattle.td_tree.proofs.flatten.put_leaf.Goals as goal
 

@@ -1,6 +1,5 @@
 use Rattle.std.proofs.Common.{◌-◌, ◌∙◌, List, take, drop, ap, arith}
-use Rattle.td_list.specs.declared.item.Item.{Item}
-use Rattle.td_list.specs.Items.{weight_of, has_mark}
+use Rattle.td_list.specs.Items.{Item, weight_of, has_mark}
 use Rattle.td_list.proofs.Weights.{weight-cut}
 use Rattle.td_list.proofs.chunk.Chunk.cut.Goals as goal
 
@@ -23,5 +22,8 @@ invariant_of-self c =
     let items = c.self.inside.items.items in
     let read = ap (λ (q : List Item). weight_of (take (c.args.to - c.args.from) (drop c.args.from q))) c.deref.ensures.value in
     let parts = weight-cut c.args.from c.args.to items c.requires.from in
-    let left = ap weight_of c.take_out.ensures in
-    (omega (arith, c.self.invariant.0, c.weight_of.ensures), c.has_mark-self-inside.ensures ∙ ap has_mark c.deref-2.ensures.value)
+    let left = ap weight_of c.take_out.ensures in (
+      omega (arith, c.self.invariant.0, c.weight_of.ensures),
+      c.has_mark-self-inside.ensures ∙ ap has_mark c.deref-2.ensures.value,
+      omega (arith, c.self.invariant.2),
+    )

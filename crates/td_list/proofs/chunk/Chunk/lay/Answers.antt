@@ -1,6 +1,5 @@
 use Rattle.std.proofs.Common.{◌-◌, ◌∙◌, List, take, drop, ap, arith}
-use Rattle.td_list.specs.declared.item.Item.{Item}
-use Rattle.td_list.specs.Items.{weight_of, has_mark}
+use Rattle.td_list.specs.Items.{Item, weight_of, has_mark}
 use Rattle.td_list.proofs.Weights.{weight-cut, weight-lay}
 use Rattle.td_list.proofs.chunk.Chunk.lay.Goals as goal
 
@@ -30,4 +29,8 @@ invariant_of-self c =
     let parts = weight-lay c.args.from c.args.to items c.args.over.now (omega (arith, c.requires.long)) in
     let less = weight-cut c.args.from c.args.to items (omega (arith, c.requires.long)) in
     let now = ap weight_of c.lay_over.ensures in
-    (omega (arith, c.self.invariant.0, c.weight_of-gone.ensures, c.weight_of.ensures), c.has_mark-self-inside.ensures ∙ ap has_mark c.deref-2.ensures.value)
+    let heavy = ap weight_of c.self.view_is in (
+      omega (arith, c.self.invariant.0, c.weight_of-gone.ensures, c.weight_of.ensures),
+      c.has_mark-self-inside.ensures ∙ ap has_mark c.deref-2.ensures.value,
+      omega (arith, c.self.invariant.0, c.weight_of-gone.ensures, c.weight_of.ensures, c.requires.light),
+    )

@@ -1,5 +1,5 @@
 use Rattle.std.proofs.Common.{◌≡◌, ◌<◌, ◌∙◌, List, length, get_or, ap, sym, subst}
-use Rattle.td_list.specs.declared.item.Item.{Item}
+use Rattle.td_list.specs.Items.{Item}
 use Rattle.td_list.specs.Places.{nothing}
 use Rattle.td_list.proofs.Distinct.{only_place}
 use Rattle.td_list.proofs.chunk.Chunk.place_of.Goals as goal

@@ -10,7 +10,9 @@ invariant_of-self-2 c =
     let items = c.self.inside.items.items in
     let now = c.in_ok-put_in.ensures.ok in
     let put = ap weight_of now in
-    let whole = weight-put c.args.place items piece in (
+    let whole = weight-put c.args.place items piece in
+    let heavy = ap weight_of c.self.view_is in (
       omega (arith, c.weight_of.ensures, c.self.invariant.0),
       c.is_marked_with-self-inside.ensures ∙ ap (λ (b : Bool). b || has_mark piece) c.self.invariant.1 ∙ mark-put c.args.place items piece ∙ sym (ap has_mark now),
+      omega (arith, c.weight_of.ensures, c.self.invariant.0, c.requires.light),
     )

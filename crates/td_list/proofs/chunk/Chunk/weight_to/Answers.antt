@@ -1,7 +1,6 @@
 use Rattle.std.proofs.Common.{◌≡◌, ◌-◌, ℕ, List, length, take, drop, ap, arith}
 use Rattle.std.proofs.lemmas.List.{take_rest}
-use Rattle.td_list.specs.declared.item.Item.{Item}
-use Rattle.td_list.specs.Items.{weight_of}
+use Rattle.td_list.specs.Items.{Item, weight_of}
 use Rattle.td_list.proofs.Names.{weight-parts}
 use Rattle.td_list.proofs.chunk.Chunk.weight_to.Goals as goal
 

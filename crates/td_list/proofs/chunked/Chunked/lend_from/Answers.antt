@@ -1,7 +1,6 @@
 use Rattle.std.proofs.Common.{◌≡◌, ◌∙◌, ◌++◌, ◌-◌, List, length, take, drop, sym, ap}
 use Rattle.std.proofs.lemmas.List.{take_rest}
-use Rattle.td_list.specs.declared.item.Item.{Item}
-use Rattle.td_list.specs.Items.{items_from}
+use Rattle.td_list.specs.Items.{Item, items_from}
 use Rattle.td_list.specs.Index.{Parts, chunk_at, chunks_after}
 use Rattle.td_list.proofs.Seats.{back_here}
 use Rattle.td_list.proofs.chunked.Chunked.lend_from.Goals as goal

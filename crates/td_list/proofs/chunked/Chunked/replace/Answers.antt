@@ -1,7 +1,6 @@
 use Rattle.std.proofs.Common.{◌≡◌, ◌∙◌, ◌++◌, ℕ, List, take, drop, sym, subst, ap, arith, append_assoc, Option}
 use Rattle.std.proofs.lemmas.List.{append-nil}
-use Rattle.td_list.specs.declared.item.Item.{Item}
-use Rattle.td_list.specs.Items.{IsItem, AreNew, place_of, items_before, items_from, items_from_end, replace}
+use Rattle.td_list.specs.Items.{Item, IsItem, AreNew, place_of, items_before, items_from, items_from_end, replace}
 use Rattle.td_list.specs.Index.{Parts, chunk_at, chunks_before, chunks_after}
 use Rattle.td_list.proofs.Seats.{place_seat, later_chunk, front_here, back_here}
 use Rattle.td_list.proofs.chunked.Chunked.replace.Goals as goal

@@ -1,6 +1,5 @@
 use Rattle.std.proofs.Common.{◌≡◌, ◌∙◌, ◌++◌, ◌+◌, ℕ, List, take, drop, sym, subst, ap, append_assoc}
-use Rattle.td_list.specs.declared.item.Item.{Item}
-use Rattle.td_list.specs.Items.{AreNew, items_before, items_after}
+use Rattle.td_list.specs.Items.{Item, AreNew, items_before, items_after}
 use Rattle.td_list.specs.Index.{Parts, chunk_at, chunks_before, chunks_after}
 use Rattle.td_list.proofs.Seats.{front_here, rest_here}
 use Rattle.td_list.proofs.chunked.Chunked.replace_one.Goals as goal

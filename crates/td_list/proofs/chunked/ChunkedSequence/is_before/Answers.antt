@@ -1,6 +1,5 @@
 use Rattle.std.proofs.Common.{◌∙◌, List, nat_lt, ap}
-use Rattle.td_list.specs.declared.item.Item.{Item}
-use Rattle.td_list.specs.Items.{place_of}
+use Rattle.td_list.specs.Items.{Item, place_of}
 use Rattle.td_list.proofs.Seats.{same_chunk, other_chunk}
 use Rattle.td_list.proofs.chunked.ChunkedSequence.is_before.Goals as goal
 

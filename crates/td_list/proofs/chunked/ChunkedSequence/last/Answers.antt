@@ -1,6 +1,5 @@
 use Rattle.std.proofs.Common.{◌≡◌, ◌∙◌, List, [], sym, ap}
-use Rattle.td_list.specs.declared.item.Item.{Item}
-use Rattle.td_list.specs.Items.{last_name}
+use Rattle.td_list.specs.Items.{Item, last_name}
 use Rattle.td_list.specs.Index.{Parts, joined}
 use Rattle.td_list.proofs.Found.{last_in, last_none}
 use Rattle.td_list.proofs.chunked.ChunkedSequence.last.Goals as goal

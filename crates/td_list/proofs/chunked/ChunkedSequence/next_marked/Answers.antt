@@ -1,6 +1,5 @@
 use Rattle.std.proofs.Common.{◌≡◌, ◌+◌, ◌∙◌, ◌++◌, List, drop, sym, ap, Some, None}
-use Rattle.td_list.specs.declared.item.Item.{Item}
-use Rattle.td_list.specs.Items.{items_after, first_marked}
+use Rattle.td_list.specs.Items.{Item, items_after, first_marked}
 use Rattle.td_list.specs.Index.{Parts, chunk_at, chunks_after}
 use Rattle.td_list.proofs.Parted.{drop_after}
 use Rattle.td_list.proofs.Seats.{after_seat}

@@ -1,6 +1,5 @@
 use Rattle.std.proofs.Common.{◌≡◌, ◌∙◌, ◌++◌, ℕ, List, length, take, drop, sym, subst, ap, arith}
-use Rattle.td_list.specs.declared.item.Item.{Item}
-use Rattle.td_list.specs.Items.{IsItem}
+use Rattle.td_list.specs.Items.{Item, IsItem}
 use Rattle.td_list.specs.Index.{Parts, chunk_at, chunks_before, chunks_after}
 use Rattle.td_list.proofs.Joined.{within, some}
 use Rattle.td_list.proofs.Seats.{put_last, new_beside, last_is_item}

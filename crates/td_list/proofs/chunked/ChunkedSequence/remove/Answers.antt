@@ -1,6 +1,5 @@
 use Rattle.std.proofs.Common.{◌≡◌, ◌∙◌, List, length, sym, ap}
-use Rattle.td_list.specs.declared.item.Item.{Item}
-use Rattle.td_list.specs.Items.{without}
+use Rattle.td_list.specs.Items.{Item, without}
 use Rattle.td_list.specs.Index.{Parts, chunk_at, joined}
 use Rattle.td_list.proofs.Added.{dropped_all}
 use Rattle.td_list.proofs.Seats.{remove_here, remove_sole}

@@ -1,6 +1,5 @@
 use Rattle.std.proofs.Common.{◌+◌, ◌∙◌, List, sym, ap, arith}
-use Rattle.td_list.specs.declared.item.Item.{Item}
-use Rattle.td_list.specs.Items.{items_before, weight_of}
+use Rattle.td_list.specs.Items.{Item, items_before, weight_of}
 use Rattle.td_list.specs.Index.{Parts, all_items}
 use Rattle.td_list.proofs.Changes.{chunk_light}
 use Rattle.td_list.proofs.Seats.{weight_seat, take_here}

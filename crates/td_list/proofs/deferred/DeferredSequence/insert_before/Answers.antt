@@ -1,7 +1,6 @@
 use Rattle.std.proofs.Common.{◌∙◌, List, ap, subst, Option}
-use Rattle.td_list.specs.declared.item.Item.{Item}
+use Rattle.td_list.specs.Items.{Item, IsItem}
 use Rattle.td_list.specs.declared.deferred.Pending.{Pending}
-use Rattle.td_list.specs.Items.{IsItem}
 use Rattle.td_list.specs.Deferred.{items_now}
 use Rattle.td_list.proofs.deferred.DeferredSequence.insert_before.Goals as goal
 

@@ -1,5 +1,5 @@
 use Rattle.std.proofs.Common.{◌∙◌, List, nat_lt, sym}
-use Rattle.td_list.specs.declared.item.Item.{Item}
+use Rattle.td_list.specs.Items.{Item}
 use Rattle.td_list.proofs.Reweighed.{alike_now, item_alike, place_alike}
 use Rattle.td_list.proofs.deferred.DeferredSequence.is_before.Goals as goal
 

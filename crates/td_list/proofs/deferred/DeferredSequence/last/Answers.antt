@@ -1,5 +1,5 @@
 use Rattle.std.proofs.Common.{◌∙◌, List}
-use Rattle.td_list.specs.declared.item.Item.{Item}
+use Rattle.td_list.specs.Items.{Item}
 use Rattle.td_list.proofs.Reweighed.{alike_now, last_alike}
 use Rattle.td_list.proofs.deferred.DeferredSequence.last.Goals as goal
 

@@ -1,5 +1,5 @@
 use Rattle.std.proofs.Common.{◌∙◌, List, sym}
-use Rattle.td_list.specs.declared.item.Item.{Item}
+use Rattle.td_list.specs.Items.{Item}
 use Rattle.td_list.proofs.Reweighed.{alike_now, item_alike, next_alike}
 use Rattle.td_list.proofs.deferred.DeferredSequence.next.Goals as goal
 

@@ -1,5 +1,5 @@
-use Rattle.std.proofs.Common.{List, not, ap}
-use Rattle.td_list.specs.declared.item.Item.{Item}
+use Rattle.std.proofs.Common.{◌∙◌, List, not, sym, ap}
+use Rattle.td_list.specs.Items.{Item}
 use Rattle.td_list.proofs.Marks.{same_marks}
 use Rattle.td_list.proofs.Reweighed.{pending_again}
 use Rattle.td_list.proofs.deferred.DeferredSequence.renew.Goals as goal
@@ -7,11 +7,15 @@ use Rattle.td_list.proofs.deferred.DeferredSequence.renew.Goals as goal
 pub invariant_of-self : goal.invariant_of-self
 invariant_of-self g c =
     let items : List Item = g.S.Sequence.items c.self.inside.list in
+    let named = sym c.name.ensures ∙ c.if-name.true ∙ c.name-in-Some.ensures in
+    let marked = sym c.marked.ensures ∙ same_marks c.marked.result c.marked-then-name.result (ap not c.if-marked.true) ∙ c.marked-then-name.ensures in
     (pending_again c.self.inside.pending c.in-Some.pending items c.args.self.now c.in-Some.is c.self.invariant c.self.view_is c.args.item
-    c.if-pending-item.true (same_marks c.in-Some.pending.item.marked c.args.item.marked (ap not c.if-pending-item-2.true)) c.requires.light).0
+    named marked c.requires.light).0
 
-pub returns-then-pending-item-2 : goal.returns-then-pending-item-2
-returns-then-pending-item-2 g c =
+pub returns-then-marked : goal.returns-then-marked
+returns-then-marked g c =
     let items : List Item = g.S.Sequence.items c.self.inside.list in
+    let named = sym c.name.ensures ∙ c.if-name.true ∙ c.name-in-Some.ensures in
+    let marked = sym c.marked.ensures ∙ same_marks c.marked.result c.marked-then-name.result (ap not c.if-marked.true) ∙ c.marked-then-name.ensures in
     (pending_again c.self.inside.pending c.in-Some.pending items c.args.self.now c.in-Some.is c.self.invariant c.self.view_is c.args.item
-    c.if-pending-item.true (same_marks c.in-Some.pending.item.marked c.args.item.marked (ap not c.if-pending-item-2.true)) c.requires.light).1
+    named marked c.requires.light).1

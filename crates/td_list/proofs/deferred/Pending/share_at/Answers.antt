@@ -1,6 +1,6 @@
-use Rattle.std.proofs.Common.{◌-◌, ◌∙◌, List, ap, arith}
-use Rattle.td_list.specs.declared.item.Item.{Item}
-use Rattle.td_list.specs.Items.{renew, share_at}
+use Rattle.std.proofs.Common.{◌+◌, ◌-◌, ◌∙◌, ℕ, List, Some, ap, arith}
+use Rattle.td_list.specs.Items.{Item, items_before, renew, share_at, weight_of}
+use Rattle.td_list.specs.declared.item.Share.{Share}
 use Rattle.td_list.proofs.Reweighed.{told_all, weight_now, share_before, share_within, share_behind, share_beyond}
 use Rattle.td_list.proofs.deferred.Pending.share_at.Goals as goal
 
@@ -17,21 +17,28 @@ returns-then-unit-weight g c =
 pub returns-then-unit-before : goal.returns-then-unit-before
 returns-then-unit-before g c =
     let items : List Item = g.S.Sequence.items c.args.list.now in
-    c.share_at-then-unit-before.ensures ∙ share_before c.args.self items c.requires c.args.unit (omega (arith, c.weight_before-before.ensures, c.if-unit-before.true))
+    let before = c.weight_before-before.ensures ∙ ap (λ (n : ℕ). weight_of (items_before n items)) c.name.ensures in
+    c.share_at-then-unit-before.ensures ∙ share_before c.args.self items c.requires c.args.unit (omega (arith, before, c.if-unit-before.true))
 
-pub returns-then-rest-self : goal.returns-then-rest-self
-returns-then-rest-self g c =
+pub returns-then-rest-weight : goal.returns-then-rest-weight
+returns-then-rest-weight g c =
     let items : List Item = g.S.Sequence.items c.args.list.now in
-    share_within c.args.self items c.requires c.args.unit (c.args.unit - c.weight_before-before.result)
-    (omega (arith, c.weight_before-before.ensures, c.if-unit-before.false)) c.if-rest-self.true
+    let before = c.weight_before-before.ensures ∙ ap (λ (n : ℕ). weight_of (items_before n items)) c.name.ensures in
+    let rest = c.args.unit - c.weight_before-before.result in
+    let share : ℕ → Share = λ n. record { name = n; rest = rest } in
+    ap (λ (n : ℕ). Some (share n)) c.name-then-rest-weight.ensures
+    ∙ share_within c.args.self items c.requires c.args.unit rest
+    (omega (arith, before, c.if-unit-before.false)) (omega (arith, c.weight-2.ensures, c.if-rest-weight.true))
 
 pub overflow_add-unit : goal.overflow_add-unit
 overflow_add-unit g c =
     let items : List Item = g.S.Sequence.items c.args.list.now in
-    omega (arith, c.weight.ensures.value, c.weight.ensures.light, c.if-unit-weight.false, c.if-unit-before.false, c.if-rest-self.false, weight_now c.args.self items c.requires)
+    omega (arith, c.weight.ensures.value, c.weight.ensures.light, c.if-unit-weight.false, c.if-unit-before.false, c.if-rest-weight.false, c.weight-2.ensures, c.weight-3.ensures, weight_now c.args.self items c.requires)
 
 pub returns : goal.returns
 returns g c =
     let items : List Item = g.S.Sequence.items c.args.list.now in
-    c.share_at-2.ensures ∙ share_behind c.args.self items c.requires c.args.unit
-    (omega (arith, c.weight_before-before.ensures, c.if-unit-before.false, c.if-rest-self.false))
+    let before = c.weight_before-before.ensures ∙ ap (λ (n : ℕ). weight_of (items_before n items)) c.name.ensures in
+    c.share_at-2.ensures ∙ ap (λ (n : ℕ). share_at (c.args.unit - n + c.args.self.told) items) c.weight-3.ensures
+    ∙ share_behind c.args.self items c.requires c.args.unit
+    (omega (arith, before, c.if-unit-before.false, c.if-rest-weight.false, c.weight-2.ensures))

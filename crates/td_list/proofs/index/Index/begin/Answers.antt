@@ -1,8 +1,7 @@
 use Rattle.std.proofs.Common.{◌≡◌, ◌<◌, ◌-◌, ◌∙◌, ◌++◌, ◌∷◌, ℕ, List, [], length, get_or, set, ap, sym, subst, arith, ⊎_elim, Some}
 use Rattle.std.proofs.lemmas.List.{append-nil}
 use Rattle.td_base.specs.Lists.{In}
-use Rattle.td_list.specs.declared.item.Item.{Item}
-use Rattle.td_list.specs.Items.{IsItem, weight_of}
+use Rattle.td_list.specs.Items.{Item, IsItem, weight_of}
 use Rattle.td_list.specs.Index.{Parts, joined, summary, IsIndex}
 use Rattle.td_list.proofs.Joined.{all_weight}
 use Rattle.td_list.proofs.Changes.{grown_index}

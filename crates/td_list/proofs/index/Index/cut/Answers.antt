@@ -1,6 +1,5 @@
 use Rattle.std.proofs.Common.{◌≡◌, ◌<◌, ◌^◌, ◌∙◌, ◌++◌, ℕ, List, take, drop, set, ap, sym, subst}
-use Rattle.td_list.specs.declared.item.Item.{Item}
-use Rattle.td_list.specs.Items.{renew, weight_of}
+use Rattle.td_list.specs.Items.{Item, renew, weight_of}
 use Rattle.td_list.specs.Index.{Parts, chunk_at, joined, summary, IsIndex}
 use Rattle.td_list.proofs.Joined.{within, changed_all, changed_weight}
 use Rattle.td_list.proofs.Changes.{cut_index, cut_light, read_was, read_new}
@@ -16,7 +15,7 @@ renew-requires-clause-light g c =
     let new : c.cut.new.self ≡ take c.args.from old ++ drop c.args.to old = c.cut.ensures ∙ ap (λ (q : List Item). take c.args.from q ++ drop c.args.to q) was in
     let told : c.summary.result ≡ summary c.args.chunk (take c.args.from old ++ drop c.args.to old) =
     c.summary.ensures ∙ ap (summary c.args.chunk) (read_new c.self.inside.chunks.items p.chunks c.args.chunk c.cut.new.self c.index.result.now same c.index.ensures w ∙ new) in
-    subst (λ (n : ℕ). n < 2 ^ 32)
+    subst (λ (n : ℕ). n < 2 ^ 31)
     (sym ((λ i. weight_of (renew (told i) (c.self.view_is i).order)) ∙ changed_weight p c.requires.index c.args.chunk c.requires.chunk (take c.args.from old ++ drop c.args.to old)))
     (cut_light p c.requires.index c.args.chunk c.requires.chunk c.args.from c.args.to c.requires.from)
 

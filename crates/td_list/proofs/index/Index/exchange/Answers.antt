@@ -1,7 +1,6 @@
 use Rattle.std.proofs.Common.{◌≡◌, ◌<◌, ◌≤◌, ◌+◌, ◌^◌, ◌∙◌, ◌++◌, ℕ, List, length, take, drop, get_or, set, ap, sym, subst, arith, ◌-◌, length-append}
 use Rattle.std.proofs.lemmas.List.{drop_all, append-nil, length-take-le}
-use Rattle.td_list.specs.declared.item.Item.{Item}
-use Rattle.td_list.specs.Items.{AreNew, renew, weight_of}
+use Rattle.td_list.specs.Items.{Item, AreNew, renew, weight_of}
 use Rattle.td_list.specs.Index.{Parts, chunk_at, chunks_before, chunks_after, joined, summary, IsIndex}
 use Rattle.td_list.proofs.Joined.{within, changed_all, changed_weight}
 use Rattle.td_list.proofs.Changes.{splice_index, spliced_weight}
@@ -22,7 +21,7 @@ renew-requires-clause-light g c =
     let old = chunk_at p.chunks c.args.chunk in
     let l = spliced_weight p c.requires.index c.args.chunk c.requires.chunk c.args.piece.now c.args.place (length old) c.requires.place (omega arith) in
     let e = ap (λ (q : List Item). weight_of (chunks_before c.args.chunk p ++ q ++ chunks_after c.args.chunk p)) (c.requires.is ∙ front_only c.args.place old c.args.piece.now) in
-    subst (λ (n : ℕ). n < 2 ^ 32)
+    subst (λ (n : ℕ). n < 2 ^ 31)
     (sym ((λ i. weight_of (renew (c.summary.ensures i) (c.self.view_is i).order)) ∙ changed_weight p c.requires.index c.args.chunk c.requires.chunk c.args.new))
     (omega (arith, c.requires.light))
 

@@ -1,6 +1,5 @@
 use Rattle.std.proofs.Common.{◌≡◌, ◌<◌, ◌+◌, ◌^◌, ◌∙◌, ◌++◌, ◌∷◌, ℕ, List, take, drop, get_or, set, ap, sym, subst, arith}
-use Rattle.td_list.specs.declared.item.Item.{Item}
-use Rattle.td_list.specs.Items.{renew, weight_of}
+use Rattle.td_list.specs.Items.{Item, renew, weight_of}
 use Rattle.td_list.specs.Index.{Parts, chunk_at, joined, summary, IsIndex}
 use Rattle.td_list.specs.Places.{nothing}
 use Rattle.td_list.proofs.Joined.{within, changed_all, changed_weight}
@@ -18,7 +17,7 @@ renew-requires-2-clause-light g c =
     let new : c.renew.new.self ≡ take c.args.place old ++ c.args.item ∷ drop (c.args.place + 1) old = c.renew.ensures ∙ ap (λ (q : List Item). take c.args.place q ++ c.args.item ∷ drop (c.args.place + 1) q) was in
     let told : c.summary.result ≡ summary c.args.chunk (take c.args.place old ++ c.args.item ∷ drop (c.args.place + 1) old) =
     c.summary.ensures ∙ ap (summary c.args.chunk) (read_new c.self.inside.chunks.items p.chunks c.args.chunk c.renew.new.self c.index.result.now same c.index.ensures w ∙ new) in
-    subst (λ (n : ℕ). n < 2 ^ 32)
+    subst (λ (n : ℕ). n < 2 ^ 31)
     (sym ((λ i. weight_of (renew (told i) (c.self.view_is i).order)) ∙ changed_weight p c.requires.index c.args.chunk c.requires.chunk (take c.args.place old ++ c.args.item ∷ drop (c.args.place + 1) old)))
     (c.requires.light)
 

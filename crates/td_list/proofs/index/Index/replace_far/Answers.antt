@@ -1,7 +1,6 @@
 use Rattle.std.proofs.Common.{◌≡◌, ◌<◌, ◌≤◌, ◌∙◌, ◌++◌, ◌∷◌, ℕ, List, length, take, drop, set, sym, subst, ap, arith, append_assoc, Some}
 use Rattle.std.specs.Option.{ForSome}
-use Rattle.td_list.specs.declared.item.Item.{Item}
-use Rattle.td_list.specs.Items.{IsItem, AreNew, items_before, items_after, items_from, items_from_end, renew, weight_of}
+use Rattle.td_list.specs.Items.{Item, IsItem, AreNew, items_before, items_after, items_from, items_from_end, renew, weight_of}
 use Rattle.td_list.specs.Index.{Parts, chunk_at, joined, chunks_before, chunks_after, summary}
 use Rattle.td_list.proofs.Found.{item_behind}
 use Rattle.td_list.proofs.Joined.{within}

@@ -1,8 +1,7 @@
 use Rattle.std.proofs.Common.{◌≡◌, ◌<◌, ◌≤◌, ◌∙◌, ◌++◌, ℕ, List, [], length, take, sym, subst, ap, arith, append_assoc, Some, None}
 use Rattle.std.proofs.lemmas.List.{append-nil}
 use Rattle.std.specs.Option.{ForSome}
-use Rattle.td_list.specs.declared.item.Item.{Item}
-use Rattle.td_list.specs.Items.{IsItem, AreNew, items_before, items_after, items_from, items_from_end}
+use Rattle.td_list.specs.Items.{Item, IsItem, AreNew, items_before, items_after, items_from, items_from_end}
 use Rattle.td_list.specs.Index.{Parts, chunk_at, chunks_before}
 use Rattle.td_list.proofs.Joined.{within}
 use Rattle.td_list.proofs.Changes.{chunk_light}

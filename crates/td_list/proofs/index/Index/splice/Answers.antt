@@ -1,7 +1,6 @@
 use Rattle.std.proofs.Common.{◌≡◌, ◌<◌, ◌^◌, ◌∙◌, ◌++◌, ◌∷◌, ℕ, List, [], length, take, drop, get_or, set, ap, sym, subst, arith}
 use Rattle.std.proofs.lemmas.List.{set-get_or}
-use Rattle.td_list.specs.declared.item.Item.{Item}
-use Rattle.td_list.specs.Items.{IsItem, items_from, items_after, renew, weight_of}
+use Rattle.td_list.specs.Items.{Item, IsItem, items_from, items_after, renew, weight_of}
 use Rattle.td_list.specs.Index.{Parts, chunk_at, joined, summary, IsIndex}
 use Rattle.td_list.proofs.Joined.{within, told, changed_all, changed_weight}
 use Rattle.td_list.proofs.Parted.{from_is, after_is}
@@ -18,7 +17,7 @@ tell-requires-clause-light g c =
     let new : c.splice.new.self ≡ take c.args.from old ++ c.args.piece.now ++ drop c.args.to old = c.in_ok-splice.ensures.ok ∙ ap (λ (q : List Item). take c.args.from q ++ c.args.piece.now ++ drop c.args.to q) was in
     let told : c.summary-now.result ≡ summary c.args.chunk (take c.args.from old ++ c.args.piece.now ++ drop c.args.to old) =
     c.summary-now.ensures ∙ ap (summary c.args.chunk) (read_new c.self.inside.chunks.items p.chunks c.args.chunk c.splice.new.self c.index.result.now same c.index.ensures w ∙ new) in
-    subst (λ (n : ℕ). n < 2 ^ 32)
+    subst (λ (n : ℕ). n < 2 ^ 31)
     (sym ((λ i. weight_of (renew (told i) (c.self.view_is i).order)) ∙ changed_weight p c.requires.index c.args.chunk c.requires.chunk (take c.args.from old ++ c.args.piece.now ++ drop c.args.to old)))
     (let l = spliced_weight p c.requires.index c.args.chunk c.requires.chunk c.args.piece.now c.args.from c.args.to c.requires.from c.requires.to in omega (arith, c.requires.light))
 

@@ -1,7 +1,6 @@
 use Rattle.std.proofs.Common.{◌≡◌, ◌<◌, ◌-◌, ◌^◌, ◌∙◌, ◌++◌, ◌∷◌, ℕ, List, [], length, get_or, set, take, drop, ap, sym, subst, arith, ⊎_elim, Some}
 use Rattle.td_base.specs.Lists.{In}
-use Rattle.td_list.specs.declared.item.Item.{Item}
-use Rattle.td_list.specs.Items.{IsItem, put_before, renew, weight_of}
+use Rattle.td_list.specs.Items.{Item, IsItem, put_before, renew, weight_of}
 use Rattle.td_list.specs.Index.{Parts, chunk_at, joined, summary, IsIndex}
 use Rattle.td_list.proofs.Names.{item_in_front}
 use Rattle.td_list.proofs.Joined.{within, homed, all_weight}
@@ -114,7 +113,7 @@ renew-requires-clause-light g c =
     let back : c.part-front.new.self ≡ drop cut old = c.part-front.ensures.back ∙ ap (drop cut) was in
     let told : c.summary.result ≡ summary c.args.chunk (drop cut old) = c.summary.ensures ∙ ap (summary c.args.chunk) (read_new c.self.inside.chunks.items p.chunks c.args.chunk c.part-front.new.self c.index.result.now same c.index.ensures w ∙ back) in
     let one : g.S.Sequence.items c.insert_before.new.self ≡ order_one p c.spare.ensures.index c.args.chunk there d c.pop.new.self.items rest cut low high = c.in_ok-insert_before.ensures.ok ∙ (λ i. put_before c.args.chunk (c.empty_chunk.ensures i ∷ []) (c.self.view_is i).order) in
-    subst (λ (n : ℕ). n < 2 ^ 32) (sym (λ i. weight_of (renew (told i) (one i)))) (two_light p c.spare.ensures.index c.args.chunk there d c.pop.new.self.items rest cut low high)
+    subst (λ (n : ℕ). n < 2 ^ 31) (sym (λ i. weight_of (renew (told i) (one i)))) (two_light p c.spare.ensures.index c.args.chunk there d c.pop.new.self.items rest cut low high)
 
 pub renew-requires-2-clause-there : goal.renew-requires-2-clause-there
 renew-requires-2-clause-there g c =
@@ -166,7 +165,7 @@ renew-requires-2-clause-light g c =
     let one : g.S.Sequence.items c.insert_before.new.self ≡ order_one p c.spare.ensures.index c.args.chunk there d c.pop.new.self.items rest cut low high = c.in_ok-insert_before.ensures.ok ∙ (λ i. put_before c.args.chunk (c.empty_chunk.ensures i ∷ []) (c.self.view_is i).order) in
     let two : g.S.Sequence.items c.renew.new.self ≡ order_two p c.spare.ensures.index c.args.chunk there d c.pop.new.self.items rest cut low high = c.renew.ensures ∙ (λ i. renew (told i) (one i)) in
     let told2 : c.summary-2.result ≡ summary d (take cut old) = c.summary-2.ensures ∙ ap (summary d) front in
-    subst (λ (n : ℕ). n < 2 ^ 32) (sym (λ i. weight_of (renew (told2 i) (two i)))) (three_light p c.spare.ensures.index c.args.chunk there d c.pop.new.self.items rest cut low high)
+    subst (λ (n : ℕ). n < 2 ^ 31) (sym (λ i. weight_of (renew (told2 i) (two i)))) (three_light p c.spare.ensures.index c.args.chunk there d c.pop.new.self.items rest cut low high)
 
 pub returns-clause-index : goal.returns-clause-index
 returns-clause-index g c =

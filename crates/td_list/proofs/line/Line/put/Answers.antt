@@ -1,6 +1,5 @@
 use Rattle.std.proofs.Common.{◌≡◌, ◌≤◌, ◌+◌, ◌∙◌, ◌++◌, ℕ, List, length, get_or, ap, take, drop, sym, subst, arith, ⊎_elim, append_assoc, length-append, take-append-drop}
-use Rattle.td_list.specs.declared.item.Item.{Item}
-use Rattle.td_list.specs.Items.{weight_of, AreApart, IsItem}
+use Rattle.td_list.specs.Items.{Item, weight_of, AreApart, IsItem}
 use Rattle.td_list.specs.Places.{nothing, ArePlaces}
 use Rattle.td_list.proofs.Names.{splice-apart, item-splice, item_at}
 use Rattle.td_list.proofs.Weights.{weight-put}

@@ -1,7 +1,6 @@
 use Rattle.std.proofs.Common.{◌≡◌, ◌<◌, ◌∙◌, ◌∷◌, ℕ, List, length, get_or, ap, sym, subst}
 use Rattle.std.proofs.lemmas.List.{get_or_default}
-use Rattle.td_list.specs.declared.item.Item.{Item}
-use Rattle.td_list.specs.Items.{items_after}
+use Rattle.td_list.specs.Items.{Item, items_after}
 use Rattle.td_list.specs.Places.{nothing}
 use Rattle.td_list.proofs.Parted.{there_is}
 use Rattle.td_list.proofs.line.LineSequence.get.Goals as goal

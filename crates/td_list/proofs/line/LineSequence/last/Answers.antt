@@ -1,6 +1,5 @@
 use Rattle.std.proofs.Common.{◌≡◌, ◌-◌, ◌∙◌, ℕ, List, length, ap, arith, drop}
-use Rattle.td_list.specs.declared.item.Item.{Item}
-use Rattle.td_list.specs.Items.{first_name}
+use Rattle.td_list.specs.Items.{Item, first_name}
 use Rattle.td_list.proofs.Ends.{last_at}
 use Rattle.td_list.proofs.line.LineSequence.last.Goals as goal
 

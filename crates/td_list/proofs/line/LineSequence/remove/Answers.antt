@@ -1,7 +1,6 @@
 use Rattle.std.proofs.Common.{◌≡◌, ◌<◌, ◌+◌, ◌∙◌, ◌++◌, List, length, ap, take, drop, sym, subst, arith}
 use Rattle.std.proofs.lemmas.List.{get_or_default}
-use Rattle.td_list.specs.declared.item.Item.{Item}
-use Rattle.td_list.specs.Items.{weight_of, AreApart}
+use Rattle.td_list.specs.Items.{Item, weight_of, AreApart}
 use Rattle.td_list.specs.Places.{nothing, ArePlaces}
 use Rattle.td_list.proofs.Parted.{take_place, drop_after}
 use Rattle.td_list.proofs.Names.{remove-apart}

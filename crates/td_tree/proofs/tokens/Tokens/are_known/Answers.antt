@@ -1,7 +1,6 @@
 use Rattle.std.proofs.Common.{◌≡◌, ◌∙◌, ◌++◌, ℕ, List, refl, sym, ap, subst}
 use Rattle.std.specs.List.{list_all}
-use Rattle.td_list.specs.declared.item.Item.{Item}
-use Rattle.td_list.specs.Items.{IsItem, items_from}
+use Rattle.td_list.specs.Items.{Item, IsItem, items_from}
 use Rattle.td_brackets.specs.RowNumbers.{is_known_entry}
 use Rattle.td_tree.specs.Parts.{Parts, table}
 use Rattle.td_tree.specs.Reading.{shown}

@@ -1,6 +1,5 @@
 use Rattle.std.proofs.Common.{◌≡◌, ◌∙◌, ◌<◌, ◌^◌, ℕ, List, length, set, get_or, ap, sym, subst, arith}
-use Rattle.td_list.specs.declared.item.Item.{Item}
-use Rattle.td_list.specs.Items.{IsItem, renew, weight_of}
+use Rattle.td_list.specs.Items.{Item, IsItem, renew, weight_of}
 use Rattle.td_brackets.specs.Brackets.{Entry}
 use Rattle.td_tree.specs.declared.tree_row.RowState.{RowState}
 use Rattle.td_tree.specs.Parts.{Parts, nobody, rows_with, table, state_at, atom_item, IsDeleted}
@@ -26,7 +25,7 @@ renew-requires-clause-light c =
     let light = c.requires.tree.light in
     let most = c.requires.tree.most in
     let less = lighter p c.requires.tree c.args.row c.requires.row c.requires.node c.args.by in
-    subst (λ (n : ℕ). n < 2 ^ 32) (λ i. weight_of (renew (sym c.atom_item.ensures i) (sym c.self.view_is i).items)) (omega arith)
+    subst (λ (n : ℕ). n < 2 ^ 31) (λ i. weight_of (renew (sym c.atom_item.ensures i) (sym c.self.view_is i).items)) (omega arith)
 
 pub returns-clause-ok : goal.returns-clause-ok
 returns-clause-ok c =

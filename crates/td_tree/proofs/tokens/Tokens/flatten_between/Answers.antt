@@ -1,8 +1,7 @@
 use Rattle.std.proofs.Common.{◌≡◌, ◌∙◌, ◌++◌, ◌∷◌, ◌+◌, ◌-◌, ◌/◌, ◌<◌, ◌≤◌, ◌^◌, ℕ, List, [], length, get_or, ap, sym, subst, arith, length-append}
 use Rattle.std.proofs.lemmas.List.{append-nil}
 use Rattle.td_base.specs.Lists.{In}
-use Rattle.td_list.specs.declared.item.Item.{Item}
-use Rattle.td_list.specs.Items.{IsItem, AreNew, items_before, items_from_end, place_of, replace, weight_of}
+use Rattle.td_list.specs.Items.{Item, IsItem, AreNew, items_before, items_from_end, place_of, replace, weight_of}
 use Rattle.td_brackets.specs.Laws.{live_numbers}
 use Rattle.td_brackets.specs.Brackets.{Entry}
 use Rattle.td_tree.specs.Parts.{Parts, rows_with, table, row_at, state_at, tokens_of}
@@ -68,7 +67,7 @@ put_leaf-requires-clause-light c =
     let few = live_few c.args.self.now c.requires.tree s.0 c.args.first c.args.end s.1 in
     let light = c.requires.tree.light in
     let most = c.requires.tree.most in
-    subst (λ (x : List Item × List ℕ). weight_of x.0 + length x.1 < 2 ^ 32) (λ i. (items d i, sym (live d) i)) (omega arith)
+    subst (λ (x : List Item × List ℕ). weight_of x.0 + length x.1 < 2 ^ 31) (λ i. (items d i, sym (live d) i)) (omega arith)
 
 pub bury-requires : goal.bury-requires
 bury-requires c = λ r m.

@@ -1,6 +1,5 @@
 use Rattle.std.proofs.Common.{◌≡◌, ◌++◌, ℕ, List, [], refl, sym, subst}
-use Rattle.td_list.specs.declared.item.Item.{Item}
-use Rattle.td_list.specs.Items.{IsItem, items_from}
+use Rattle.td_list.specs.Items.{Item, IsItem, items_from}
 use Rattle.td_tree.specs.Parts.{Parts, tokens_of}
 use Rattle.td_tree.specs.Stretches.{IsFound}
 use Rattle.td_tree.specs.Walks.{IsStretch}

@@ -1,8 +1,7 @@
 use Rattle.std.proofs.Common.{◌≡◌, ◌∙◌, ◌++◌, ◌+◌, ℕ, List, length, ap, sym, subst, arith}
 use Rattle.td_base.specs.Lists.{In}
 use Rattle.td_base.proofs.Lists.{In-map}
-use Rattle.td_list.specs.declared.item.Item.{Item}
-use Rattle.td_list.specs.Items.{IsItem, AreNew, items_before, items_after}
+use Rattle.td_list.specs.Items.{Item, IsItem, AreNew, items_before, items_after}
 use Rattle.td_tree.specs.declared.tree_row.RowState.TheVariants.{Node}
 use Rattle.td_tree.specs.Parts.{Parts, state_at, row_of_array, leaf_item, rows_with, IsMoreOpen}
 use Rattle.td_tree.specs.Ways.{nodes_at, leaf_name, with_way}
@@ -13,14 +12,14 @@ use Rattle.td_tree.proofs.tokens.Tokens.open_down.Goals.{After-drop-way-3}
 pub replace_one-requires-clause-there : goal.replace_one-requires-clause-there
 replace_one-requires-clause-there c =
     let p : Parts = c.args.self.now in
-    let name = ap (λ (i : Item). i.name) c.whole-name.ensures in
+    let name = c.name-name.ensures ∙ ap (λ (i : Item). i.name) c.whole.ensures in
     let items = ap (λ (q : Parts). q.items) c.self.view_is in
     subst (λ (x : ℕ × List Item). IsItem x.0 x.1) (λ i. (sym name i, sym items i))
     (In-map (λ (i : Item). i.name) (leaf_item p c.args.leaf.array c.args.leaf.from c.args.leaf.len) p.items c.requires.there)
 
 pub replace_one-requires-clause-new : goal.replace_one-requires-clause-new
 replace_one-requires-clause-new c =
-    let name = ap (λ (i : Item). i.name) c.whole-name.ensures in
+    let name = c.name-name.ensures ∙ ap (λ (i : Item). i.name) c.whole.ensures in
     let items = ap (λ (q : Parts). q.items) c.self.view_is in
     subst (λ (x : List Item × (ℕ × List Item)). AreNew x.0 (items_before x.1.0 x.1.1 ++ items_after x.1.0 x.1.1))
     (λ i. (sym c.deref.ensures.value i, (sym name i, sym items i))) c.in_ok-way.ensures.new
@@ -40,7 +39,7 @@ now : (c : After-drop-way-3) → with_way c.args.self.now c.args.leaf c.in_ok-wa
     ≡ record { items = c.replace_one.new.self; rows = rows_with c.self.inside.rows.items c.make_nodes.new.states.items; arrays = c.self.inside.arrays.items; nodes = c.self.inside.nodes + c.len.result; count = c.self.inside.count }
 now c =
     let view = c.self.view_is in
-    let name = ap (λ (i : Item). i.name) c.whole-name.ensures in
+    let name = c.name-name.ensures ∙ ap (λ (i : Item). i.name) c.whole.ensures in
     let items : c.replace_one.new.self ≡ items_before (leaf_name c.args.self.now c.args.leaf) c.args.self.now.items ++ (c.in_ok-way.way.piece.items ++ items_after (leaf_name c.args.self.now c.args.leaf) c.args.self.now.items) =
     c.in_ok-replace_one.ensures.ok
     ∙ (λ i. items_before (name i) ((view i).items) ++ (c.deref.ensures.value i ++ items_after (name i) ((view i).items))) in

@@ -1,7 +1,6 @@
 use Rattle.std.proofs.Common.{◌<◌, ◌∙◌, ℕ, List, ap, sym, subst, Option, length, arith}
 use Rattle.td_path.specs.declared.slot.Slot.{Slot}
-use Rattle.td_list.specs.declared.item.Item.{Item}
-use Rattle.td_list.specs.Items.{items_after, items_from_end, first_name}
+use Rattle.td_list.specs.Items.{Item, items_after, items_from_end, first_name}
 use Rattle.td_tree.specs.Parts.{Parts}
 use Rattle.td_tree.specs.Places.{IsPlace, IsNewPlace}
 use Rattle.td_tree.proofs.Places.{row_known, end_there, over, stops, stops_at_end, place_rest}

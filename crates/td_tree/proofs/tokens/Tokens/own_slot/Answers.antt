@@ -1,7 +1,6 @@
 use Rattle.std.proofs.Common.{◌≡◌, ◌∙◌, ◌+◌, ◌*◌, ◌/◌, ℕ, sym, ap, subst}
 use Rattle.td_base.proofs.Lists.{In-map}
-use Rattle.td_list.specs.declared.item.Item.{Item}
-use Rattle.td_list.specs.Items.{IsItem}
+use Rattle.td_list.specs.Items.{Item, IsItem}
 use Rattle.td_tree.specs.declared.tree_row.RowState.TheVariants.{Node}
 use Rattle.td_tree.specs.Parts.{state_at, row_of_array, leaf_item}
 use Rattle.td_tree.proofs.RowPlaces.{is_node}

@@ -1,7 +1,7 @@
 use Rattle.std.proofs.Common.{◌≡◌, ◌≢◌, ◌≤◌, ◌∙◌, ◌+◌, ◌-◌, ◌/◌, ◌<◌, ℕ, List, length, Some, slice_get, sym, ap, subst, arith, [], ◌∷◌}
 use Rattle.td_list.specs.Items.{items_from, items_after}
 use Rattle.td_tree.specs.Parts.{Parts, array_at}
-use Rattle.td_tree.proofs.RowPlaces.{get_past, known_name, shown_bracket, shown_node, leaf_got, leaf_row, leaf_past}
+use Rattle.td_tree.proofs.RowPlaces.{LeafGot, get_past, known_name, shown_bracket, shown_node, leaf_got, leaf_row, leaf_past}
 use Rattle.td_tree.proofs.tokens.Tokens.row_at.Goals as goal
 
 pub state-requires : goal.state-requires
@@ -12,36 +12,42 @@ returns-then-place-ne1 c = λ i m e. ap (λ (xs : List ℕ). slice_get xs c.args
 
 pub overflow_sub-index : goal.overflow_sub-index
 overflow_sub-index c =
-    (leaf_got c.args.self.now c.requires.tree c.args.place.name c.in-InArray.array c.in-InArray.index c.get-len.result c.requires.there c.if-place-ne1.false (sym c.in-InArray.ensures) (subst (λ (q : Parts). items_from c.args.place.name q.items ≡ c.get-len.result ∷ items_after c.args.place.name q.items) c.self.view_is c.get-len.ensures)).low
+    (subst (LeafGot c.args.self.now c.args.place.name c.in-InArray.array c.in-InArray.index) (sym c.weight-len.ensures)
+    (leaf_got c.args.self.now c.requires.tree c.args.place.name c.in-InArray.array c.in-InArray.index c.get.result c.requires.there c.if-place-ne1.false (sym c.in-InArray.ensures) (subst (λ (q : Parts). items_from c.args.place.name q.items ≡ c.get.result ∷ items_after c.args.place.name q.items) c.self.view_is c.get.ensures))).low
 
 pub overflow_add-index : goal.overflow_add-index
 overflow_add-index c =
-    let l = leaf_got c.args.self.now c.requires.tree c.args.place.name c.in-InArray.array c.in-InArray.index c.get-len.result c.requires.there c.if-place-ne1.false (sym c.in-InArray.ensures) (subst (λ (q : Parts). items_from c.args.place.name q.items ≡ c.get-len.result ∷ items_after c.args.place.name q.items) c.self.view_is c.get-len.ensures) in
+    let l = subst (LeafGot c.args.self.now c.args.place.name c.in-InArray.array c.in-InArray.index) (sym c.weight-len.ensures)
+    (leaf_got c.args.self.now c.requires.tree c.args.place.name c.in-InArray.array c.in-InArray.index c.get.result c.requires.there c.if-place-ne1.false (sym c.in-InArray.ensures) (subst (λ (q : Parts). items_from c.args.place.name q.items ≡ c.get.result ∷ items_after c.args.place.name q.items) c.self.view_is c.get.ensures)) in
     let within = l.within in
     let few = l.few in
     omega (arith, c.if-place-len.true)
 
 pub row_in-requires-clause-array : goal.row_in-requires-clause-array
 row_in-requires-clause-array c =
-    (leaf_got c.args.self.now c.requires.tree c.args.place.name c.in-InArray.array c.in-InArray.index c.get-len.result c.requires.there c.if-place-ne1.false (sym c.in-InArray.ensures) (subst (λ (q : Parts). items_from c.args.place.name q.items ≡ c.get-len.result ∷ items_after c.args.place.name q.items) c.self.view_is c.get-len.ensures)).array
+    (subst (LeafGot c.args.self.now c.args.place.name c.in-InArray.array c.in-InArray.index) (sym c.weight-len.ensures)
+    (leaf_got c.args.self.now c.requires.tree c.args.place.name c.in-InArray.array c.in-InArray.index c.get.result c.requires.there c.if-place-ne1.false (sym c.in-InArray.ensures) (subst (λ (q : Parts). items_from c.args.place.name q.items ≡ c.get.result ∷ items_after c.args.place.name q.items) c.self.view_is c.get.ensures))).array
 
 pub row_in-requires-clause-place : goal.row_in-requires-clause-place
 row_in-requires-clause-place c = λ k e.
-    let l = leaf_got c.args.self.now c.requires.tree c.args.place.name c.in-InArray.array c.in-InArray.index c.get-len.result c.requires.there c.if-place-ne1.false (sym c.in-InArray.ensures) (subst (λ (q : Parts). items_from c.args.place.name q.items ≡ c.get-len.result ∷ items_after c.args.place.name q.items) c.self.view_is c.get-len.ensures) in
+    let l = subst (LeafGot c.args.self.now c.args.place.name c.in-InArray.array c.in-InArray.index) (sym c.weight-len.ensures)
+    (leaf_got c.args.self.now c.requires.tree c.args.place.name c.in-InArray.array c.in-InArray.index c.get.result c.requires.there c.if-place-ne1.false (sym c.in-InArray.ensures) (subst (λ (q : Parts). items_from c.args.place.name q.items ≡ c.get.result ∷ items_after c.args.place.name q.items) c.self.view_is c.get.ensures)) in
     let within = l.within in
-    let below : c.in-InArray.index - c.get-len.result.weight / 2 + c.args.place.rest < length (array_at c.args.self.now c.in-InArray.array) = omega (arith, c.if-place-len.true) in
-    subst (λ (a : ℕ). c.in-InArray.index - c.get-len.result.weight / 2 + c.args.place.rest < length (array_at c.args.self.now a)) (sym e) below
+    let below : c.in-InArray.index - c.weight-len.result / 2 + c.args.place.rest < length (array_at c.args.self.now c.in-InArray.array) = omega (arith, c.if-place-len.true) in
+    subst (λ (a : ℕ). c.in-InArray.index - c.weight-len.result / 2 + c.args.place.rest < length (array_at c.args.self.now a)) (sym e) below
 
 pub returns-then-place-len : goal.returns-then-place-len
 returns-then-place-len c = λ i m e.
-    let l = leaf_got c.args.self.now c.requires.tree c.args.place.name c.in-InArray.array c.in-InArray.index c.get-len.result c.requires.there c.if-place-ne1.false (sym c.in-InArray.ensures) (subst (λ (q : Parts). items_from c.args.place.name q.items ≡ c.get-len.result ∷ items_after c.args.place.name q.items) c.self.view_is c.get-len.ensures) in
+    let l = subst (LeafGot c.args.self.now c.args.place.name c.in-InArray.array c.in-InArray.index) (sym c.weight-len.ensures)
+    (leaf_got c.args.self.now c.requires.tree c.args.place.name c.in-InArray.array c.in-InArray.index c.get.result c.requires.there c.if-place-ne1.false (sym c.in-InArray.ensures) (subst (λ (q : Parts). items_from c.args.place.name q.items ≡ c.get.result ∷ items_after c.args.place.name q.items) c.self.view_is c.get.ensures)) in
     ap Some c.row_in.ensures
-    ∙ leaf_row c.args.self.now c.args.place.name c.in-InArray.array c.in-InArray.index c.get-len.result.weight c.args.place.rest l c.if-place-len.true i m e
+    ∙ leaf_row c.args.self.now c.args.place.name c.in-InArray.array c.in-InArray.index c.weight-len.result c.args.place.rest l c.if-place-len.true i m e
 
 pub returns-else-place-len : goal.returns-else-place-len
 returns-else-place-len c = λ i m e.
-    let l = leaf_got c.args.self.now c.requires.tree c.args.place.name c.in-InArray.array c.in-InArray.index c.get-len.result c.requires.there c.if-place-ne1.false (sym c.in-InArray.ensures) (subst (λ (q : Parts). items_from c.args.place.name q.items ≡ c.get-len.result ∷ items_after c.args.place.name q.items) c.self.view_is c.get-len.ensures) in
-    leaf_past c.args.self.now c.args.place.name c.in-InArray.array c.in-InArray.index c.get-len.result.weight c.args.place.rest l c.if-place-len.false i m e
+    let l = subst (LeafGot c.args.self.now c.args.place.name c.in-InArray.array c.in-InArray.index) (sym c.weight-len.ensures)
+    (leaf_got c.args.self.now c.requires.tree c.args.place.name c.in-InArray.array c.in-InArray.index c.get.result c.requires.there c.if-place-ne1.false (sym c.in-InArray.ensures) (subst (λ (q : Parts). items_from c.args.place.name q.items ≡ c.get.result ∷ items_after c.args.place.name q.items) c.self.view_is c.get.ensures)) in
+    leaf_past c.args.self.now c.args.place.name c.in-InArray.array c.in-InArray.index c.weight-len.result c.args.place.rest l c.if-place-len.false i m e
 
 pub returns-then-place-eq0 : goal.returns-then-place-eq0
 returns-then-place-eq0 c = λ i m e.

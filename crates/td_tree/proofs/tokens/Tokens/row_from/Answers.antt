@@ -1,7 +1,6 @@
 use Rattle.std.proofs.Common.{◌∙◌, sym, subst, ap, ℕ}
 use Rattle.td_base.proofs.Lists.{In-map}
-use Rattle.td_list.specs.declared.item.Item.{Item}
-use Rattle.td_list.specs.Items.{IsItem, items_after, first_marked}
+use Rattle.td_list.specs.Items.{Item, IsItem, items_after, first_marked}
 use Rattle.td_brackets.specs.RowNumbers.{first_number}
 use Rattle.td_tree.specs.Parts.{Parts}
 use Rattle.td_tree.specs.Reading.{shown_at, shown}

@@ -1,5 +1,5 @@
 use Rattle.std.proofs.Common.{◌∙◌, ◌+◌, ◌∷◌, ℕ, List, [], ap, sym, subst}
-use Rattle.td_list.specs.declared.item.Item.{Item}
+use Rattle.td_list.specs.Items.{Item}
 use Rattle.td_tree.specs.Ways.{IsWay}
 use Rattle.td_tree.proofs.Ways.{IsGoing, sets_out, laid, goes_further, has_arrived}
 use Rattle.td_tree.proofs.tokens.Tokens.way_down.Goals as goal
