@@ -1,6 +1,6 @@
 // What a replica makes: edits, proposals and decisions.
 ghost use Rattle.std.specs.Prelude.{◌≡◌, ◌≢◌, ◌<◌, ◌≤◌, Some, None, true, false, IfOk, OnErr, IfSome, IsTrue};
-ghost use Rattle.td_op.specs.declared.body.Body.TheVariants.{Commit, Abort};
+ghost use Rattle.td_op.specs.declared.body.Body.TheVariants.{Commit, Abort, Delete as DeleteOf};
 ghost use Rattle.td_op.specs.declared.input.Input.TheVariants.{Local};
 ghost use Rattle.td_op.specs.declared.reply.Reply.TheVariants.{Made, Cancelled, New};
 ghost use Rattle.td_op.specs.Input.{IsRequest};
@@ -14,13 +14,15 @@ ghost use Rattle.td_machine.proofs.Induction.{Anything};
 ghost use Rattle.td_machine.proofs.Parts.{IsBuilt, MayMake, IsProposing, IsOpenAt, IsCounting};
 ghost use Rattle.td_history.specs.Past.{IsDoneAs};
 ghost use Rattle.td_history.specs.Texts.{run_of, run_at};
+ghost use Rattle.td_replica.specs.declared.requests.Verdict.TheVariants.{Put};
 ghost use Rattle.td_replica.specs.Parts.{IsAsBefore};
 ghost use Rattle.td_replica.specs.Steps.{IsStep, IsEdit, IsDue};
+ghost use Rattle.td_replica.specs.Verdict.{verdict};
 
 use crate::last_change::LastChange;
 use crate::requests::{Verdict, insert_in};
 use crate::state::{Origin, State};
-use td_base::{Dot, Memory};
+use td_base::{AtomId, Dot, Memory};
 use td_doc::Doc;
 use td_op::{Body, Reply, Request, Vote};
 use td_path::Slot;
@@ -73,6 +75,32 @@ impl<D: Doc> State<D> {
             change,
             number: Some(number),
         })
+    }
+
+    // The run of a request is put in a slot. Each body has a call of its own, so that it is cleared only where it is
+    // made.
+    fn make_insertion(&mut self, slot: Slot, request: &Request) -> Result<Done, Memory>
+        requires built { IsBuilt Anything self.old.machine.site self.old.machine.size self.old.machine }
+        requires valid { IsRequest request.now }
+        requires asked { verdict request.now self.old.machine ≡ Put slot }
+        ensures ok { IfOk result (λ done. IsStep (request_step request.now self.old.machine) self.old self.new done) }
+        ensures number { IfOk result (λ done. IfSome done.number (IsDoneAs self.new.ops (Local request.now))) }
+        ensures err { OnErr result (IsAsBefore self.old self.new) }
+    {
+        self.make(&insert_in(slot, request))
+    }
+
+    // A row is deleted.
+    fn make_deletion(&mut self, target: AtomId) -> Result<Done, Memory>
+        requires built { IsBuilt Anything self.old.machine.site self.old.machine.size self.old.machine }
+        requires may { MayMake (DeleteOf target) self.old.machine }
+        ensures ok { IfOk result (λ done.
+            IsStep (stepped (Made (next_dot self.old.machine)) (make (DeleteOf target) self.old.machine))
+            self.old self.new done) }
+        ensures number { IfOk result (λ done. IfSome done.number (λ k. run_at self.new.ops k ≡ None)) }
+        ensures err { OnErr result (IsAsBefore self.old self.new) }
+    {
+        self.make(&Body::Delete { target })
     }
 
     // A slot is proposed.
@@ -194,8 +222,8 @@ impl<D: Doc> State<D> {
     {
         match self.verdict(request) {
             Verdict::Answer(reply) => self.refuse(reply),
-            Verdict::Put(slot) => self.make(&insert_in(slot, request)),
-            Verdict::Delete(target) => self.make(&Body::Delete { target }),
+            Verdict::Put(slot) => self.make_insertion(slot, request),
+            Verdict::Delete(target) => self.make_deletion(target),
             Verdict::Propose(slot) => self.make_proposal(&slot),
             Verdict::Cancel(proposal) => self.make_abort(proposal),
         }
