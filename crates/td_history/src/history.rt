@@ -233,15 +233,24 @@ impl History {
     pub fn sent_at(&self, k: u64) -> Option<Message>
         ensures { result ≡ kth k self.now.sent }
     {
-        if k == 0 {
+        if k == 0 || k > self.sent() {
             return None;
         }
+        Some(self.message(k))
+    }
+
+    /// The k-th message sent, from 1, which is there.
+    pub fn message(&self, k: u64) -> Message
+        requires some { 1 ≤ k }
+        requires within { k ≤ length self.now.sent }
+        ensures { kth k self.now.sent ≡ Some result }
+    {
         // each call that hands a message on, and each arm of a `match`, would copy its 240 bytes once more
-        let number = match compact_at(&self.sent, k - 1)? {
+        let number = match compact_at(&self.sent, k - 1) {
             CompactMessage::Op { number } => number,
-            CompactMessage::Vote { vote } => return Some(Message::Vote(vote.vote())),
+            CompactMessage::Vote { vote } => return Message::Vote(vote.vote()),
         };
-        Some(Message::Op(self.log.at(number)))
+        Message::Op(self.log.at(number))
     }
 
     // The entry at a place from 0.
@@ -252,9 +261,10 @@ impl History {
     }
 }
 
-// The compact message at a place from 0.
-fn compact_at(sent: &[CompactMessage], i: u64) -> Option<CompactMessage>
-    ensures { result ≡ slice_get sent.now i }
+// The compact message at a place from 0, which is there.
+fn compact_at(sent: &[CompactMessage], i: u64) -> CompactMessage
+    requires { i < length sent.now }
+    ensures { slice_get sent.now i ≡ Some result }
 {
-    sent.get(i as usize).copied()
+    sent[i as usize]
 }

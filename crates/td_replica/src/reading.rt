@@ -125,6 +125,15 @@ impl<D: Doc> Replica<D> {
         self.state.past.sent_at(k)
     }
 
+    /// The k-th message sent, from 1, which is there.
+    pub fn message(&self, k: u64) -> Message
+        requires some { 1 ≤ k }
+        requires within { k ≤ length self.now.machine.sent }
+        ensures { kth k self.now.machine.sent ≡ Some result }
+    {
+        self.state.past.message(k)
+    }
+
     /// The last operation of the site that was made or taken here.
     pub fn last_of(&self, site: Site) -> Option<Op>
         requires { site ≤ self.now.machine.size }

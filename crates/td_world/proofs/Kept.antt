@@ -1,7 +1,8 @@
 -- The parts of a world after a step.
-use Rattle.std.proofs.Common.{◌≡◌, ◌<◌, ◌≤◌, ◌+◌, ◌-◌, ◌++◌, ℕ, zero, suc, List, [], ◌∷◌, Bool, true, false, if◌then◌else◌, nat_eq, length, set, get_or, Option, Some, None, refl, sym, ap, ◌∙◌, subst, arith}
+use Rattle.std.proofs.Common.{◌≡◌, ◌<◌, ◌≤◌, ◌+◌, ◌-◌, ◌++◌, ℕ, zero, suc, List, [], ◌∷◌, Bool, true, false, if◌then◌else◌, nat_eq, length, set, get_or, Option, Some, None, true≢false, refl, sym, ap, ◌∙◌, subst, arith}
 use Rattle.std.proofs.lemmas.Bool.{eqb-true, eqb-false}
 use Rattle.std.proofs.lemmas.List.{length-set, length-append, length-drop}
+use Rattle.std.specs.Prelude.{IsSome}
 use Rattle.std.specs.List.{filter_map, slice_get}
 use Rattle.td_base.specs.Lists.{In}
 use Rattle.td_base.proofs.Elements.{get_front, In-slice_get}
@@ -42,7 +43,7 @@ set_value [] k x y e = absurd cc
 set_value (z ∷ xs) zero x y e = cc
 set_value (z ∷ xs) (suc k) x y e = set_value xs k x y e
 
-get_within : {X : Type 0} (xs : List X) (k : ℕ) (x : X) → slice_get xs k ≡ Some x → k < length xs
+pub get_within : {X : Type 0} (xs : List X) (k : ℕ) (x : X) → slice_get xs k ≡ Some x → k < length xs
 get_within [] k x e = absurd cc
 get_within (y ∷ xs) zero x e = omega arith
 get_within (y ∷ xs) (suc k) x e = let h : k < length xs = get_within xs k x e in omega (arith, h)
@@ -227,23 +228,15 @@ kept_after replicas posts passed p site some within input valid came done d repl
 
 -- ---- the message at a place
 
-some_get : {X Y : Type 0} (f : X → Option Y) (xs : List X) (ys : List Y) (k : ℕ) (x : X) → StandFor f xs ys
+pub some_get : {X Y : Type 0} (f : X → Option Y) (xs : List X) (ys : List Y) (k : ℕ) (x : X) → StandFor f xs ys
     → slice_get xs k ≡ Some x → (y : Y) × (f x ≡ Some y) × (slice_get ys k ≡ Some y)
 some_get f [] ys k x h e = absurd cc
 some_get f (z ∷ xs) [] k x h e = absurd h
 some_get f (z ∷ xs) (y ∷ ys) zero x h e = (y, subst (λ (v : _). f v ≡ Some y) (same_some z x e) h.0, refl)
 some_get f (z ∷ xs) (y ∷ ys) (suc k) x h e = some_get f xs ys k x h.1 e
 
-no_get : {X Y : Type 0} (f : X → Option Y) (xs : List X) (ys : List Y) (k : ℕ) → StandFor f xs ys
-    → slice_get xs k ≡ None → slice_get ys k ≡ None
-no_get f [] [] k h e = refl
-no_get f [] (y ∷ ys) k h e = absurd h
-no_get f (z ∷ xs) [] k h e = absurd h
-no_get f (z ∷ xs) (y ∷ ys) zero h e = absurd cc
-no_get f (z ∷ xs) (y ∷ ys) (suc k) h e = no_get f xs ys k h.1 e
-
 -- no replica stands past the sites
-past_sites : (replicas : List ReplicaValue) (k number : ℕ) (message : Message)
+pub past_sites : (replicas : List ReplicaValue) (k number : ℕ) (message : Message)
     → kth number (replica_from replicas k).machine.sent ≡ Some message → k < length replicas
 past_sites [] k number message e = absurd (none (nat_eq number 0) e)
   where
@@ -253,6 +246,10 @@ past_sites [] k number message e = absurd (none (nat_eq number 0) e)
 past_sites (r ∷ replicas) zero number message e = omega arith
 past_sites (r ∷ replicas) (suc k) number message e =
     let h : k < length replicas = past_sites replicas k number message e in omega (arith, h)
+
+pub some_is : {X : Type 0} (o : Option X) → IsSome o → (x : X) × (o ≡ Some x)
+some_is None h = absurd (true≢false (sym h))
+some_is (Some x) h = (x, refl)
 
 -- what has a number has a place
 pub kth_get : {X : Type 0} (k : ℕ) (xs : List X) (x : X) → kth k xs ≡ Some x → (0 < k) × (slice_get xs (k - 1) ≡ Some x)
@@ -299,11 +296,6 @@ posted_at replicas posts passed w k p some e =
           ∙ site_is (family_of (world_value replicas posts)) w.world.consistent p.site some low_;
     }
 
-pub nothing_at : (replicas : List ReplicaValue) (posts : List Post) (passed : List ℕ) → IsWorldParts replicas posts passed
-    → (k : ℕ) → slice_get posts k ≡ None → slice_get (filter_map (posted replicas) posts) k ≡ None
-nothing_at replicas posts passed w k e =
-    no_get (posted replicas) posts (filter_map (posted replicas) posts) k w.standing e
-
 pub as_many_posts : (replicas : List ReplicaValue) (posts : List Post) (passed : List ℕ)
     → IsWorldParts replicas posts passed → length posts ≡ length (filter_map (posted replicas) posts)
 as_many_posts replicas posts passed w =
@@ -313,18 +305,3 @@ pub get_found : {X : Type 0} (xs : List X) (k : ℕ) (x : X) → k < length xs �
 get_found [] k x less e = absurd (omega (arith, less))
 get_found (y ∷ xs) zero x less e = ap (λ z. Some z) (sym e)
 get_found (y ∷ xs) (suc k) x less e = get_found xs k x (omega (arith, less)) e
-
-pub get_missing : {X : Type 0} (xs : List X) (k : ℕ) → length xs ≤ k → slice_get xs k ≡ None
-get_missing [] k past = refl
-get_missing (y ∷ xs) zero past = absurd (omega (arith, past))
-get_missing (y ∷ xs) (suc k) past = get_missing xs k (omega (arith, past))
-
-pub none_past : (replicas : List ReplicaValue) (k number : ℕ) → length replicas ≤ k
-    → None ≡ kth number (replica_from replicas k).machine.sent
-none_past [] k number past = at (nat_eq number 0)
-  where
-    at : (b : Bool) → ◌≡◌ {A = Option Message} None (if b then None else None)
-    at true = refl
-    at false = refl
-none_past (r ∷ replicas) zero number past = absurd (omega (arith, past))
-none_past (r ∷ replicas) (suc k) number past = none_past replicas k number (omega (arith, past))

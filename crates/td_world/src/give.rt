@@ -218,11 +218,8 @@ impl<D: Doc> World<D> {
             self.pass_over(to, k);
             return Ok(None);
         }
-        let sent = self.at(k);
-        match &sent {
-            Some(message) => self.offer_at(to, k, message),
-            None => Ok(None),
-        }
+        let message = self.at(k);
+        self.offer_at(to, k, &message)
     }
 
     // Gives the message at the place, where it is wanted. Where all before it need not be looked at again, and it

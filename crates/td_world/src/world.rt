@@ -1,4 +1,4 @@
-ghost use Rattle.std.specs.Prelude.{◌≡◌, ◌<◌, ◌≤◌, ◌+◌, ◌-◌, ◌^◌, ◌++◌, ℕ, length, map, true, false, vec_len, vec_capacity, IfOk, OnOk, OnErr, IfSome, IsTrue, Some};
+ghost use Rattle.std.specs.Prelude.{◌≡◌, ◌<◌, ◌≤◌, ◌+◌, ◌-◌, ◌^◌, ◌++◌, ℕ, length, map, true, false, vec_len, vec_capacity, IfOk, OnOk, OnErr, IfSome, IsSome, IsTrue, Some};
 ghost use Rattle.std.specs.List.{slice_get};
 ghost use Rattle.std.specs.Option.{option_map};
 ghost use Rattle.td_base.specs.declared.site.TheConstants.{MAX_SITE};
@@ -86,7 +86,7 @@ impl<D: Doc> World<D> {
         if number == 0 || number > sent {
             return None;
         }
-        self.at(number as usize - 1)
+        Some(self.at(number as usize - 1))
     }
 
     // How many sites there are.
@@ -99,11 +99,12 @@ impl<D: Doc> World<D> {
         self.replicas.len() as u8
     }
 
-    // The message at a place from 0.
-    pub(crate) fn at(&self, k: usize) -> Option<Message>
-        ensures { result ≡ slice_get self.now.sent k }
+    // The message at a place from 0, which is there.
+    pub(crate) fn at(&self, k: usize) -> Message
+        requires { k < length self.now.sent }
+        ensures { slice_get self.now.sent k ≡ Some result }
     {
-        message_of(&self.replicas, self.posts.get(k)?)
+        message_of(&self.replicas, &self.posts[k])
     }
 
     // Whether the site sent the message at a place from 0.
@@ -150,13 +151,12 @@ impl<D: Doc> World<D> {
 }
 
 // The message that is noted so.
-fn message_of<D: Doc>(replicas: &[Replica<D>], post: &Post) -> Option<Message>
-    ensures message { result ≡ posted replicas.now post.now }
+fn message_of<D: Doc>(replicas: &[Replica<D>], post: &Post) -> Message
+    requires { IsSome (posted replicas.now post.now) }
+    ensures message { posted replicas.now post.now ≡ Some result }
     ensures some { 1 ≤ post.now.site }
 {
-    replicas
-        .get(place_of(post.site))?
-        .sent_at(u64::from(post.number))
+    replicas[place_of(post.site)].message(u64::from(post.number))
 }
 
 // The site that sent the message.

@@ -1,23 +1,45 @@
-use Rattle.std.proofs.Common.{◌≡◌, ◌≤◌, length, ap, ◌∙◌, arith, ℕ}
+use Rattle.std.proofs.Common.{◌≤◌, ◌-◌, ◌∙◌, ℕ, length, ap, sym, arith}
 use Rattle.td_history.specs.Past.{kth}
 use Rattle.td_replica.specs.Replica.{ReplicaValue}
-use Rattle.td_world.specs.World.{replica_from}
-use Rattle.td_world.proofs.Kept.{none_past}
+use Rattle.td_world.specs.Parts.{posted}
+use Rattle.td_world.proofs.Kept.{get_within, kth_get, past_sites, some_is}
 use Rattle.td_world.proofs.Replicas.{at_site}
 use Rattle.td_world.proofs.world.message_of.Goals as goal
 
+pub offset_bounds-replicas-place_of : goal.offset_bounds-replicas-place_of
+offset_bounds-replicas-place_of g c =
+    let post = c.args.post.now in
+    let s = some_is (posted c.args.replicas.now post) c.requires in
+    let below = past_sites c.args.replicas.now (post.site - 1) post.number s.0 s.1 in
+    omega (arith, c.place_of.ensures.place)
+
+pub bounds-replicas-place_of : goal.bounds-replicas-place_of
+bounds-replicas-place_of g c =
+    let post = c.args.post.now in
+    let s = some_is (posted c.args.replicas.now post) c.requires in
+    let below = past_sites c.args.replicas.now (post.site - 1) post.number s.0 s.1 in
+    omega (arith, c.place_of.ensures.place)
+
+pub message-requires-clause-within : goal.message-requires-clause-within
+message-requires-clause-within g c =
+    let post = c.args.post.now in
+    let r = c.index-replicas-place_of.result in
+    let s = some_is (posted c.args.replicas.now post) c.requires in
+    let below = past_sites c.args.replicas.now (post.site - 1) post.number s.0 s.1 in
+    let within : post.site ≤ length c.args.replicas.now = omega (arith, c.place_of.ensures.least) in
+    let is = at_site c.args.replicas.now post.site c.place_of.result r c.place_of.ensures.place c.place_of.ensures.least within c.index-replicas-place_of.is in
+    let there = kth_get post.number r.machine.sent s.0 (ap (λ (q : ReplicaValue). kth post.number q.machine.sent) is ∙ s.1) in
+    let some = there.0 in
+    let few = get_within r.machine.sent (post.number - 1) s.0 there.1 in
+    omega (arith, c.from.ensures)
+
 pub returns-clause-message : goal.returns-clause-message
 returns-clause-message g c =
-    let within : c.args.post.now.site ≤ length c.args.replicas.now =
-    omega (arith, c.place_of.ensures.place, c.place_of.ensures.least, c.in_ok-get.ensures.lookup.3.0) in
-    let same : c.from.result ≡ c.args.post.now.number = c.from.ensures in
-    let at = ap (λ (k : ℕ). kth k c.in_ok-get.field-0.now.machine.sent) same in
-    c.sent_at.ensures ∙ at
-    ∙ ap (λ (r : ReplicaValue). kth c.args.post.now.number r.machine.sent)
-    (at_site c.args.replicas.now c.args.post.now.site c.place_of.result c.in_ok-get.field-0.now c.place_of.ensures.place
-    c.place_of.ensures.least within c.in_ok-get.ensures.lookup.1)
-
-pub returns-in_err-get-clause-message : goal.returns-in_err-get-clause-message
-returns-in_err-get-clause-message g c =
-    c.from_residual.ensures ∙ none_past c.args.replicas.now c.place_of.result c.args.post.now.number c.in_err-get.ensures.lookup.3
-    ∙ ap (λ (k : _). kth c.args.post.now.number (replica_from c.args.replicas.now k).machine.sent) c.place_of.ensures.place
+    let post = c.args.post.now in
+    let r = c.index-replicas-place_of.result in
+    let s = some_is (posted c.args.replicas.now post) c.requires in
+    let below = past_sites c.args.replicas.now (post.site - 1) post.number s.0 s.1 in
+    let within : post.site ≤ length c.args.replicas.now = omega (arith, c.place_of.ensures.least) in
+    let is = at_site c.args.replicas.now post.site c.place_of.result r c.place_of.ensures.place c.place_of.ensures.least within c.index-replicas-place_of.is in
+    sym (ap (λ (q : ReplicaValue). kth post.number q.machine.sent) is) ∙ sym (ap (λ (k : ℕ). kth k r.machine.sent) c.from.ensures)
+    ∙ c.message.ensures

@@ -1,26 +1,39 @@
-use Rattle.std.proofs.Common.{List, ap, ◌∙◌, sym}
-use Rattle.std.specs.List.{slice_get}
-use Rattle.td_world.specs.declared.post.Post.{Post}
+use Rattle.std.proofs.Common.{◌≡◌, ◌<◌, ◌∙◌, List, Some, length, refl, ap, sym, subst, vec_len, arith}
+use Rattle.std.specs.Prelude.{IsSome}
+use Rattle.std.specs.List.{filter_map, slice_get}
 use Rattle.td_replica.specs.Replica.{ReplicaValue}
 use Rattle.td_world.specs.Parts.{posted}
 use Rattle.td_world.specs.World.{WorldValue}
-use Rattle.td_world.proofs.Kept.{get_found, get_missing, posted_at, nothing_at}
+use Rattle.td_world.proofs.Kept.{as_many_posts, get_found, some_get}
 use Rattle.td_world.proofs.world.World.at.Goals as goal
+
+pub index-requires : goal.index-requires
+index-requires g c =
+    let long : vec_len c.self.inside.posts ≡ length c.self.inside.posts.items = omega (arith, c.self.inside.posts.ok.0) in
+    let many = as_many_posts c.self.inside.replicas.items c.self.inside.posts.items c.self.inside.passed.items c.self.invariant in
+    let same = ap (λ (w : WorldValue). length w.sent) c.self.view_is in
+    omega (arith, c.requires)
+
+pub message_of-requires : goal.message_of-requires
+message_of-requires g c =
+    let replicas = c.self.inside.replicas.items in
+    let posts = c.self.inside.posts.items in
+    let many = as_many_posts replicas posts c.self.inside.passed.items c.self.invariant in
+    let same = ap (λ (w : WorldValue). length w.sent) c.self.view_is in
+    let below : c.args.k < length posts = omega (arith, c.requires) in
+    let s = some_get (posted replicas) posts (filter_map (posted replicas) posts) c.args.k c.index.result.now c.self.invariant.standing
+    (get_found posts c.args.k c.index.result.now below c.index.ensures) in
+    subst IsSome (sym (ap (λ (l : List ReplicaValue). posted l c.index.result.now) c.deref.ensures.value ∙ s.1)) refl
 
 pub returns : goal.returns
 returns g c =
-    let here = posted_at c.self.inside.replicas.items c.self.inside.posts.items c.self.inside.passed.items
-    c.self.invariant c.args.k c.in_ok-get.field-0.now c.message_of.ensures.some
-    (ap (λ (l : List Post). slice_get l c.args.k) (sym c.deref-2.ensures.value)
-    ∙ get_found c.deref-2.result.now c.args.k c.in_ok-get.field-0.now c.in_ok-get.ensures.lookup.3.0 c.in_ok-get.ensures.lookup.1) in
-    c.message_of.ensures.message
-    ∙ ap (λ (l : List ReplicaValue). posted l c.in_ok-get.field-0.now) c.deref.ensures.value
-    ∙ here.stands ∙ sym here.sent ∙ ap (λ (w : WorldValue). slice_get w.sent c.args.k) c.self.view_is
-
-pub returns-in_err-get : goal.returns-in_err-get
-returns-in_err-get g c =
-    c.from_residual.ensures
-    ∙ sym (ap (λ (w : WorldValue). slice_get w.sent c.args.k) (sym c.self.view_is)
-    ∙ nothing_at c.self.inside.replicas.items c.self.inside.posts.items c.self.inside.passed.items c.self.invariant c.args.k
-    (ap (λ (l : List Post). slice_get l c.args.k) (sym c.deref-2.ensures.value)
-    ∙ get_missing c.deref-2.result.now c.args.k c.in_err-get.ensures.lookup.3))
+    let replicas = c.self.inside.replicas.items in
+    let posts = c.self.inside.posts.items in
+    let many = as_many_posts replicas posts c.self.inside.passed.items c.self.invariant in
+    let same = ap (λ (w : WorldValue). length w.sent) c.self.view_is in
+    let below : c.args.k < length posts = omega (arith, c.requires) in
+    let s = some_get (posted replicas) posts (filter_map (posted replicas) posts) c.args.k c.index.result.now c.self.invariant.standing
+    (get_found posts c.args.k c.index.result.now below c.index.ensures) in
+    sym (ap (λ (w : WorldValue). slice_get w.sent c.args.k) c.self.view_is) ∙ s.2 ∙ sym s.1
+    ∙ sym (ap (λ (l : List ReplicaValue). posted l c.index.result.now) c.deref.ensures.value)
+    ∙ c.message_of.ensures.message

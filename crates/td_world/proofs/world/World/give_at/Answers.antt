@@ -1,9 +1,6 @@
-use Rattle.std.proofs.Common.{◌∙◌, sym}
+use Rattle.std.proofs.Common.{◌∙◌}
 use Rattle.td_world.proofs.Passed.{own_passed, own_moves, own_answer}
 use Rattle.td_world.proofs.world.World.give_at.Goals as goal
-
-pub offer_at-requires-clause-sent : goal.offer_at-requires-clause-sent
-offer_at-requires-clause-sent g c = sym c.at-sent.ensures ∙ c.in-Some.is
 
 pub pass_over-requires-clause-passed : goal.pass_over-requires-clause-passed
 pass_over-requires-clause-passed g c = own_passed c.args.to c.args.k c.args.self.now (c.is_from.ensures c.if-is_from.true)
