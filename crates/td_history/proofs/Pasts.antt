@@ -48,20 +48,20 @@ pub entries_on : (ops more : List OpValue) (e : EntriesValue) → IsGrown ops mo
     → StandFor (entry_of ops e) e.entries (entries_of ops e) → StandFor (entry_of more e) e.entries (entries_of ops e)
 entries_on ops more e grown h =
     stand_on (entry_of ops e) (entry_of more e)
-    (λ c m is. entry_grown ops more e.texts e.texts e.offered e.offered c m grown (grown_none e.texts) (grown_none e.offered) is)
+    (λ c m is. entry_grown ops more e.texts e.texts e.offered e.offered e.wholes e.wholes c m grown (grown_none e.texts) (grown_none e.offered) (grown_none e.wholes) is)
     e.entries (entries_of ops e) h
 
 -- with more room
 pub reserved : (site : ℕ) (log log_new : LogValue) (sent sent_new : List CompactMessage) (e e_new : EntriesValue) (len capacity room : ℕ)
     → site ≤ log.size → StandFor (message_of log.ops) sent (sent_of log.ops sent) → StandFor (entry_of log.ops e) e.entries (entries_of log.ops e)
-    → log_new.size ≡ log.size → log_new.ops ≡ log.ops → sent_new ≡ sent → e_new.entries ≡ e.entries → e_new.texts ≡ e.texts → e_new.offered ≡ e.offered
+    → log_new.size ≡ log.size → log_new.ops ≡ log.ops → sent_new ≡ sent → e_new.entries ≡ e.entries → e_new.texts ≡ e.texts → e_new.offered ≡ e.offered → e_new.wholes ≡ e.wholes
     → room ≤ log_new.room → len + room ≤ capacity → room ≤ e_new.room
     → IsHistoryParts site log_new sent_new len capacity e_new room
-reserved site log log_new sent sent_new e e_new len capacity room own sending entering size ops same entries texts offered log_room sent_room entries_room =
+reserved site log log_new sent sent_new e e_new len capacity room own sending entering size ops same entries texts offered wholes log_room sent_room entries_room =
     record {
       own = rw size own;
       sending = rw (ops, same) sending;
-      entering = rw (ops, entries, texts, offered) entering;
+      entering = rw (ops, entries, texts, offered, wholes) entering;
       log_room = log_room;
       sent_room = sent_room;
       entries_room = entries_room;

@@ -2,47 +2,24 @@ ghost use Rattle.std.specs.Prelude.{◌≡◌, ◌<◌, ◌≤◌, ◌-◌, ◌�
 ghost use Rattle.std.specs.List.{slice_get};
 ghost use Rattle.std.specs.Option.{option_and_then};
 ghost use Rattle.td_op.specs.declared.entry.Entry.{Entry};
-ghost use Rattle.td_op.specs.Op.{OpValue};
 ghost use Rattle.td_history.specs.Past.{IsDoneAs};
 ghost use Rattle.td_history.specs.Standing.{StandFor};
-ghost use Rattle.td_history.specs.Entries.{entry_among, entry_of};
+ghost use Rattle.td_history.specs.Entries.{entry_of};
 
-use crate::input::{CompactInput, keep_input};
+use crate::entry::{CompactEntry, WholeEntry, keep_entry};
 use crate::log::Log;
-use crate::reply::CompactReply;
 use std::alloc::Global;
 use std::marker::Model;
 use td_base::Memory;
 use td_op::{Entry, Input, Op, Reply};
 use td_store::Runs;
 
-/// An entry in 28 bytes.
-#[derive(Clone, Copy, Debug, PartialEq, Eq)]
-pub struct CompactEntry {
-    input: CompactInput,
-    reply: CompactReply,
-}
-
-impl CompactEntry {
-    // The entry that it stands for.
-    fn entry(&self, log: &Log, texts: &Runs, offered: &[Op]) -> Option<Entry>
-        ensures { result ≡ entry_among log.now.ops texts.now.runs offered.now self.now }
-    {
-        match self.input.input(log, texts, offered) {
-            Some(input) => Some(Entry {
-                input,
-                reply: self.reply.reply(),
-            }),
-            None => None,
-        }
-    }
-}
-
-/// The entries of a history, with the texts that no operation has and the operations that were offered alone. There is
-/// room for so many more entries.
+/// The entries of a history: those by the number of an operation, and the others, which are kept whole, with the texts
+/// that no operation has and the operations that were offered alone. There is room for so many more entries.
 #[derive(Drop)]
 pub struct Entries {
     entries: Vec<CompactEntry>,
+    wholes: Vec<WholeEntry>,
     texts: Runs,
     offered: Vec<Op>,
     room: u32,
@@ -58,22 +35,24 @@ impl Model for Entries {
 
     ghost view = { λ e. record {
       entries = e.entries.items;
+      wholes = e.wholes.items;
       texts = e.texts.runs;
       offered = e.offered.items;
       room = e.room;
     } };
 
-    ghost invariant = { λ e. AreEntriesParts (vec_len e.entries) (vec_capacity e.entries) e.texts.room
-        (vec_len e.offered) (vec_capacity e.offered) e.room };
+    ghost invariant = { λ e. AreEntriesParts (vec_len e.entries) (vec_capacity e.entries)
+        (vec_len e.wholes) (vec_capacity e.wholes) e.texts.room (vec_len e.offered) (vec_capacity e.offered) e.room };
 }
 
 impl Entries {
     /// No entries, and no room.
     pub fn new(alloc: Global) -> Entries
-        ensures { result ≡ record { entries = []; texts = []; offered = []; room = 0 } }
+        ensures { result ≡ record { entries = []; wholes = []; texts = []; offered = []; room = 0 } }
     {
         Entries {
             entries: Vec::new(alloc),
+            wholes: Vec::new(alloc),
             texts: Runs::new(alloc),
             offered: Vec::new(alloc),
             room: 0,
@@ -86,28 +65,37 @@ impl Entries {
         ensures room { OnOk result (self.new.room ≡ more) }
     {
         self.room = 0;
-        if self.offered.len() > (u32::MAX - more) as usize {
+        let most = (u32::MAX - more) as usize;
+        if self.offered.len() > most || self.wholes.len() > most {
             return Err(Memory);
         }
         self.entries.reserve(more as usize)?;
+        self.wholes.reserve(more as usize)?;
         self.texts.reserve(more)?;
         self.offered.reserve(more as usize)?;
         self.room = more;
         Ok(())
     }
 
-    /// Adds an entry.
-    pub fn push(&mut self, input: &Input, reply: &Reply, number: Option<u32>)
+    /// Adds an entry, of a replica with this log.
+    pub fn push(&mut self, log: &Log, input: &Input, reply: &Reply, number: Option<u32>)
         requires room { 1 ≤ self.old.room }
-        ensures entries { (ops : List OpValue) (list : List Entry) → IfSome number (IsDoneAs ops input.now)
-            → StandFor (entry_of ops self.old) self.old.entries list
-            → StandFor (entry_of ops self.new) self.new.entries
+        ensures entries { (list : List Entry) → IfSome number (IsDoneAs log.now.ops input.now)
+            → StandFor (entry_of log.now.ops self.old) self.old.entries list
+            → StandFor (entry_of log.now.ops self.new) self.new.entries
             (list ++ record { input = input.now; reply = reply.now } ∷ []) }
         ensures room { self.new.room ≡ self.old.room - 1 }
     {
-        let input = keep_input(&mut self.texts, &mut self.offered, input, number);
-        let reply = CompactReply::of(reply);
-        self.entries.push_reserved(CompactEntry { input, reply });
+        let entry = keep_entry(
+            log,
+            &mut self.wholes,
+            &mut self.texts,
+            &mut self.offered,
+            input,
+            reply,
+            number,
+        );
+        self.entries.push_reserved(entry);
         self.room -= 1;
     }
 
@@ -123,7 +111,7 @@ impl Entries {
         ensures { result ≡ option_and_then (entry_of log.now.ops self.now) (slice_get self.now.entries k) }
     {
         match self.kept_at(k) {
-            Some(kept) => kept.entry(log, &self.texts, &self.offered),
+            Some(kept) => kept.entry(log, &self.texts, &self.offered, &self.wholes),
             None => None,
         }
     }

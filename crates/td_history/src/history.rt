@@ -156,7 +156,7 @@ impl History {
         requires done { IfSome number (IsDoneAs self.old.ops input.now) }
         ensures { self.new ≡ entered input.now reply.now self.old }
     {
-        self.entries.push(input, reply, number);
+        self.entries.push(&self.log, input, reply, number);
         self.room -= 1;
     }
 

@@ -203,8 +203,8 @@ fn keep_op(offered: &mut Vec<Op>, op: &Op, number: Option<u32>) -> CompactInput
     }
 }
 
-// A text, put where a compact request says.
-fn put_input(put: &CompactPut, text: Option<Run>) -> Option<Input>
+/// A text, put where a compact request says.
+pub fn put_input(put: &CompactPut, text: Option<Run>) -> Option<Input>
     ensures { result ≡ put_input put.now text }
 {
     let request = put.request(&text?)?;

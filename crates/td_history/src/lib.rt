@@ -2,11 +2,13 @@
 //! the messages that it sent and the entries of its history. Each operation is stored once; all else has its number.
 //!
 //! Contracts see the whole past as plain lists. Begin at `history` and at `specs/Past.antt`. How each kind of thing is
-//! kept, and what it stands for, is told beside it: requests for text (`put`), inputs, replies, votes and messages as
-//! compact values, the operations of each site in their order (`index`), the log (`log`) and the entries (`entries`).
+//! kept, and what it stands for, is told beside it: requests for text (`put`), inputs, replies, votes, messages and
+//! entries (`entry`) as compact values, the operations of each site in their order (`index`), the log (`log`) and the
+//! list of the entries (`entries`).
 #![tactic(auto)]
 
 mod entries;
+mod entry;
 mod history;
 mod index;
 mod input;

@@ -149,6 +149,13 @@ impl Log {
         self.ops.get(number)
     }
 
+    /// The dot of the operation of a number.
+    pub fn dot(&self, number: u32) -> Option<Dot>
+        ensures { result ≡ option_map (λ (op : OpValue). op.dot) (slice_get self.now.ops number) }
+    {
+        self.ops.dot(number)
+    }
+
     /// The operation of a number that there is.
     pub fn at(&self, number: u32) -> Op
         requires { number < length self.now.ops }

@@ -1,5 +1,5 @@
-ghost use Rattle.std.specs.Prelude.{◌≡◌, ◌≤◌, [], length, IfOk, None};
-ghost use Rattle.td_history.specs.Past.{decided_by};
+ghost use Rattle.std.specs.Prelude.{◌≡◌, ◌≤◌, ◌∷◌, [], length, IfOk, None};
+ghost use Rattle.td_history.specs.Past.{decided_by, IsDoneAs};
 
 use super::*;
 use std::alloc::Global;
@@ -48,7 +48,8 @@ fn history(alloc: Global, of: u8) -> Result<History, Fail>
 
 #[test]
 fn an_entry_takes_few_bytes(rt: HostRuntime) -> Result<(), Fail> {
-    assert_eq!(rt; size_of::<crate::entries::CompactEntry>(), 28);
+    assert_eq!(rt; size_of::<crate::entry::CompactEntry>(), 12);
+    assert_eq!(rt; size_of::<crate::entry::WholeEntry>(), 28);
     assert_eq!(rt; size_of::<crate::message::CompactMessage>(), 8);
     assert_eq!(rt; size_of::<crate::index::Logged>(), 8);
     Ok(())
@@ -185,10 +186,52 @@ fn made(alloc: Global, first: &Op) -> Result<History, Fail>
     requires dot { first.now.dot ≡ record { site = 1; seq = 1 } }
     requires body { decided_by first.now.body ≡ None }
     ensures size { IfOk result (λ h. h.size ≡ 2) }
+    ensures ops { IfOk result (λ h. h.ops ≡ first.now ∷ []) }
+    ensures room { IfOk result (λ h. 1 ≤ h.room) }
 {
     let mut history = history(alloc, 1)?;
     history.make(first);
     Ok(history)
+}
+
+// Whether a history that made this operation has this entry back, entered with it.
+fn is_read_back_with(alloc: Global, first: &Op, entry: &Entry) -> Result<bool, Fail>
+    requires deps { length first.now.deps ≡ 2 }
+    requires dot { first.now.dot ≡ record { site = 1; seq = 1 } }
+    requires body { decided_by first.now.body ≡ None }
+    requires done { IsDoneAs (first.now ∷ []) entry.now.input 0 }
+{
+    let mut history = made(alloc, first)?;
+    history.enter(&entry.input, &entry.reply, Some(0));
+    Ok(is_entry(&history, 1, entry))
+}
+
+#[test]
+fn an_entry_of_an_operation_is_read_back(rt: HostRuntime) -> Result<(), Fail> {
+    let atom = letter(b'a')?;
+    let body = Body::Insert {
+        slot: Slot::Root,
+        run: Run::one(atom),
+    };
+    let first = Op::new(dot(1, 1)?, Vector::new(2), body).ok_or("an operation")?;
+    let inserted = Input::Local(Request::Insert { index: 3, atom });
+    let deleted = Input::Local(Request::Delete { index: 3 });
+    let taken = Input::Take(Message::Op(first));
+    for seq in 1..3 {
+        let dot = dot(1, seq)?;
+        for reply in [
+            Reply::Made { dot },
+            Reply::Taken { dot },
+            Reply::New,
+            Reply::Later,
+        ] {
+            for input in [inserted, deleted, taken, Input::Next] {
+                let entry = Entry { input, reply };
+                assert!(rt; is_read_back_with(rt.alloc(), &first, &entry)?);
+            }
+        }
+    }
+    Ok(())
 }
 
 #[test]

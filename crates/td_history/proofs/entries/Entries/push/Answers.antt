@@ -7,9 +7,10 @@ use Rattle.td_history.proofs.entries.Entries.push.Goals as goal
 
 pub returns-clause-entries : goal.returns-clause-entries
 returns-clause-entries c =
-    λ ops list done stands.
-    let kept = c.keep_input-input in
+    λ list done stands.
+    let ops = c.args.log.now.ops in
+    let kept = c.keep_entry-entry in
     let was = subst (λ v. StandFor (entry_of ops v) v.entries list) (sym c.self.view_is) stands in
-    let still = stand_on _ (entry_among ops kept.new.texts.runs kept.new.offered.items)
-    (λ x y e. entry_grown ops ops _ _ _ _ x y (grown_none ops) kept.ensures.texts kept.ensures.offered e) _ _ was in
-    rw c.push_reserved.ensures.items (stand_push _ _ _ _ _ still (rw (kept.ensures.input ops done, c.of-reply.ensures)))
+    let still = stand_on _ (entry_among ops kept.new.texts.runs kept.new.offered.items kept.new.wholes.items)
+    (λ x y e. entry_grown ops ops _ _ _ _ _ _ x y (grown_none ops) kept.ensures.texts kept.ensures.offered kept.ensures.wholes e) _ _ was in
+    rw c.push_reserved.ensures.items (stand_push _ _ _ _ _ still (kept.ensures.entry done))

@@ -1,0 +1,249 @@
+// An entry of a history as it is kept.
+ghost use Rattle.std.specs.Prelude.{◌≡◌, ◌<◌, ◌≤◌, ◌+◌, ◌^◌, List, ℕ, IfSome, IsTrue, Some, vec_len, vec_capacity};
+ghost use Rattle.std.specs.List.{slice_get};
+ghost use Rattle.std.specs.Option.{option_map};
+ghost use Rattle.td_op.specs.declared.reply.Reply.TheVariants.{Made, Taken};
+ghost use Rattle.td_op.specs.Op.{OpValue};
+ghost use Rattle.td_history.specs.declared.entry.WholeEntry.{WholeEntry};
+ghost use Rattle.td_history.specs.Past.{IsDoneAs};
+ghost use Rattle.td_history.specs.Standing.{IsGrown};
+ghost use Rattle.td_history.specs.Entries.{entry_among, whole_among};
+
+use crate::input::{CompactInput, keep_input, put_input};
+use crate::log::Log;
+use crate::put::CompactPut;
+use crate::reply::CompactReply;
+use td_base::Dot;
+use td_op::{Entry, Input, Message, Op, Reply, Request};
+use td_store::Runs;
+
+/// An entry in 12 bytes. Among the operations of a log, the texts that no operation has, the operations that were
+/// offered alone and the entries that are kept whole it stands for `entry_among` it.
+#[derive(Clone, Copy, Debug, PartialEq, Eq)]
+pub enum CompactEntry {
+    /// An atom was to be put at the index, and the operation of this number was made.
+    Inserted { index: u32, number: u32 },
+    /// The atom at the index was to be deleted, and the operation of this number was made.
+    Deleted { index: u32, number: u32 },
+    /// The operation of this number came, and was new.
+    Taken { number: u32 },
+    /// The operation of this number came, and was kept for later.
+    Kept { number: u32 },
+    /// What waited was asked for, and the operation of this number was taken.
+    Resumed { number: u32 },
+    /// Any entry: the one of this number among those that are kept whole.
+    Whole { place: u32 },
+}
+
+/// An entry in 28 bytes, with its reply. It stands for `whole_among` it.
+#[derive(Clone, Copy, Debug, PartialEq, Eq)]
+pub struct WholeEntry {
+    input: CompactInput,
+    reply: CompactReply,
+}
+
+impl CompactEntry {
+    /// The entry that it stands for.
+    pub fn entry(
+        &self,
+        log: &Log,
+        texts: &Runs,
+        offered: &[Op],
+        wholes: &[WholeEntry],
+    ) -> Option<Entry>
+        ensures { result ≡ entry_among log.now.ops texts.now.runs offered.now wholes.now self.now }
+    {
+        match *self {
+            CompactEntry::Inserted { index, number } => {
+                let dot = log.dot(number)?;
+                let input = put_input(&CompactPut::Insert { index }, log.run(number))?;
+                Some(Entry {
+                    input,
+                    reply: Reply::Made { dot },
+                })
+            }
+            CompactEntry::Deleted { index, number } => {
+                let dot = log.dot(number)?;
+                Some(Entry {
+                    input: Input::Local(Request::Delete { index }),
+                    reply: Reply::Made { dot },
+                })
+            }
+            CompactEntry::Taken { number } => {
+                let op = log.op(number)?;
+                Some(Entry {
+                    input: Input::Take(Message::Op(op)),
+                    reply: Reply::New,
+                })
+            }
+            CompactEntry::Kept { number } => {
+                let op = log.op(number)?;
+                Some(Entry {
+                    input: Input::Take(Message::Op(op)),
+                    reply: Reply::Later,
+                })
+            }
+            CompactEntry::Resumed { number } => {
+                let dot = log.dot(number)?;
+                Some(Entry {
+                    input: Input::Next,
+                    reply: Reply::Taken { dot },
+                })
+            }
+            CompactEntry::Whole { place } => {
+                let whole = wholes.get(place as usize)?;
+                whole.entry(log, texts, offered)
+            }
+        }
+    }
+}
+
+impl WholeEntry {
+    // The entry that it stands for.
+    fn entry(&self, log: &Log, texts: &Runs, offered: &[Op]) -> Option<Entry>
+        ensures { result ≡ whole_among log.now.ops texts.now.runs offered.now self.now }
+    {
+        match self.input.input(log, texts, offered) {
+            Some(input) => Some(Entry {
+                input,
+                reply: self.reply.reply(),
+            }),
+            None => None,
+        }
+    }
+}
+
+/// The entry, made compact. Where there is no number of the operation that it makes or takes, or its reply does not
+/// follow from that, it is added to those that are kept whole, in the room that there is.
+pub fn keep_entry(
+    log: &Log,
+    wholes: &mut Vec<WholeEntry>,
+    texts: &mut Runs,
+    offered: &mut Vec<Op>,
+    input: &Input,
+    reply: &Reply,
+    number: Option<u32>,
+) -> CompactEntry
+    requires wholes_room { vec_len wholes.old < vec_capacity wholes.old }
+    requires wholes_few { vec_len wholes.old < 2 ^ 32 }
+    requires texts_room { 1 ≤ texts.old.room }
+    requires offered_room { vec_len offered.old < vec_capacity offered.old }
+    requires few { vec_len offered.old < 2 ^ 32 }
+    ensures entry { IfSome number (IsDoneAs log.now.ops input.now)
+        → entry_among log.now.ops texts.new.runs offered.new.items wholes.new.items result
+        ≡ Some (record { input = input.now; reply = reply.now }) }
+    ensures wholes { IsGrown wholes.old.items wholes.new.items }
+    ensures wholes_len { vec_len wholes.new ≤ vec_len wholes.old + 1 }
+    ensures wholes_capacity { vec_capacity wholes.new ≡ vec_capacity wholes.old }
+    ensures texts { IsGrown texts.old.runs texts.new.runs }
+    ensures texts_room { texts.old.room ≤ texts.new.room + 1 }
+    ensures offered { IsGrown offered.old.items offered.new.items }
+    ensures offered_len { vec_len offered.new ≤ vec_len offered.old + 1 }
+    ensures capacity { vec_capacity offered.new ≡ vec_capacity offered.old }
+{
+    match by_number(log, input, reply, number) {
+        Some(entry) => entry,
+        None => keep_whole(wholes, texts, offered, input, reply, number),
+    }
+}
+
+// The entry by the number of its operation, where its reply follows from that.
+fn by_number(log: &Log, input: &Input, reply: &Reply, number: Option<u32>) -> Option<CompactEntry>
+    ensures { IfSome result (λ entry. (texts : List (List (List ℕ))) (offered : List OpValue) (wholes : List WholeEntry)
+        → IfSome number (IsDoneAs log.now.ops input.now)
+        → entry_among log.now.ops texts offered wholes entry
+        ≡ Some (record { input = input.now; reply = reply.now })) }
+{
+    let number = number?;
+    match *input {
+        Input::Local(Request::Insert { index, .. }) => {
+            if !is_made(log, number, reply) {
+                return None;
+            }
+            Some(CompactEntry::Inserted { index, number })
+        }
+        Input::Local(Request::Delete { index }) => {
+            if !is_made(log, number, reply) {
+                return None;
+            }
+            Some(CompactEntry::Deleted { index, number })
+        }
+        Input::Take(Message::Op(_)) => match *reply {
+            Reply::New => Some(CompactEntry::Taken { number }),
+            Reply::Later => Some(CompactEntry::Kept { number }),
+            _ => None,
+        },
+        Input::Next => {
+            if !is_taken(log, number, reply) {
+                return None;
+            }
+            Some(CompactEntry::Resumed { number })
+        }
+        _ => None,
+    }
+}
+
+// Whether the reply says that the operation of the number was made.
+fn is_made(log: &Log, number: u32, reply: &Reply) -> bool
+    ensures { IsTrue result
+        → option_map (λ (op : OpValue). Made op.dot) (slice_get log.now.ops number) ≡ Some reply.now }
+{
+    match *reply {
+        Reply::Made { dot } => is_of(log, number, dot),
+        _ => false,
+    }
+}
+
+// Whether the reply says that the operation of the number was taken.
+fn is_taken(log: &Log, number: u32, reply: &Reply) -> bool
+    ensures { IsTrue result
+        → option_map (λ (op : OpValue). Taken op.dot) (slice_get log.now.ops number) ≡ Some reply.now }
+{
+    match *reply {
+        Reply::Taken { dot } => is_of(log, number, dot),
+        _ => false,
+    }
+}
+
+// Whether the operation of the number has the dot.
+fn is_of(log: &Log, number: u32, dot: Dot) -> bool
+    ensures { IsTrue result → option_map (λ (op : OpValue). op.dot) (slice_get log.now.ops number) ≡ Some dot }
+{
+    match log.dot(number) {
+        Some(other) => other == dot,
+        None => false,
+    }
+}
+
+// The entry, kept whole.
+fn keep_whole(
+    wholes: &mut Vec<WholeEntry>,
+    texts: &mut Runs,
+    offered: &mut Vec<Op>,
+    input: &Input,
+    reply: &Reply,
+    number: Option<u32>,
+) -> CompactEntry
+    requires wholes_room { vec_len wholes.old < vec_capacity wholes.old }
+    requires wholes_few { vec_len wholes.old < 2 ^ 32 }
+    requires texts_room { 1 ≤ texts.old.room }
+    requires offered_room { vec_len offered.old < vec_capacity offered.old }
+    requires few { vec_len offered.old < 2 ^ 32 }
+    ensures entry { (ops : List OpValue) → IfSome number (IsDoneAs ops input.now)
+        → entry_among ops texts.new.runs offered.new.items wholes.new.items result
+        ≡ Some (record { input = input.now; reply = reply.now }) }
+    ensures wholes { IsGrown wholes.old.items wholes.new.items }
+    ensures wholes_len { vec_len wholes.new ≤ vec_len wholes.old + 1 }
+    ensures wholes_capacity { vec_capacity wholes.new ≡ vec_capacity wholes.old }
+    ensures texts { IsGrown texts.old.runs texts.new.runs }
+    ensures texts_room { texts.old.room ≤ texts.new.room + 1 }
+    ensures offered { IsGrown offered.old.items offered.new.items }
+    ensures offered_len { vec_len offered.new ≤ vec_len offered.old + 1 }
+    ensures capacity { vec_capacity offered.new ≡ vec_capacity offered.old }
+{
+    let input = keep_input(texts, offered, input, number);
+    let reply = CompactReply::of(reply);
+    let place = wholes.len() as u32;
+    wholes.push_reserved(WholeEntry { input, reply });
+    CompactEntry::Whole { place }
+}
