@@ -1,8 +1,7 @@
 -- The parts of a world after a step.
-use Rattle.std.proofs.Common.{◌≡◌, ◌<◌, ◌≤◌, ◌+◌, ◌-◌, ◌++◌, ℕ, zero, suc, List, [], ◌∷◌, Bool, true, false, if◌then◌else◌, nat_eq, length, set, get_or, Option, Some, None, true≢false, refl, sym, ap, ◌∙◌, subst, arith}
+use Rattle.std.proofs.Common.{◌≡◌, ◌<◌, ◌≤◌, ◌+◌, ◌-◌, ◌++◌, ℕ, zero, suc, List, [], ◌∷◌, Bool, true, false, if◌then◌else◌, nat_eq, length, set, get_or, Option, Some, None, refl, sym, ap, ◌∙◌, subst, arith}
 use Rattle.std.proofs.lemmas.Bool.{eqb-true, eqb-false}
 use Rattle.std.proofs.lemmas.List.{length-set, length-append, length-drop}
-use Rattle.std.specs.Prelude.{IsSome}
 use Rattle.std.specs.List.{filter_map, slice_get}
 use Rattle.td_base.specs.Lists.{In}
 use Rattle.td_base.proofs.Elements.{get_front, In-slice_get}
@@ -246,10 +245,6 @@ past_sites [] k number message e = absurd (none (nat_eq number 0) e)
 past_sites (r ∷ replicas) zero number message e = omega arith
 past_sites (r ∷ replicas) (suc k) number message e =
     let h : k < length replicas = past_sites replicas k number message e in omega (arith, h)
-
-pub some_is : {X : Type 0} (o : Option X) → IsSome o → (x : X) × (o ≡ Some x)
-some_is None h = absurd (true≢false (sym h))
-some_is (Some x) h = (x, refl)
 
 -- what has a number has a place
 pub kth_get : {X : Type 0} (k : ℕ) (xs : List X) (x : X) → kth k xs ≡ Some x → (0 < k) × (slice_get xs (k - 1) ≡ Some x)

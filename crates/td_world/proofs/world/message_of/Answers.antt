@@ -1,22 +1,23 @@
 use Rattle.std.proofs.Common.{◌≤◌, ◌-◌, ◌∙◌, ℕ, length, ap, sym, arith}
+use Rattle.td_base.proofs.Elements.{some_of}
 use Rattle.td_history.specs.Past.{kth}
 use Rattle.td_replica.specs.Replica.{ReplicaValue}
 use Rattle.td_world.specs.Parts.{posted}
-use Rattle.td_world.proofs.Kept.{get_within, kth_get, past_sites, some_is}
+use Rattle.td_world.proofs.Kept.{get_within, kth_get, past_sites}
 use Rattle.td_world.proofs.Replicas.{at_site}
 use Rattle.td_world.proofs.world.message_of.Goals as goal
 
 pub offset_bounds-replicas-place_of : goal.offset_bounds-replicas-place_of
 offset_bounds-replicas-place_of g c =
     let post = c.args.post.now in
-    let s = some_is (posted c.args.replicas.now post) c.requires in
+    let s = some_of (posted c.args.replicas.now post) c.requires in
     let below = past_sites c.args.replicas.now (post.site - 1) post.number s.0 s.1 in
     omega (arith, c.place_of.ensures.place)
 
 pub bounds-replicas-place_of : goal.bounds-replicas-place_of
 bounds-replicas-place_of g c =
     let post = c.args.post.now in
-    let s = some_is (posted c.args.replicas.now post) c.requires in
+    let s = some_of (posted c.args.replicas.now post) c.requires in
     let below = past_sites c.args.replicas.now (post.site - 1) post.number s.0 s.1 in
     omega (arith, c.place_of.ensures.place)
 
@@ -24,7 +25,7 @@ pub message-requires-clause-within : goal.message-requires-clause-within
 message-requires-clause-within g c =
     let post = c.args.post.now in
     let r = c.index-replicas-place_of.result in
-    let s = some_is (posted c.args.replicas.now post) c.requires in
+    let s = some_of (posted c.args.replicas.now post) c.requires in
     let below = past_sites c.args.replicas.now (post.site - 1) post.number s.0 s.1 in
     let within : post.site ≤ length c.args.replicas.now = omega (arith, c.place_of.ensures.least) in
     let is = at_site c.args.replicas.now post.site c.place_of.result r c.place_of.ensures.place c.place_of.ensures.least within c.index-replicas-place_of.is in
@@ -37,7 +38,7 @@ pub returns-clause-message : goal.returns-clause-message
 returns-clause-message g c =
     let post = c.args.post.now in
     let r = c.index-replicas-place_of.result in
-    let s = some_is (posted c.args.replicas.now post) c.requires in
+    let s = some_of (posted c.args.replicas.now post) c.requires in
     let below = past_sites c.args.replicas.now (post.site - 1) post.number s.0 s.1 in
     let within : post.site ≤ length c.args.replicas.now = omega (arith, c.place_of.ensures.least) in
     let is = at_site c.args.replicas.now post.site c.place_of.result r c.place_of.ensures.place c.place_of.ensures.least within c.index-replicas-place_of.is in
