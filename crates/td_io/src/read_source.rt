@@ -1,6 +1,6 @@
-ghost use Rattle.std.specs.Prelude.{◌≡◌, ◌<◌, ◌≤◌, None, length, IfNone, IfOk, OnOk, OnErr};
+ghost use Rattle.std.specs.Prelude.{◌≡◌, ◌<◌, ◌≤◌, None, Ok, length, IfNone, IfOk, OnOk, OnErr};
 ghost use Rattle.std.specs.Io.{ReadsAtMost};
-ghost use Rattle.std.specs.Io.KnownBytes.{ReadConsumes};
+ghost use Rattle.std.specs.Io.KnownBytes.{ReadConsumes, IsAtEnd};
 ghost use Rattle.td_io.specs.Count.{counted, end_found};
 
 use crate::fault::Failed;
@@ -8,8 +8,7 @@ use crate::source::{Source, end_found};
 use std::io::{Error, Read};
 use std::marker::Model;
 
-/// A source that reads from a reader, and counts each of its errors. It tells a generic caller nothing of the bytes to
-/// come.
+/// A source that reads from a reader, and counts each of its errors. The bytes to come are those that the reader tells.
 #[derive(Drop)]
 pub struct ReadSource<R: Read> {
     reader: R,
@@ -54,7 +53,7 @@ impl<R: Read> ReadSource<R> {
 }
 
 impl<R: Read> Source for ReadSource<R> {
-    ghost left = { λ _. None };
+    ghost left = { λ s. R.remaining s.inner };
 
     ghost calls = { λ s. s.calls };
 
@@ -67,6 +66,7 @@ impl<R: Read> Source for ReadSource<R> {
         requires { 0 < length buf.old }
         ensures within { ReadsAtMost result buf.new }
         ensures read { ReadConsumes (R.remaining self.old.inner) (R.remaining self.new.inner) result buf.new }
+        ensures at_end { result ≡ Ok 0 → IsAtEnd (R.remaining self.old.inner) }
         ensures ok { OnOk result (self.new.faults ≡ self.old.faults) }
         ensures err { OnErr result (self.new.faults ≡ counted self.old.faults) }
         ensures count { self.old.faults ≤ self.new.faults }

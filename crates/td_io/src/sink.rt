@@ -1,5 +1,5 @@
 ghost use Rattle.std.specs.Prelude.{◌≡◌, ◌<◌, ◌≤◌, ℕ, List, Option, length, take, IfOk, OnErr};
-ghost use Rattle.std.specs.Io.KnownBytes.{Appends};
+ghost use Rattle.std.specs.Io.KnownBytes.{Appends, Keeps};
 ghost use Rattle.td_io.specs.Count.{Rose};
 
 use crate::fault::Failed;
@@ -19,6 +19,6 @@ pub trait Sink {
         ensures within { IfOk result (λ k. k ≤ length bytes.now) }
         ensures takes { IfOk result (λ k. Appends (held self.old) (held self.new) (take k bytes.now)) }
         ensures failed { OnErr result (Rose (faults self.old) (faults self.new)) }
-        ensures kept { OnErr result (held self.new ≡ held self.old) }
+        ensures kept { OnErr result (Keeps (held self.old) (held self.new)) }
         ensures count { faults self.old ≤ faults self.new };
 }

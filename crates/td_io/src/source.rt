@@ -1,5 +1,5 @@
 ghost use Rattle.std.specs.Prelude.{◌≡◌, ◌<◌, ◌≤◌, ℕ, List, Option, Ok, length, take, IfOk, OnErr};
-ghost use Rattle.std.specs.Io.KnownBytes.{Consumes, IsAtEnd};
+ghost use Rattle.std.specs.Io.KnownBytes.{Consumes, IsAtEnd, Keeps};
 ghost use Rattle.td_io.specs.Count.{Rose, counted, end_found};
 
 use crate::fault::Failed;
@@ -25,7 +25,7 @@ pub trait Source {
         ensures gives { IfOk result (λ k. Consumes (left self.old) (left self.new) (take k buf.new)) }
         ensures at_end { result ≡ Ok 0 → IsAtEnd (left self.old) }
         ensures failed { OnErr result (Rose (faults self.old) (faults self.new)) }
-        ensures kept { OnErr result (left self.new ≡ left self.old) }
+        ensures kept { OnErr result (Keeps (left self.old) (left self.new)) }
         ensures count { faults self.old ≤ faults self.new }
         ensures called { calls self.new ≡ counted (calls self.old) }
         ensures found { IfOk result (λ k. end self.new ≡ end_found (end self.old) (calls self.new) k) }

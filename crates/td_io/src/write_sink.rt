@@ -7,8 +7,8 @@ use crate::sink::Sink;
 use std::io::{Error, ErrorKind, Write};
 use std::marker::Model;
 
-/// A sink that writes to a writer, and counts each of its errors, and each write that takes nothing. It tells a
-/// generic caller nothing of the bytes that it took.
+/// A sink that writes to a writer, and counts each of its errors, and each write that takes nothing. The bytes that it
+/// took are those that the writer tells.
 #[derive(Drop)]
 pub struct WriteSink<W: Write> {
     writer: W,
@@ -49,7 +49,7 @@ impl<W: Write> WriteSink<W> {
 }
 
 impl<W: Write> Sink for WriteSink<W> {
-    ghost held = { λ _. None };
+    ghost held = { λ s. W.contents s.inner };
 
     ghost faults = { λ s. s.faults };
 
