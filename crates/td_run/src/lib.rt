@@ -11,6 +11,7 @@ mod fault;
 mod flattens;
 mod generated;
 mod giving;
+mod limits;
 mod outcome;
 mod play;
 mod player;
@@ -21,7 +22,8 @@ mod status;
 mod typing;
 mod words;
 
-pub use program::{run, run_plain};
+pub use limits::the_limits_are_these;
+pub use program::run;
 pub use runs::a_text_is_cut_into_runs;
 pub use status::Status;
 pub use typing::typing_is_typing;

@@ -16,8 +16,6 @@ use crate::play::output_of;
 use crate::status::Status;
 use crate::words::{Form, asked_for};
 use std::alloc::Global;
-use std::sync::Wait;
-use std::thread::Threads;
 use td_base::Bytes;
 use td_io::{ReadFault, Sink, Source, put_all, read_all};
 use td_script::{Kind, MAX_SCRIPT, ScriptFault, read_script};
@@ -29,7 +27,7 @@ const USAGE: &[u8] = b"usage: treedoc play | live | kept | check | gen SIZE NUMB
 /// Runs the program: with the one word `play` it reads a script from the source and plays it; with `gen SIZE NUMBER` it
 /// plays a generated script. The sink takes the whole output that goes with the status; where that is `Write` a front
 /// of it, and where it is `Memory` or `Read` nothing.
-pub fn run_plain<S: Source, K: Sink>(
+pub fn run<S: Source, K: Sink>(
     alloc: Global,
     words: &[Bytes],
     source: &mut S,
@@ -45,19 +43,6 @@ pub fn run_plain<S: Source, K: Sink>(
         Err(Stop::Read) => Status::Read,
         Err(Stop::Memory) => Status::Memory,
     }
-}
-
-/// Runs the program, as `run_plain` does. It may wait, in the commands that run on threads.
-pub fn run<R: Threads + Wait + Copy + Send + Sync, S: Source, K: Sink>(
-    _rt: &R,
-    alloc: Global,
-    words: &[Bytes],
-    source: &mut S,
-    sink: &mut K,
-) -> Status
-    ensures { IsAnswered S.Source K.Sink words.now source.old source.new sink.old sink.new result }
-{
-    run_plain(alloc, words, source, sink)
 }
 
 // The output of a command.

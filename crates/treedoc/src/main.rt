@@ -1,25 +1,38 @@
 //! The program `treedoc`: the words of the command line, standard input and standard output for `td_run`.
 //!
 //! It ends with the number of the status that `run` answers, and tells a person on standard error what went wrong.
-//! What the program does is the contract of `td_run::run`.
+//! What the program does is the contract of `td_run::run`. What no clause says is what the system gives as arguments,
+//! as standard input and as standard output.
 #![tactic(auto)]
 
-ghost use Rattle.std.specs.Prelude.{◌≡◌};
+ghost use Rattle.std.specs.Prelude.{◌≡◌, drop};
 ghost use Rattle.std.specs.Process.{exit_status};
+ghost use Rattle.td_run.specs.Answered.{IsAnswered};
 ghost use Rattle.td_run.specs.Number.{status_number};
 
-use std::io::ErrorKind;
+use std::alloc::Global;
+use std::env::FillError;
+use std::io;
 use std::process::ExitCode;
 use std::rt::Env;
-use std::sync::Wait;
-use std::thread::Threads;
-use std::{env, io};
 use td_base::{Bytes, Memory};
-use td_io::{ReadSource, WriteSink};
+use td_io::{ReadSource, Sink, Source, WriteSink};
 use td_run::{Status, run};
 
 fn main(rt: HostRuntime) -> ExitCode {
-    exit_code(status(&rt))
+    let mut source = ReadSource::new(rt.reader());
+    let mut sink = WriteSink::new(io::writer(&rt));
+    let status = match arguments(&rt, rt.alloc()) {
+        Ok(arguments) => run_behind_name(rt.alloc(), &arguments, &mut source, &mut sink),
+        Err(Memory) => Status::Memory,
+    };
+    // what standard error does not take is let go
+    let _told = match status {
+        Status::Read => tell(&rt, "standard input could not be read", source.error()),
+        Status::Write => tell(&rt, "standard output could not be written", sink.error()),
+        _ => Ok(()),
+    };
+    exit_code(status)
 }
 
 fn exit_code(status: Status) -> ExitCode
@@ -28,66 +41,56 @@ fn exit_code(status: Status) -> ExitCode
     ExitCode::from(status.number())
 }
 
-fn status<R>(rt: &R) -> Status
-where
-    R: Env + Input + Print + Eprint + AllocGlobal + Threads + Wait + Copy + Send + Sync,
+// Runs the program on all of its arguments but the first, which is its own name.
+fn run_behind_name<S: Source, K: Sink>(
+    alloc: Global,
+    arguments: &[Bytes],
+    source: &mut S,
+    sink: &mut K,
+) -> Status
+    ensures { IsAnswered S.Source K.Sink (drop 1 arguments.now) source.old source.new sink.old sink.new result }
 {
-    let Ok(words) = words(rt) else {
-        return Status::Memory;
-    };
-    let mut source = ReadSource::new(rt.reader());
-    let mut sink = WriteSink::new(io::writer(rt));
-    let status = run(rt, rt.alloc(), &words, &mut source, &mut sink);
-    let error = match status {
-        Status::Read => source.error(),
-        Status::Write => sink.error(),
-        _ => None,
-    };
-    // what standard error does not take is let go
-    let _told = tell(rt, status, &words, error);
-    status
-}
-
-// Tells a person which stream failed, and why; or that the words are a command that is not built yet.
-fn tell(
-    rt: &impl Eprint,
-    status: Status,
-    words: &[Bytes],
-    error: Option<io::Error>,
-) -> io::Result<()> {
-    match (status, error, planned(words)) {
-        (Status::Read, Some(error), _) => {
-            eprintln!(rt; "treedoc: standard input could not be read: {error}")
-        }
-        (Status::Write, Some(error), _) => {
-            eprintln!(rt; "treedoc: standard output could not be written: {error}")
-        }
-        (Status::Usage, _, Some(name)) => {
-            eprintln!(rt; "treedoc: {name} is planned, and not built yet")
-        }
-        _ => Ok(()),
+    match arguments {
+        [_name, words @ ..] => run(alloc, words, source, sink),
+        [] => run(alloc, &[], source, sink),
     }
 }
 
-// The command that the words ask for, where it is planned and not built yet.
-fn planned(words: &[Bytes]) -> Option<&str> {
-    let (word, rest) = words.split_first()?;
-    let name = str::from_utf8(word.as_slice()).ok()?;
-    (rest.is_empty() && matches!(name, "live" | "kept" | "check")).then_some(name)
+// All arguments as the system has them, the program's name first. They need not be text.
+fn arguments<E: Env>(rt: &E, alloc: Global) -> Result<Vec<Bytes>, Memory> {
+    let mut arguments = Vec::new(alloc);
+    for at in 0..usize::MAX {
+        let Some(argument) = argument(rt, alloc, at)? else {
+            break;
+        };
+        arguments.push(argument)?;
+    }
+    Ok(arguments)
 }
 
-// The words behind the program's name, or none where the system cannot give them as text.
-fn words(rt: &(impl Env + AllocGlobal)) -> Result<Vec<Bytes>, Memory> {
-    let mut words = Vec::new(rt.alloc());
-    let args = match env::args(rt) {
-        Ok(args) => args,
-        Err(error) if error.kind() == ErrorKind::OutOfMemory => return Err(Memory),
-        Err(_) => return Ok(words),
-    };
-    for arg in args.skip(1) {
-        let mut word = Bytes::new(rt.alloc());
-        word.push(arg.as_bytes())?;
-        words.push(word)?;
+// The argument with this number, from 0, if there is one.
+fn argument<E: Env>(rt: &E, alloc: Global, at: usize) -> Result<Option<Bytes>, Memory> {
+    let mut room = Vec::new(alloc);
+    // twice as much room as before, where it was not enough
+    for digits in 6..usize::BITS {
+        room.resize(1 << digits, 0)?;
+        match rt.arg(at, &mut room) {
+            Ok(len) => {
+                let mut argument = Bytes::new(alloc);
+                argument.push(&room[..len])?;
+                return Ok(Some(argument));
+            }
+            Err(FillError::NotPresent) => return Ok(None),
+            Err(FillError::TooLong) => {}
+        }
     }
-    Ok(words)
+    Err(Memory)
+}
+
+// Tells a person which stream failed, and why.
+fn tell(rt: &impl Eprint, failed: &str, error: Option<io::Error>) -> io::Result<()> {
+    match error {
+        Some(error) => eprintln!(rt; "treedoc: {failed}: {error}"),
+        None => Ok(()),
+    }
 }

@@ -1,5 +1,5 @@
 // Runs of the program in memory.
-use crate::{Status, run_plain};
+use crate::{Status, run};
 use std::alloc::Global;
 use std::process::Abort;
 use std::test::Fail;
@@ -22,7 +22,7 @@ pub fn run_of(alloc: Global, words: &[&str], input: &[u8]) -> Result<(Status, Me
     let words = words_of(alloc, words)?;
     let mut source = MemSource::new(alloc, input, &[])?;
     let mut sink = MemSink::new(alloc, 4_000_000, &[])?;
-    let status = run_plain(alloc, &words, &mut source, &mut sink);
+    let status = run(alloc, &words, &mut source, &mut sink);
     Ok((status, sink))
 }
 

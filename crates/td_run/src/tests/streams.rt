@@ -1,9 +1,9 @@
 // Inputs and outputs in pieces, and devices that fail.
 use super::plays::words_of;
-use crate::{Status, run_plain};
+use crate::{Status, run};
 use std::alloc::Global;
 use std::test::Fail;
-use td_io::{MemSink, MemSource};
+use td_io::{MemSink, MemSource, ReadSource, WriteSink};
 
 // Two sites that type into one gap, and what they print.
 const SCRIPT: &str = r#"sites 2
@@ -28,7 +28,7 @@ fn played(alloc: Global, read_fails: &[u64], put_fails: &[u64]) -> Result<(Statu
     let play = words_of(alloc, &["play"])?;
     let mut source = MemSource::pieces(alloc, SCRIPT.as_bytes(), 1, read_fails)?;
     let mut sink = MemSink::pieces(alloc, 1000, 1, put_fails)?;
-    let status = run_plain(alloc, &play, &mut source, &mut sink);
+    let status = run(alloc, &play, &mut source, &mut sink);
     Ok((status, sink))
 }
 
@@ -37,6 +37,18 @@ fn pieces_make_no_difference(rt: HostRuntime) -> Result<(), Fail> {
     let (status, sink) = played(rt.alloc(), &[], &[])?;
     assert_eq!(rt; status, Status::Done);
     assert_eq!(rt; sink.held(), OUTPUT.as_bytes());
+    Ok(())
+}
+
+#[test]
+fn a_reader_and_a_writer_of_std_serve_too(rt: HostRuntime) -> Result<(), Fail> {
+    let play = words_of(rt.alloc(), &["play"])?;
+    let mut held = Vec::new(rt.alloc());
+    let mut source = ReadSource::new(SCRIPT.as_bytes());
+    let mut sink = WriteSink::new(&mut held);
+    let status = run(rt.alloc(), &play, &mut source, &mut sink);
+    assert_eq!(rt; status, Status::Done);
+    assert_eq!(rt; held.as_slice(), OUTPUT.as_bytes());
     Ok(())
 }
 

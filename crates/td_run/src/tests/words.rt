@@ -1,8 +1,7 @@
 // The words of the command line.
-use super::plays::{run_of, words_of};
-use crate::{Status, run};
+use super::plays::run_of;
+use crate::Status;
 use std::test::Fail;
-use td_io::{MemSink, MemSource};
 
 const USAGE: &str = "usage: treedoc play | live | kept | check | gen SIZE NUMBER\n";
 
@@ -24,17 +23,5 @@ fn other_words_are_a_usage_refusal(rt: HostRuntime) -> Result<(), Fail> {
         assert_eq!(rt; status.number(), 2);
         assert_eq!(rt; sink.held(), USAGE.as_bytes(), "at {line:?}");
     }
-    Ok(())
-}
-
-#[test]
-fn the_top_call_plays_too(rt: HostRuntime) -> Result<(), Fail> {
-    let alloc = rt.alloc();
-    let play = words_of(alloc, &["play"])?;
-    let mut source = MemSource::new(alloc, b"sites 1\nins 1 0 \"ab\"\nshow 1\n", &[])?;
-    let mut sink = MemSink::new(alloc, 1000, &[])?;
-    let status = run(&rt, alloc, &play, &mut source, &mut sink);
-    assert_eq!(rt; status, Status::Done);
-    assert_eq!(rt; sink.held(), b"ins 1 2/2\nshow 1 \"ab\"\n".as_slice());
     Ok(())
 }

@@ -1,6 +1,6 @@
 use Rattle.std.proofs.Common.{refl, arith}
 use Rattle.td_run.proofs.Answering.{other_answered, put_answered, stopped_by_memory, stopped_reading}
-use Rattle.td_run.proofs.program.run_plain.Goals as goal
+use Rattle.td_run.proofs.program.run.Goals as goal
 
 pub returns-in_default : goal.returns-in_default
 returns-in_default g c =
