@@ -1,0 +1,2 @@
+pub mod ChunkParts
+pub mod Seats
