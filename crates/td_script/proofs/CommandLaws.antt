@@ -1,32 +1,24 @@
 -- The commands behind a site: what is read is the line of the command.
-use Rattle.std.proofs.Common.{◌≡◌, ◌≢◌, ◌<◌, ◌^◌, ℕ, Bool, true, false, cond, List, [], ◌∷◌, ◌++◌, get_or, codes}
-use Rattle.std.proofs.Common.{Ok, refl, sym, ap, subst, ◌∙◌, append-nil, bytes_eq, IsUtf8, arith}
-use Rattle.std.specs.Fmt.{decimal}
-use Rattle.std.specs.Int.{IsInRange}
-use Rattle.std.proofs.lemmas.List.{get_or_default}
-use Rattle.std.proofs.lemmas.List.Elements.{All-tail}
-use Rattle.std.proofs.lemmas.Slice.Eq.{bytes_eq-Decides}
-use Rattle.std.proofs.lemmas.Str.{IsUtf8-append, IsUtf8-from_ascii}
-use Rattle.std.proofs.lemmas.Str.Ascii.{IsAscii-cons, IsAscii-from_all, IsAscii-nil}
-use Rattle.unicode_segmentation.proofs.TextLemmas.{IsUtf8-after}
+use Rattle.std.proofs.Common.{◌≡◌, ℕ, Bool, true, false, cond, List, ◌∷◌, ◌++◌, codes, Ok, refl, sym, ap, subst, ◌∙◌}
+use Rattle.std.proofs.Common.{bytes_eq, IsUtf8}
 use Rattle.td_script.specs.declared.command.Command.{Command}
 use Rattle.td_script.specs.declared.command.Command.TheVariants.{Ins, Paste, Del, Flat, Cancel, Give, GiveAll}
 use Rattle.td_script.specs.declared.command.Command.TheVariants.{Show, Tree, Count}
+use Rattle.td_script.specs.declared.command.Place.{Place}
 use Rattle.td_script.specs.declared.command.Place.TheVariants.{Whole, Beside}
 use Rattle.td_script.specs.declared.word.Word.TheVariants.{AtSite}
 use Rattle.td_script.specs.declared.word.SiteWord.{SiteWord}
 use Rattle.td_script.specs.declared.word.SiteWord.TheVariants as At
-use Rattle.td_script.specs.Arguments.{behind, by_word, with_rest, last, number_of, dot_of, bit_of}
-use Rattle.td_script.specs.Arguments.{text_at, word_at}
-use Rattle.td_script.specs.Faults.{site_command, flat_beside}
-use Rattle.td_script.specs.Script.{IsSiteOf, IsCommand}
-use Rattle.td_script.specs.Spelling.{line_of, spaced, spaced_bit, spaced_dot, spaced_text}
+use Rattle.td_script.specs.Arguments.{behind, with_rest, last, number_of, word_at}
+use Rattle.td_script.specs.Faults.{site_command}
+use Rattle.td_script.specs.Script.{IsSiteOf, IsCommand, IsPlace}
+use Rattle.td_script.specs.Shared.{index_and_text, place_at, proposal_at, two_numbers}
+use Rattle.td_script.specs.Spelling.{line_of, spaced}
 use Rattle.td_script.specs.Words.{spelling}
-use Rattle.td_script.proofs.ArgumentLaws.{number_at_back, dot_at_back, bit_at_back}
-use Rattle.td_script.proofs.Numbers.{form_of_decimal}
 use Rattle.td_script.proofs.NumberWords.{number_back}
+use Rattle.td_script.proofs.SharedLaws.{ended, fixed_word, made_back, index_and_text_back, two_numbers_back}
+use Rattle.td_script.proofs.SharedLaws.{place_back, proposal_back}
 use Rattle.td_script.proofs.Splitting.{Lacks}
-use Rattle.td_script.proofs.TextLaws.{text_at_back}
 use Rattle.td_script.proofs.WordLaws.{behind_back, last_back, word_at_back, with_rest_back}
 
 -- what a line says behind its site is the command, and fits
@@ -34,112 +26,57 @@ abbrev pub IsSaid : ℕ → ℕ → SiteWord → List ℕ → Command → Type 0
 IsSaid sites site word rest c =
     (IsSiteOf sites site → IsCommand sites c) × (spelling (AtSite word) ++ (spaced site ++ rest) ≡ line_of c)
 
-pub ended : (xs rest : List ℕ) → rest ≡ [] → xs ++ rest ≡ xs
-ended xs rest e = ap (λ (ys : List ℕ). xs ++ ys) e ∙ append-nil xs
-
--- the digits of a number are UTF-8
-pub decimal_utf8 : (n : ℕ) → n < 10 ^ 9 → IsUtf8 (decimal n)
-decimal_utf8 n small =
-    IsUtf8-from_ascii (decimal n) (IsAscii-from_all (decimal n) (λ i d inside.
-    let digit : IsInRange 48 57 (get_or (decimal n) i 0) = (form_of_decimal n small).digits i inside in
-    let same : get_or (decimal n) i d ≡ get_or (decimal n) i 0 = get_or_default (decimal n) i d 0 inside in
-    omega arith))
-
-pub spaced_utf8 : (n : ℕ) → n < 10 ^ 9 → IsUtf8 (spaced n)
-spaced_utf8 n small = IsUtf8-append (32 ∷ []) (decimal n)
-    (IsUtf8-from_ascii (32 ∷ []) (IsAscii-cons 32 [] (omega arith) IsAscii-nil)) (decimal_utf8 n small)
-
--- what stands behind lacks the byte too
-pub lacks_behind : (at : ℕ) (front back : List ℕ) → Lacks at (front ++ back) → Lacks at back
-lacks_behind at [] back h = h
-lacks_behind at (b ∷ front) back h = lacks_behind at front back (All-tail (λ (byte : ℕ). byte ≢ at) b (front ++ back) h)
+-- a command is said where the words behind its site are what is written of it
+said_with : (sites site : ℕ) (word : SiteWord) (rest written : List ℕ) (made c : Command) → made ≡ c → rest ≡ written
+    → (IsSiteOf sites site → IsCommand sites made)
+    → spelling (AtSite word) ++ (spaced site ++ written) ≡ line_of made → IsSaid sites site word rest c
+said_with sites site word rest written made c e whole fits line =
+    subst (IsSaid sites site word rest) e
+    (fits, ap (λ (xs : List ℕ). spelling (AtSite word) ++ (spaced site ++ xs)) whole ∙ line)
 
 ins_back : (sites site : ℕ) (rest : List ℕ) (c : Command) → IsUtf8 rest → Lacks 10 rest
     → site_command sites site At.Ins rest ≡ Ok c → IsSaid sites site At.Ins rest c
 ins_back sites site rest c u lacks e =
-    let first = behind_back (by_word number_of rest) _ c e in
-    let index = number_at_back rest first.value first.rest first.is in
-    let second = behind_back (text_at first.rest) _ c first.then_is in
-    let text = text_at_back first.rest second.value second.rest
-    (IsUtf8-after rest (spaced first.value) first.rest u (spaced_utf8 first.value index.fits) index.whole)
-    (lacks_behind 10 (spaced first.value) first.rest (subst (Lacks 10) index.whole lacks)) second.is in
-    let end = last_back (Ins site first.value second.value) c second.rest second.then_is in
-    let whole : rest ≡ spaced first.value ++ spaced_text second.value = index.whole
-    ∙ ap (λ (xs : List ℕ). spaced first.value ++ xs)
-    (text.whole ∙ ended (spaced_text second.value) second.rest end.1) in
-    subst (IsSaid sites site At.Ins rest) end.0
-    ((λ s. (s, index.fits, text.fits)), ap (λ (xs : List ℕ). codes "ins" ++ (spaced site ++ xs)) whole)
+    let got = made_back (λ asked. Ins site asked.0 asked.1) (index_and_text rest) c e in
+    let asked = index_and_text_back rest got.0 u lacks got.1 in
+    said_with sites site At.Ins rest _ (Ins site got.0.0 got.0.1) c got.2 asked.whole
+    (λ s. (s, asked.fits.0, asked.fits.1)) refl
 
 paste_back : (sites site : ℕ) (rest : List ℕ) (c : Command) → IsUtf8 rest → Lacks 10 rest
     → site_command sites site At.Paste rest ≡ Ok c → IsSaid sites site At.Paste rest c
 paste_back sites site rest c u lacks e =
-    let first = behind_back (by_word number_of rest) _ c e in
-    let index = number_at_back rest first.value first.rest first.is in
-    let second = behind_back (text_at first.rest) _ c first.then_is in
-    let text = text_at_back first.rest second.value second.rest
-    (IsUtf8-after rest (spaced first.value) first.rest u (spaced_utf8 first.value index.fits) index.whole)
-    (lacks_behind 10 (spaced first.value) first.rest (subst (Lacks 10) index.whole lacks)) second.is in
-    let end = last_back (Paste site first.value second.value) c second.rest second.then_is in
-    let whole : rest ≡ spaced first.value ++ spaced_text second.value = index.whole
-    ∙ ap (λ (xs : List ℕ). spaced first.value ++ xs)
-    (text.whole ∙ ended (spaced_text second.value) second.rest end.1) in
-    subst (IsSaid sites site At.Paste rest) end.0
-    ((λ s. (s, index.fits, text.fits)), ap (λ (xs : List ℕ). codes "paste" ++ (spaced site ++ xs)) whole)
+    let got = made_back (λ asked. Paste site asked.0 asked.1) (index_and_text rest) c e in
+    let asked = index_and_text_back rest got.0 u lacks got.1 in
+    said_with sites site At.Paste rest _ (Paste site got.0.0 got.0.1) c got.2 asked.whole
+    (λ s. (s, asked.fits.0, asked.fits.1)) refl
 
 del_back : (sites site : ℕ) (rest : List ℕ) (c : Command) → site_command sites site At.Del rest ≡ Ok c
     → IsSaid sites site At.Del rest c
 del_back sites site rest c e =
-    let first = behind_back (by_word number_of rest) _ c e in
-    let index = number_at_back rest first.value first.rest first.is in
-    let second = behind_back (by_word number_of first.rest) _ c first.then_is in
-    let count = number_at_back first.rest second.value second.rest second.is in
-    let end = last_back (Del site first.value second.value) c second.rest second.then_is in
-    let whole : rest ≡ spaced first.value ++ spaced second.value = index.whole
-    ∙ ap (λ (xs : List ℕ). spaced first.value ++ xs) (count.whole ∙ ended (spaced second.value) second.rest end.1) in
-    subst (IsSaid sites site At.Del rest) end.0
-    ((λ s. (s, index.fits, count.fits)), ap (λ (xs : List ℕ). codes "del" ++ (spaced site ++ xs)) whole)
+    let got = made_back (λ asked. Del site asked.0 asked.1) (two_numbers rest) c e in
+    let asked = two_numbers_back rest got.0 got.1 in
+    said_with sites site At.Del rest _ (Del site got.0.0 got.0.1) c got.2 asked.whole
+    (λ s. (s, asked.fits.0, asked.fits.1)) refl
 
--- a word that is one of the fixed ones
-fixed_word : (rest word left : List ℕ) (name : List ℕ) → rest ≡ 32 ∷ (word ++ left) → bytes_eq word name ≡ true
-    → left ≡ [] → rest ≡ 32 ∷ name
-fixed_word rest word left name whole is none = whole
-    ∙ ap (λ (xs : List ℕ). 32 ∷ xs) (ended word left none ∙ (bytes_eq-Decides word name).0 is)
-
-beside_back : (sites site : ℕ) (rest word left : List ℕ) (c : Command) → rest ≡ 32 ∷ (word ++ left)
-    → flat_beside site word left ≡ Ok c → IsSaid sites site At.Flat rest c
-beside_back sites site rest word left c begins e =
-    let first = behind_back (with_rest left (number_of word)) _ c e in
-    let got = with_rest_back left first.rest (number_of word) first.value first.is in
-    let index = number_back word first.value got.0 in
-    let second = behind_back (by_word bit_of first.rest) _ c first.then_is in
-    let bit = bit_at_back first.rest second.value second.rest second.is in
-    let end = last_back (Flat site (Beside first.value second.value)) c second.rest second.then_is in
-    let whole : rest ≡ spaced first.value ++ spaced_bit second.value =
-    begins ∙ ap (λ (xs : List ℕ). 32 ∷ (xs ++ left)) index.1
-    ∙ ap (λ (xs : List ℕ). spaced first.value ++ xs)
-    (got.1 ∙ bit.whole ∙ ended (spaced_bit second.value) second.rest end.1) in
-    subst (IsSaid sites site At.Flat rest) end.0
-    ((λ s. (s, index.0)), ap (λ (xs : List ℕ). codes "flat" ++ (spaced site ++ xs)) whole)
-
-flat_word_back : (sites site : ℕ) (rest word left : List ℕ) (c : Command) (x : Bool) → rest ≡ 32 ∷ (word ++ left)
-    → bytes_eq word (codes "root") ≡ x
-    → cond x (last (Flat site Whole) left) (flat_beside site word left) ≡ Ok c → IsSaid sites site At.Flat rest c
-flat_word_back sites site rest word left c true begins is e =
-    let end = last_back (Flat site Whole) c left e in
-    subst (IsSaid sites site At.Flat rest) end.0 (
-      (λ s. s),
-      ap (λ (xs : List ℕ). codes "flat" ++ (spaced site ++ xs))
-          (fixed_word rest word left (codes "root") begins is end.1),
-    )
-flat_word_back sites site rest word left c false begins is e = beside_back sites site rest word left c begins e
+flat_fits : (sites site : ℕ) (place : Place) → IsPlace place → IsSiteOf sites site → IsCommand sites (Flat site place)
+flat_fits sites site Whole h s = s
+flat_fits sites site (Beside index bit) h s = (s, h)
 
 flat_back : (sites site : ℕ) (rest : List ℕ) (c : Command) → site_command sites site At.Flat rest ≡ Ok c
     → IsSaid sites site At.Flat rest c
 flat_back sites site rest c e =
-    let first = behind_back (word_at rest) _ c e in
-    let spaced_word = word_at_back rest first.value first.rest first.is in
-    flat_word_back sites site rest first.value first.rest c
-    (bytes_eq first.value (codes "root")) spaced_word.whole refl first.then_is
+    let got = made_back (λ place. Flat site place) (place_at rest) c e in
+    let asked = place_back rest got.0 got.1 in
+    said_with sites site At.Flat rest _ (Flat site got.0) c got.2 asked.whole
+    (flat_fits sites site got.0 asked.fits) refl
+
+cancel_back : (sites site : ℕ) (rest : List ℕ) (c : Command) → site_command sites site At.Cancel rest ≡ Ok c
+    → IsSaid sites site At.Cancel rest c
+cancel_back sites site rest c e =
+    let got = made_back (λ proposal. Cancel site proposal) (proposal_at sites rest) c e in
+    let asked = proposal_back sites rest got.0 got.1 in
+    said_with sites site At.Cancel rest _ (Cancel site got.0) c got.2 asked.whole
+    (λ s. (s, asked.fits)) refl
 
 give_number_back : (sites site : ℕ) (rest word left : List ℕ) (c : Command) → rest ≡ 32 ∷ (word ++ left)
     → behind (with_rest left (number_of word)) (λ number rest. last (Give site number) rest) ≡ Ok c
@@ -174,16 +111,6 @@ give_back sites site rest c e =
     let spaced_word = word_at_back rest first.value first.rest first.is in
     give_word_back sites site rest first.value first.rest c
     (bytes_eq first.value (codes "all")) spaced_word.whole refl first.then_is
-
-cancel_back : (sites site : ℕ) (rest : List ℕ) (c : Command) → site_command sites site At.Cancel rest ≡ Ok c
-    → IsSaid sites site At.Cancel rest c
-cancel_back sites site rest c e =
-    let first = behind_back (by_word (dot_of sites) rest) _ c e in
-    let dot = dot_at_back sites rest first.value first.rest first.is in
-    let end = last_back (Cancel site first.value) c first.rest first.then_is in
-    let whole : rest ≡ spaced_dot first.value = dot.whole ∙ ended (spaced_dot first.value) first.rest end.1 in
-    subst (IsSaid sites site At.Cancel rest) end.0
-    ((λ s. (s, dot.fits)), ap (λ (xs : List ℕ). codes "cancel" ++ (spaced site ++ xs)) whole)
 
 -- a command that has nothing behind its site
 alone_back : (sites site : ℕ) (word : SiteWord) (made : Command) (rest : List ℕ) (c : Command)

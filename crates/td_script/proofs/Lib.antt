@@ -12,6 +12,8 @@ pub mod TextReading
 pub mod WordLaws
 pub mod ArgumentLaws
 pub mod TextLaws
+pub mod SharedLaws
+pub mod JudgingLaws
 pub mod CommandLaws
 pub mod SpellingLaws
 pub mod LineLaws

@@ -31,15 +31,17 @@ use Rattle.td_script.specs.declared.word.Word.TheVariants as First
 use Rattle.td_script.specs.declared.word.SiteWord.{SiteWord}
 use Rattle.td_script.specs.declared.word.SiteWord.TheVariants as At
 use Rattle.td_script.specs.Arguments.{by_word, cut_word, last, site_of, sites_of}
-use Rattle.td_script.specs.Faults.{command, is_misplaced, is_too_much, is_too_wide, judged, command_named, said}
-use Rattle.td_script.specs.Faults.{sites_at, within}
+use Rattle.td_script.specs.Faults.{command, is_misplaced, is_too_much, judged, command_named, within}
+use Rattle.td_script.specs.Shared.{made, sites_at}
 use Rattle.std.specs.Char.{is_ascii_control}
 use Rattle.td_script.specs.Lines.{is_skipped, is_text_line}
 use Rattle.td_script.specs.Script.{IsCommand, IsLine, IsSiteOf, requests}
 use Rattle.td_script.specs.Spelling.{line_of, spaced}
 use Rattle.td_script.specs.Words.{spelling, word_named, words}
-use Rattle.td_script.proofs.ArgumentLaws.{site_at_back, sites_at_back}
-use Rattle.td_script.proofs.CommandLaws.{ended, lacks_behind, site_command_back, spaced_utf8}
+use Rattle.td_script.proofs.ArgumentLaws.{site_at_back}
+use Rattle.td_script.proofs.CommandLaws.{site_command_back}
+use Rattle.td_script.proofs.JudgingLaws.{IsJudged, judged_line_back, judged_line_there}
+use Rattle.td_script.proofs.SharedLaws.{IsSitesFor, lacks_behind, made_back, sites_back, spaced_utf8}
 use Rattle.td_script.proofs.Results.{ok_same, err_is_no_ok}
 use Rattle.td_script.proofs.SpellingLaws.{IsLineOf, line_there, sites_line_there}
 use Rattle.td_script.proofs.Splitting.{Lacks}
@@ -47,24 +49,15 @@ use Rattle.td_script.proofs.WordLaws.{behind_back, cut_back, last_back}
 
 -- a command can stand behind what stands before it: `sites` first, and the others behind it
 pub data CanStand (size : ℕ) (before : Before) (c : Command) : Type 0 where
-  begins : (n : ℕ) → c ≡ Sites n → before.sites ≡ 0 → IsSiteOf MAX_SITE n → is_too_wide size n ≡ false
-      → CanStand size before c
+  begins : (n : ℕ) → c ≡ Sites n → before.sites ≡ 0 → IsSitesFor size n → CanStand size before c
   follows : 1 ≤ before.sites → IsCommand before.sites c
       → is_too_much before.sites (before.requests + requests c) ≡ false → CanStand size before c
 
 -- a command without the test of the sum
 data IsPlaced (size : ℕ) (before : Before) (word : Word) (c : Command) : Type 0 where
-  at_first : (n : ℕ) → c ≡ Sites n → word ≡ First.Sites → IsSiteOf MAX_SITE n → is_too_wide size n ≡ false
-      → IsPlaced size before word c
+  at_first : (n : ℕ) → c ≡ Sites n → word ≡ First.Sites → IsSitesFor size n → IsPlaced size before word c
   at_later : IsCommand before.sites c → ((before' : Before) → is_misplaced before' word ≡ eqb before'.sites 0)
       → IsPlaced size before word c
-
--- lines of UTF-8 without control characters
-pub text_parts : (line : List ℕ) → is_text_line line ≡ true → (list_any is_ascii_control line ≡ false) × IsUtf8 line
-text_parts line h =
-    let parts : (not (list_any is_ascii_control line) ≡ true) × (is_utf8 line ≡ true) =
-    and_parts (not (list_any is_ascii_control line)) (is_utf8 line) h in
-    (not-true (list_any is_ascii_control line) parts.0, IsUtf8-from_is_utf8 line parts.1)
 
 -- the text of a line that was read as UTF-8, or not
 pub text_found : {E : Type 0} (line : List ℕ) (r : Result (Bor (List ℕ)) E) (P : E → Type 0)
@@ -85,11 +78,6 @@ text_not_found line (Ok text) P read = tt
 text_not_found line (Err e) P read =
     and_right (not (list_any is_ascii_control line)) (is_utf8 line)
     (false_from_ne_true (is_utf8 line) (λ (e : is_utf8 line ≡ true). read.0 (IsUtf8-from_is_utf8 line e)))
-
-pub lacks_lf : (line : List ℕ) → list_any is_ascii_control line ≡ false → Lacks 10 line
-lacks_lf line h = λ i d inside e.
-    both_ways (list_any is_ascii_control line) h
-    (list_any_at is_ascii_control line i d inside (subst (λ (b : ℕ). is_ascii_control b ≡ true) (sym e) refl))
 
 pub ascii_by_test : (xs : List ℕ) → list_all (λ b. ltb b 128) xs ≡ true → IsUtf8 xs
 ascii_by_test xs h = IsUtf8-from_ascii xs
@@ -137,30 +125,20 @@ record SaysCommand (size : ℕ) (before : Before) (word : Word) (rest : List ℕ
   whole : spelling word ++ rest ≡ line_of c
   placed : IsPlaced size before word c
 
-sites_back : (size : ℕ) (before : Before) (rest : List ℕ) (c : Command) → sites_at size rest ≡ Ok c
-    → SaysCommand size before First.Sites rest c
-sites_back size before rest c e =
-    let first = behind_back (by_word sites_of rest) _ c e in
-    let n = sites_at_back rest first.value first.rest first.is in
-    at_test first.value first.rest n.fits n.whole (is_too_wide size first.value) refl first.then_is
-  where
-    at_test : (n : ℕ) (left : List ℕ) → IsSiteOf MAX_SITE n → rest ≡ spaced n ++ left → (wide : Bool)
-        → is_too_wide size n ≡ wide
-        → cond {A = Result Command Kind} wide (Err Fault.Size) (last (Sites n) left) ≡ Ok c
-        → SaysCommand size before First.Sites rest c
-    at_test n left fits whole true h e = absurd (err_is_no_ok Fault.Size c e)
-    at_test n left fits whole false h e =
-        let end = last_back (Sites n) c left e in
-        subst (SaysCommand size before First.Sites rest) end.0
-        (record {
-          whole = ap (λ (xs : List ℕ). codes "sites" ++ xs) (whole ∙ ended (spaced n) left end.1);
-          placed =
-              at_first n refl refl fits h;
-        })
+sites_command_back : (size : ℕ) (before : Before) (rest : List ℕ) (c : Command)
+    → made (λ n. Sites n) (sites_at size rest) ≡ Ok c → SaysCommand size before First.Sites rest c
+sites_command_back size before rest c e =
+    let got = made_back (λ n. Sites n) (sites_at size rest) c e in
+    let sites = sites_back size rest got.0 got.1 in
+    subst (SaysCommand size before First.Sites rest) got.2
+    (record {
+      whole = ap (λ (xs : List ℕ). codes "sites" ++ xs) sites.whole;
+      placed = at_first got.0 refl refl sites.fits;
+    })
 
 command_back : (size : ℕ) (before : Before) (word : Word) (rest : List ℕ) (c : Command) → before.sites ≤ MAX_SITE
     → IsUtf8 rest → Lacks 10 rest → command size before word rest ≡ Ok c → SaysCommand size before word rest c
-command_back size before First.Sites rest c few u lacks e = sites_back size before rest c e
+command_back size before First.Sites rest c few u lacks e = sites_command_back size before rest c e
 command_back size before First.Settle rest c few u lacks e =
     let end = last_back Settle c rest e in
     subst (SaysCommand size before First.Settle rest) end.0
@@ -198,8 +176,8 @@ within_back before (Ok got) c e = at_test (is_too_much before.sites (before.requ
 stands : (size : ℕ) (before : Before) (word : Word) (c : Command) → IsPlaced size before word c
     → is_misplaced before word ≡ false → is_too_much before.sites (before.requests + requests c) ≡ false
     → CanStand size before c
-stands size before word c (at_first n e f fits narrow) placed few =
-    begins n e (none_before before.sites (sym (ap (λ (w : Word). is_misplaced before w) f) ∙ placed)) fits narrow
+stands size before word c (at_first n e f fits) placed few =
+    begins n e (none_before before.sites (sym (ap (λ (w : Word). is_misplaced before w) f) ∙ placed)) fits
   where
     none_before : (sites : ℕ) → ltb 0 sites ≡ false → sites ≡ 0
     none_before sites h = omega (arith, ltb-false 0 sites h)
@@ -235,68 +213,26 @@ named_command_back size before line name rest c (Some word) few u lacks whole h 
         (lacks_behind 10 (spelling word) rest (subst (Lacks 10) spelled lacks)) got.0 in
         record { whole = spelled ∙ said.whole; stands_there = stands size before word c said.placed g got.1 }
 
--- what was judged of a line
-pub data IsJudged (size : ℕ) (before : Before) (line : List ℕ) (o : Option Command) : Type 0 where
-  says_nothing : IsLine line → is_skipped line ≡ true → o ≡ None → IsJudged size before line o
-  says : IsLine line → is_skipped line ≡ false → (c : Command) → o ≡ Some c → line ≡ line_of c → CanStand size before c
-      → IsJudged size before line o
-
-said_back : (r : Result Command Kind) (o : Option Command) → said r ≡ Ok o → (c : Command) × (r ≡ Ok c) × (o ≡ Some c)
-said_back (Ok c) o e = (c, refl, sym (ok_same (Some c) o e))
-said_back (Err kind) o e = absurd (err_is_no_ok kind o e)
-
-judged_at : (size : ℕ) (before : Before) (line : List ℕ) (o : Option Command) (long text skipped : Bool)
-    → before.sites ≤ MAX_SITE → ltb MAX_LINE (length line) ≡ long → is_text_line line ≡ text → is_skipped line ≡ skipped
-    → cond {A = Result (Option Command) Kind} long (Err Fault.Long)
-    (cond {A = Result (Option Command) Kind} (not text) (Err Fault.Bytes)
-    (cond {A = Result (Option Command) Kind} skipped (Ok None)
-    (said (command_named size before (word_named (cut_word line).0) (cut_word line).1)))) ≡ Ok o
-    → IsJudged size before line o
-judged_at size before line o true text skipped few f g h e = absurd (err_is_no_ok Fault.Long o e)
-judged_at size before line o false false skipped few f g h e = absurd (err_is_no_ok Fault.Bytes o e)
-judged_at size before line o false true true few f g h e =
-    says_nothing (record { short = ltb-false MAX_LINE (length line) f; text = g }) h (sym (ok_same None o e))
-judged_at size before line o false true false few f g h e =
-    let got = said_back (command_named size before (word_named (cut_word line).0) (cut_word line).1) o e in
-    let parts = text_parts line g in
-    let is = named_command_back size before line (cut_word line).0 (cut_word line).1 got.0
-    (word_named (cut_word line).0) few parts.1 (lacks_lf line parts.0) (cut_back line).whole refl got.1 in
-    says (record { short = ltb-false MAX_LINE (length line) f; text = g }) h got.0 got.2 is.whole is.stands_there
+-- the text of a line as a command
+abbrev pub command_of : ℕ → Before → List ℕ → Result Command Kind
+command_of size before line = command_named size before (word_named (cut_word line).0) (cut_word line).1
 
 pub judged_back : (size : ℕ) (before : Before) (line : List ℕ) (o : Option Command) → before.sites ≤ MAX_SITE
-    → judged size before line ≡ Ok o → IsJudged size before line o
-judged_back size before line o few e = judged_at size before line o (ltb MAX_LINE (length line)) (is_text_line line)
-    (is_skipped line) few refl refl refl e
-
--- a line that is one is judged further
-pub line_passes : (size : ℕ) (before : Before) (line : List ℕ) → IsLine line
-    → judged size before line ≡ cond {A = Result (Option Command) Kind} (is_skipped line) (Ok None)
-    (said (command_named size before (word_named (cut_word line).0) (cut_word line).1))
-line_passes size before line h =
-    let more = cond {A = Result (Option Command) Kind} (is_skipped line) (Ok None)
-    (said (command_named size before (word_named (cut_word line).0) (cut_word line).1)) in
-    cond-false {A = Result (Option Command) Kind} (ltb MAX_LINE (length line)) (Err Fault.Long)
-    (cond {A = Result (Option Command) Kind} (not (is_text_line line)) (Err Fault.Bytes) more)
-    (le-ltb MAX_LINE (length line) h.short)
-    ∙ cond-false {A = Result (Option Command) Kind} (not (is_text_line line)) (Err Fault.Bytes) more
-    (not_from_true (is_text_line line) h.text)
-
-pub skipped_there : (size : ℕ) (before : Before) (line : List ℕ) → IsLine line → is_skipped line ≡ true
-    → judged size before line ≡ Ok None
-skipped_there size before line h e =
-    line_passes size before line h ∙ cond-true {A = Result (Option Command) Kind} (is_skipped line) (Ok None)
-    (said (command_named size before (word_named (cut_word line).0) (cut_word line).1)) e
+    → judged size before line ≡ Ok o → IsJudged line_of (CanStand size before) line o
+judged_back size before line o few e =
+    judged_line_back line_of (CanStand size before) (command_of size before)
+    (λ line c u lacks e.
+    let is = named_command_back size before line (cut_word line).0 (cut_word line).1 c (word_named (cut_word line).0) few u
+    lacks (cut_back line).whole refl e in (is.whole, is.stands_there)) line o e
 
 named_command_there : (size : ℕ) (before : Before) (line : List ℕ) (c : Command) → IsLine line → is_skipped line ≡ false
     → (misplaced : Bool) → (is : IsLineOf size before line c misplaced) → misplaced ≡ false
     → is_too_much before.sites (before.requests + requests c) ≡ false → judged size before line ≡ Ok (Some c)
 named_command_there size before line c h spoken misplaced is placed few =
-    line_passes size before line h
-    ∙ cond-false {A = Result (Option Command) Kind} (is_skipped line) (Ok None)
-    (said (command_named size before (word_named (cut_word line).0) (cut_word line).1)) spoken
-    ∙ ap (λ (cut : List ℕ × List ℕ). said (command_named size before (word_named cut.0) cut.1)) is.cut
-    ∙ ap (λ (o : Option Word). said (command_named size before o is.rest)) (named_there is.word)
-    ∙ ap said (cond-false {A = Result Command Kind} (is_misplaced before is.word) (Err Fault.Sites)
+    judged_line_there (command_of size before) line c h spoken
+    (ap (λ (cut : List ℕ × List ℕ). command_named size before (word_named cut.0) cut.1) is.cut
+    ∙ ap (λ (o : Option Word). command_named size before o is.rest) (named_there is.word)
+    ∙ cond-false {A = Result Command Kind} (is_misplaced before is.word) (Err Fault.Sites)
     (within before (command size before is.word is.rest)) (is.placed ∙ placed)
     ∙ ap (within before) is.read
     ∙ cond-false {A = Result Command Kind} (is_too_much before.sites (before.requests + requests c)) (Err Fault.Size)
@@ -308,8 +244,7 @@ spoken (Sites n) = refl
 spoken (Ins site index atoms) = refl
 spoken (Paste site index atoms) = refl
 spoken (Del site index count) = refl
-spoken (Flat site Whole) = refl
-spoken (Flat site (Beside index bit)) = refl
+spoken (Flat site place) = refl
 spoken (Cancel site proposal) = refl
 spoken (Give site number) = refl
 spoken (GiveAll site) = refl
@@ -321,10 +256,10 @@ spoken (Count site) = refl
 -- the line of a command that can stand there says the command
 pub judged_there : (size : ℕ) (before : Before) (c : Command) → before.sites ≤ MAX_SITE → CanStand size before c
     → IsLine (line_of c) → judged size before (line_of c) ≡ Ok (Some c)
-judged_there size before c few (begins n e none fits narrow) h =
+judged_there size before c few (begins n e none fits) h =
     subst (λ (x : Command). judged size before (line_of x) ≡ Ok (Some x)) (sym e)
     (named_command_there size before (line_of (Sites n)) (Sites n) (subst (λ (x : Command). IsLine (line_of x)) e h)
-    (spoken (Sites n)) (ltb 0 before.sites) (sites_line_there size before n fits narrow)
+    (spoken (Sites n)) (ltb 0 before.sites) (sites_line_there size before n fits)
     (le-ltb 0 before.sites (omega arith)) (ap (λ (s : ℕ). is_too_much s (before.requests + 0)) none))
 judged_there size before c few (follows some fits sum) h =
     named_command_there size before (line_of c) c h (spoken c) (eqb before.sites 0) (line_there size before c few fits)

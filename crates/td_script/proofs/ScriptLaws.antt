@@ -12,24 +12,21 @@ use Rattle.td_script.specs.declared.kind.Kind.{Kind}
 use Rattle.td_script.specs.declared.kind.Kind.TheVariants as Fault
 use Rattle.td_script.specs.declared.script.Script.{Script}
 use Rattle.td_script.specs.declared.script.TheConstants.{MAX_LINE, MAX_SCRIPT, MAX_WIDE_SCRIPT, MAX_WIDE_REQUESTS, MAX_MIDDLE_REQUESTS}
-use Rattle.td_script.specs.Faults.{Commands, after, fault_of, first_fault, go_on, is_too_much, is_too_wide, judged, judged_lines, judged_script, onto_commands}
+use Rattle.td_script.specs.Faults.{after, fault_of, first_fault, is_too_much, judged, judged_lines, judged_script}
+use Rattle.td_script.specs.Judging.{Judged}
+use Rattle.td_script.specs.Shared.{is_too_wide}
 use Rattle.td_script.specs.Lines.{is_skipped, is_text_line, lines_of}
 use Rattle.td_script.specs.Script.{AreCommands, IsCommand, IsLine, IsScript, IsWritable, Spells, spelled, requests}
 use Rattle.td_script.specs.Spelling.{line_of}
 use Rattle.td_script.proofs.Cutting.{line_cut}
-use Rattle.td_script.proofs.LineLaws.{CanStand, begins, follows, IsJudged, says_nothing, says, judged_back, judged_there, skipped_there, spoken, lacks_lf, text_parts}
+use Rattle.td_script.proofs.JudgingLaws.{IsLanguage, filter_spoken, lacks_lf, lines_back, lines_there, same_commands, skipped_there, text_parts}
+use Rattle.td_script.proofs.JudgingLaws as More
+use Rattle.td_script.proofs.LineLaws.{CanStand, begins, follows, command_of, judged_back, judged_there, spoken}
 use Rattle.td_script.proofs.WritingLaws.{others_written, sites_written}
 
 -- the commands can stand one behind the other
 abbrev pub AreMore : ℕ → Before → List Command → Type 0
-AreMore size before [] = ⊤
-AreMore size before (c ∷ cs) = CanStand size before c × AreMore size (after before c) cs
-
--- lines that say these commands
-pub record AreLinesOf (size : ℕ) (before : Before) (lines : List (List ℕ)) (cs : List Command) : Type 0 where
-  pub each : All IsLine lines
-  pub spelled : filter (λ line. not (is_skipped line)) lines ≡ map line_of cs
-  pub more : AreMore size before cs
+AreMore size = More.AreMore after (λ before c. CanStand size before c)
 
 after_sites : (sites : ℕ) (before : Before) (c : Command) → IsCommand sites c → (after before c).sites ≡ before.sites
 after_sites sites before (Sites n) h = absurd h
@@ -60,100 +57,22 @@ after_requests before (Tree site) = refl
 after_requests before (Count site) = refl
 
 pub few_after : (size : ℕ) (before : Before) (c : Command) → before.sites ≤ MAX_SITE → CanStand size before c → (after before c).sites ≤ MAX_SITE
-few_after size before c few (begins n e none fits narrow) = subst (λ (x : Command). (after before x).sites ≤ MAX_SITE) (sym e) fits.1
+few_after size before c few (begins n e none fits) = subst (λ (x : Command). (after before x).sites ≤ MAX_SITE) (sym e) fits.range.1
 few_after size before c few (follows some fits sum) = omega (arith, after_sites before.sites before c fits)
 
-same_commands : (xs ys : List Command) → ◌≡◌ {A = Commands} (Ok xs) (Ok ys) → xs ≡ ys
-same_commands xs ys e = cc
-
-fault_is_no_read : (fault : ℕ × Kind) (cs : List Command) → ◌≡◌ {A = Commands} (Err fault) (Ok cs) → ⊥
-fault_is_no_read fault cs e = cc
-
-onto_back : (c : Command) (r : Commands) (cs : List Command) → onto_commands c r ≡ Ok cs → (others : List Command) × (r ≡ Ok others) × (cs ≡ c ∷ others)
-onto_back c (Ok others) cs e = (others, refl, sym (same_commands (c ∷ others) cs e))
-onto_back c (Err fault) cs e = absurd (fault_is_no_read fault cs e)
-
-filter_spoken : (line : List ℕ) (lines : List (List ℕ)) → is_skipped line ≡ false → filter (λ line. not (is_skipped line)) (line ∷ lines) ≡ line ∷ filter (λ line. not (is_skipped line)) lines
-filter_spoken line lines e = cond-true (not (is_skipped line)) (line ∷ filter (λ line. not (is_skipped line)) lines) (filter (λ line. not (is_skipped line)) lines) (ap not e)
-
-filter_skipped : (line : List ℕ) (lines : List (List ℕ)) → is_skipped line ≡ true → filter (λ line. not (is_skipped line)) (line ∷ lines) ≡ filter (λ line. not (is_skipped line)) lines
-filter_skipped line lines e = cond-false (not (is_skipped line)) (line ∷ filter (λ line. not (is_skipped line)) lines) (filter (λ line. not (is_skipped line)) lines) (ap not e)
-
--- what the other lines say, behind each state
-abbrev ReadsBack : ℕ → ℕ → List (List ℕ) → Type 0
-ReadsBack size number lines = (before : Before) (cs : List Command) → before.sites ≤ MAX_SITE → judged_lines size number lines before ≡ Ok cs → AreLinesOf size before lines cs
-
-go_back : (size number : ℕ) (line : List ℕ) (lines : List (List ℕ)) (before : Before) (cs : List Command) (r : Result (Option Command) Kind) → ReadsBack size (number + 1) lines → before.sites ≤ MAX_SITE → judged size before line ≡ r
-    → go_on number before (judged_lines size (number + 1) lines) r ≡ Ok cs → AreLinesOf size before (line ∷ lines) cs
-go_back size number line lines before cs (Err kind) ih few h e = absurd (fault_is_no_read (number, kind) cs e)
-go_back size number line lines before cs (Ok None) ih few h e = go (judged_back size before line None few h)
-  where
-    some_is_not_none : (c : Command) → ◌≡◌ {A = Option Command} None (Some c) → ⊥
-    some_is_not_none c e = cc
-
-    go : IsJudged size before line None → AreLinesOf size before (line ∷ lines) cs
-    go (says_nothing is skipped same) =
-        let others = ih before cs few e in
-        record { each = All-cons IsLine line lines is others.each; spelled = filter_skipped line lines skipped ∙ others.spelled; more = others.more }
-    go (says is said c same whole stands) = absurd (some_is_not_none c same)
-go_back size number line lines before cs (Ok (Some c)) ih few h e = go (judged_back size before line (Some c) few h)
-  where
-    some_is_not_none : ◌≡◌ {A = Option Command} (Some c) None → ⊥
-    some_is_not_none e = cc
-
-    some_same : (x : Command) → ◌≡◌ {A = Option Command} (Some c) (Some x) → x ≡ c
-    some_same x e = cc
-
-    go : IsJudged size before line (Some c) → AreLinesOf size before (line ∷ lines) cs
-    go (says_nothing is skipped same) = absurd (some_is_not_none same)
-    go (says is said x same whole stands) =
-        let stands_there : CanStand size before c = subst (CanStand size before) (some_same x same) stands in
-        let got = onto_back c (judged_lines size (number + 1) lines (after before c)) cs e in
-        let others = ih (after before c) got.0 (few_after size before c few stands_there) got.1 in
-        subst (AreLinesOf size before (line ∷ lines)) (sym got.2)
-        (record {
-          each = All-cons IsLine line lines is others.each;
-          spelled = filter_spoken line lines said ∙ ap (λ (xs : List (List ℕ)). line ∷ xs) others.spelled ∙ ap (λ (l : List ℕ). l ∷ map line_of got.0) (whole ∙ ap line_of (some_same x same));
-          more = (stands_there, others.more);
-        })
-
-pub lines_back : (size number : ℕ) (lines : List (List ℕ)) → ReadsBack size number lines
-lines_back size number [] before cs few e =
-    subst (AreLinesOf size before []) (same_commands [] cs e) (record { each = All-nil IsLine; spelled = refl; more = tt })
-lines_back size number (line ∷ lines) before cs few e = go_back size number line lines before cs (judged size before line) (lines_back size (number + 1) lines) few refl e
-
-no_lines : (c : Command) (cs : List Command) → ◌≡◌ {A = List (List ℕ)} [] (line_of c ∷ map line_of cs) → ⊥
-no_lines c cs e = cc
-
-no_commands : (line : List ℕ) (lines : List (List ℕ)) → ◌≡◌ {A = List (List ℕ)} (line ∷ lines) [] → ⊥
-no_commands line lines e = cc
-
-first_same : (x y : List ℕ) (xs ys : List (List ℕ)) → x ∷ xs ≡ y ∷ ys → (x ≡ y) × (xs ≡ ys)
-first_same x y xs ys e = (cc, cc)
-
-pub lines_there : (size number : ℕ) (lines : List (List ℕ)) (before : Before) (cs : List Command) → before.sites ≤ MAX_SITE → AreLinesOf size before lines cs → judged_lines size number lines before ≡ Ok cs
-lines_there size number [] before [] few h = refl
-lines_there size number [] before (c ∷ cs) few h = absurd (no_lines c cs h.spelled)
-lines_there size number (line ∷ lines) before cs few h = go cs h (is_skipped line) refl (λ before cs few h. lines_there size (number + 1) lines before cs few h)
-  where
-    go : (cs : List Command) → AreLinesOf size before (line ∷ lines) cs → (skipped : Bool) → is_skipped line ≡ skipped
-        → ((before : Before) (cs : List Command) → before.sites ≤ MAX_SITE → AreLinesOf size before lines cs → judged_lines size (number + 1) lines before ≡ Ok cs)
-        → go_on number before (judged_lines size (number + 1) lines) (judged size before line) ≡ Ok cs
-    go cs h true e ih =
-        ap (go_on number before (judged_lines size (number + 1) lines)) (skipped_there size before line (All-head IsLine line lines h.each) e)
-        ∙ ih before cs few (record { each = All-tail IsLine line lines h.each; spelled = sym (filter_skipped line lines e) ∙ h.spelled; more = h.more })
-    go [] h false e ih = absurd (no_commands line (filter (λ line. not (is_skipped line)) lines) (sym (filter_spoken line lines e) ∙ h.spelled))
-    go (c ∷ cs) h false e ih =
-        let same = first_same line (line_of c) (filter (λ line. not (is_skipped line)) lines) (map line_of cs) (sym (filter_spoken line lines e) ∙ h.spelled) in
-        let is : IsLine (line_of c) = subst IsLine same.0 (All-head IsLine line lines h.each) in
-        let says_it : judged size before line ≡ Ok (Some c) = ap (judged size before) same.0 ∙ judged_there size before c few h.more.0 is in
-        ap (go_on number before (judged_lines size (number + 1) lines)) says_it
-        ∙ ap (onto_commands c) (ih (after before c) cs (few_after size before c few h.more.0) (record { each = All-tail IsLine line lines h.each; spelled = same.1; more = h.more.1 }))
+-- the language of scripts of so many bytes
+pub language : (size : ℕ)
+    → IsLanguage (judged size) after line_of (λ before. before.sites ≤ MAX_SITE) (λ before c. CanStand size before c)
+language size = record {
+  back = λ before line o few e. judged_back size before line o few e;
+  skips = λ before line is e. skipped_there (command_of size before) line is e;
+  there = λ before c few stands is. judged_there size before c few stands is;
+  good = λ before c few stands. few_after size before c few stands;
+}
 
 -- what stands before the line behind all these commands
 abbrev pub after_all : Before → List Command → Before
-after_all before [] = before
-after_all before (c ∷ cs) = after_all (after before c) cs
+after_all = More.after_all after
 
 abbrev pub start : Before
 start = record { sites = 0; requests = 0 }
@@ -197,7 +116,7 @@ others_back size [] before some sum h = record { sites = refl; each = All-nil (I
 others_back size (c ∷ cs) before some sum h = go (others_back size cs (after before c)) h.0
   where
     go : (1 ≤ (after before c).sites → IsWithin (after before c).sites (after before c).requests → AreMore size (after before c) cs → AreOthers (after before c) cs) → CanStand size before c → AreOthers before (c ∷ cs)
-    go ih (begins n e none fits narrow) = absurd (omega arith)
+    go ih (begins n e none fits) = absurd (omega arith)
     go ih (follows some fits few) =
         let same : (after before c).sites ≡ before.sites = after_sites before.sites before c fits in
         let more : (after before c).requests ≡ before.requests + requests c = after_requests before c in
@@ -245,13 +164,13 @@ start_back size (c ∷ cs) h = go h.0
   where
     go : CanStand size start c → IsScriptOf size (c ∷ cs) (after_all start (c ∷ cs)).sites
     go (follows some fits few) = absurd (omega arith)
-    go (begins n e none fits narrow) =
+    go (begins n e none fits) =
         let first : Before = record { sites = n; requests = 0 } in
-        let others : AreOthers first cs = others_back size cs first fits.0 (nothing_within n) (subst (λ (x : Command). AreMore size (after start x) cs) e h.1) in
+        let others : AreOthers first cs = others_back size cs first fits.range.0 (nothing_within n) (subst (λ (x : Command). AreMore size (after start x) cs) e h.1) in
         let same : (after_all start (c ∷ cs)).sites ≡ n = ap (λ (x : Command). (after_all (after start x) cs).sites) e ∙ others.sites in
         let whole : sum_by requests (c ∷ cs) ≡ sum_by requests cs = sum_by-cons requests c cs ∙ ap (λ (x : Command). requests x + sum_by requests cs) e ∙ zero-add (sum_by requests cs) in
         let sum : IsWithin n (sum_by requests (c ∷ cs)) = subst (IsWithin n) (zero-add (sum_by requests cs) ∙ sym whole) others.sum in
-        subst (IsScriptOf size (c ∷ cs)) (sym same) (record { commands = (e, fits, others.each); narrow = narrow_back size n narrow; sum = sum })
+        subst (IsScriptOf size (c ∷ cs)) (sym same) (record { commands = (e, fits.range, others.each); narrow = narrow_back size n fits.narrow; sum = sum })
 
 pub start_there : (size : ℕ) (cs : List Command) (sites : ℕ) → IsScriptOf size cs sites → AreMore size start cs
 start_there size [] sites h = tt
@@ -260,14 +179,14 @@ start_there size (c ∷ cs) sites h =
     let whole : sum_by requests (c ∷ cs) ≡ sum_by requests cs = sum_by-cons requests c cs ∙ ap (λ (x : Command). requests x + sum_by requests cs) e ∙ zero-add (sum_by requests cs) in
     let first : Before = record { sites = sites; requests = 0 } in
     let others : AreMore size first cs = others_there size cs first h.commands.1.0 h.commands.2 (subst (IsWithin sites) (whole ∙ sym (zero-add (sum_by requests cs))) h.sum) in
-    (begins sites e refl h.commands.1 (narrow_there size sites h.narrow), subst (λ (x : Command). AreMore size (after start x) cs) (sym e) others)
+    (begins sites e refl (record { range = h.commands.1; narrow = narrow_there size sites h.narrow }), subst (λ (x : Command). AreMore size (after start x) cs) (sym e) others)
 
 -- bytes that spell a script are read as its commands
 pub judged_of_spelled : (bytes : List ℕ) (script : Script) → Spells bytes script → judged_script bytes ≡ Ok script.commands
 judged_of_spelled bytes script h =
     let is : IsScriptOf (length bytes) script.commands script.sites = record { commands = h.commands; narrow = h.fits.small; sum = record { wide = h.fits.few; middle = h.fits.some } } in
-    cond-false {A = Commands} (ltb MAX_SCRIPT (length bytes)) (Err (0, Fault.Size)) (judged_lines (length bytes) 1 (lines_of bytes) start) (le-ltb MAX_SCRIPT (length bytes) h.short)
-    ∙ lines_there (length bytes) 1 (lines_of bytes) start script.commands (omega arith) (record { each = h.lines; spelled = h.spelled; more = start_there (length bytes) script.commands script.sites is })
+    cond-false {A = Judged Command} (ltb MAX_SCRIPT (length bytes)) (Err (0, Fault.Size)) (judged_lines (length bytes) 1 (lines_of bytes) start) (le-ltb MAX_SCRIPT (length bytes) h.short)
+    ∙ lines_there (judged (length bytes)) after line_of (λ before. before.sites ≤ MAX_SITE) (λ before c. CanStand (length bytes) before c) (language (length bytes)) 1 (lines_of bytes) start script.commands (omega arith) (record { each = h.lines; spelled = h.spelled; more = start_there (length bytes) script.commands script.sites is })
 
 -- a script has no fault
 pub no_fault : (bytes : List ℕ) (script : Script) → Spells bytes script → first_fault bytes ≡ None
@@ -276,7 +195,7 @@ no_fault bytes script h = ap fault_of (judged_of_spelled bytes script h)
 -- bytes that are read as commands spell them
 pub spelled_of_lines : (bytes : List ℕ) (cs : List Command) → length bytes ≤ MAX_SCRIPT → judged_lines (length bytes) 1 (lines_of bytes) start ≡ Ok cs → Spells bytes (record { sites = (after_all start cs).sites; commands = cs })
 spelled_of_lines bytes cs short e =
-    let lines = lines_back (length bytes) 1 (lines_of bytes) start cs (omega arith) e in
+    let lines = lines_back (judged (length bytes)) after line_of (λ before. before.sites ≤ MAX_SITE) (λ before c. CanStand (length bytes) before c) (language (length bytes)) 1 (lines_of bytes) start cs (omega arith) e in
     let is = start_back (length bytes) cs lines.more in
     record { short = short; lines = lines.each; spelled = lines.spelled; commands = is.commands; fits = record { small = is.narrow; few = is.sum.wide; some = is.sum.middle } }
 
@@ -295,7 +214,7 @@ unique bytes s t h h' =
     λ i. record { sites = sites i; commands = same i }
 
 -- bytes that are no script have a fault
-fault_at : (bytes : List ℕ) (r : Commands) → length bytes ≤ MAX_SCRIPT → judged_lines (length bytes) 1 (lines_of bytes) start ≡ r → fault_of r ≡ None → (script : Script) × Spells bytes script
+fault_at : (bytes : List ℕ) (r : Judged Command) → length bytes ≤ MAX_SCRIPT → judged_lines (length bytes) 1 (lines_of bytes) start ≡ r → fault_of r ≡ None → (script : Script) × Spells bytes script
 fault_at bytes (Ok cs) short e h = (record { sites = (after_all start cs).sites; commands = cs }, spelled_of_lines bytes cs short e)
 fault_at bytes (Err fault) short e h = absurd (some_is_not_none h)
   where
@@ -305,9 +224,9 @@ fault_at bytes (Err fault) short e h = absurd (some_is_not_none h)
 pub script_of_no_fault : (bytes : List ℕ) → first_fault bytes ≡ None → (script : Script) × Spells bytes script
 script_of_no_fault bytes h =
     ⊎_elim
-    (λ (long : MAX_SCRIPT < length bytes). absurd (some_is_not_none (sym (ap fault_of (cond-true {A = Commands} (ltb MAX_SCRIPT (length bytes)) (Err (0, Fault.Size)) (judged_lines (length bytes) 1 (lines_of bytes) start) (lt-ltb MAX_SCRIPT (length bytes) long))) ∙ h)))
+    (λ (long : MAX_SCRIPT < length bytes). absurd (some_is_not_none (sym (ap fault_of (cond-true {A = Judged Command} (ltb MAX_SCRIPT (length bytes)) (Err (0, Fault.Size)) (judged_lines (length bytes) 1 (lines_of bytes) start) (lt-ltb MAX_SCRIPT (length bytes) long))) ∙ h)))
     (λ (short : length bytes ≤ MAX_SCRIPT). fault_at bytes (judged_lines (length bytes) 1 (lines_of bytes) start) short refl
-    (sym (ap fault_of (cond-false {A = Commands} (ltb MAX_SCRIPT (length bytes)) (Err (0, Fault.Size)) (judged_lines (length bytes) 1 (lines_of bytes) start) (le-ltb MAX_SCRIPT (length bytes) short))) ∙ h))
+    (sym (ap fault_of (cond-false {A = Judged Command} (ltb MAX_SCRIPT (length bytes)) (Err (0, Fault.Size)) (judged_lines (length bytes) 1 (lines_of bytes) start) (le-ltb MAX_SCRIPT (length bytes) short))) ∙ h))
     (cases_lt MAX_SCRIPT (length bytes))
   where
     some_is_not_none : ◌≡◌ {A = Option (ℕ × Kind)} (Some (0, Fault.Size)) None → ⊥

@@ -24,7 +24,7 @@ use Rattle.td_script.specs.Lines.{is_text_line}
 use Rattle.td_script.specs.Script.{IsClusters, IsCommand, IsDotOf, IsNumber, IsSiteOf, IsTextByte, IsWritable}
 use Rattle.td_script.specs.Spelling.{line_of, spaced, spaced_bit, spaced_dot, spaced_text}
 use Rattle.td_script.specs.Texts.{escaped}
-use Rattle.td_script.proofs.CommandLaws.{decimal_utf8}
+use Rattle.td_script.proofs.SharedLaws.{decimal_utf8}
 use Rattle.td_script.proofs.LineLaws.{ascii_by_test}
 use Rattle.td_script.proofs.Numbers.{form_of_decimal}
 use Rattle.td_script.proofs.TextWords.{written_utf8}

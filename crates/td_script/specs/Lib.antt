@@ -4,6 +4,8 @@ pub mod Lines
 pub mod Texts
 pub mod Spelling
 pub mod Arguments
+pub mod Shared
+pub mod Judging
 pub mod Words
 pub use Rattle.td_base.specs.Value
 pub use Rattle.td_base.specs.Atom

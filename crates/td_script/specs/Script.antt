@@ -10,6 +10,7 @@ use Rattle.td_base.specs.declared.site.TheConstants.{MAX_SITE}
 use Rattle.td_script.specs.declared.command.Command.{Command}
 use Rattle.td_script.specs.declared.command.Command.TheVariants.{Sites, Ins, Paste, Del, Flat, Cancel, Give}
 use Rattle.td_script.specs.declared.command.Command.TheVariants.{GiveAll, Settle, Show, Tree, Count}
+use Rattle.td_script.specs.declared.command.Place.{Place}
 use Rattle.td_script.specs.declared.command.Place.TheVariants.{Whole, Beside}
 use Rattle.td_script.specs.declared.number.TheConstants.{MAX_DIGITS}
 use Rattle.td_script.specs.declared.before.TheConstants.{MAX_NARROW, MAX_FREE}
@@ -36,6 +37,11 @@ IsDotOf sites d = IsSiteOf sites d.site × IsInRange 1 MAX_SEQ d.seq
 pub record IsClusters (atoms : List (List ℕ)) : Type 0 where
   pub each : All IsAtom atoms
   pub cut : graphemes true (concat atoms) ≡ atoms
+
+-- a place that can be written
+abbrev pub IsPlace : Place → Type 0
+IsPlace Whole = ⊤
+IsPlace (Beside index bit) = IsNumber index
 
 -- a command that a line behind `sites` can ask for, among so many sites
 abbrev pub IsCommand : ℕ → Command → Type 0

@@ -8,6 +8,7 @@ use Rattle.td_base.specs.declared.bit.Bit.TheVariants.{Left, Right}
 use Rattle.td_script.specs.declared.command.Command.{Command}
 use Rattle.td_script.specs.declared.command.Command.TheVariants.{Sites, Ins, Paste, Del, Flat, Cancel, Give}
 use Rattle.td_script.specs.declared.command.Command.TheVariants.{GiveAll, Settle, Show, Tree, Count}
+use Rattle.td_script.specs.declared.command.Place.{Place}
 use Rattle.td_script.specs.declared.command.Place.TheVariants.{Whole, Beside}
 use Rattle.td_script.specs.Characters.{space, point}
 use Rattle.td_script.specs.Texts.{quoted}
@@ -32,13 +33,17 @@ abbrev pub spaced_bit : Bit → List ℕ
 spaced_bit Left = codes " left"
 spaced_bit Right = codes " right"
 
+-- `root`, or an index and a side, behind a space
+abbrev pub spaced_place : Place → List ℕ
+spaced_place Whole = codes " root"
+spaced_place (Beside index bit) = spaced index ++ spaced_bit bit
+
 abbrev pub line_of : Command → List ℕ
 line_of (Sites n) = codes "sites" ++ spaced n
 line_of (Ins site index atoms) = codes "ins" ++ (spaced site ++ (spaced index ++ spaced_text atoms))
 line_of (Paste site index atoms) = codes "paste" ++ (spaced site ++ (spaced index ++ spaced_text atoms))
 line_of (Del site index count) = codes "del" ++ (spaced site ++ (spaced index ++ spaced count))
-line_of (Flat site Whole) = codes "flat" ++ (spaced site ++ codes " root")
-line_of (Flat site (Beside index bit)) = codes "flat" ++ (spaced site ++ (spaced index ++ spaced_bit bit))
+line_of (Flat site place) = codes "flat" ++ (spaced site ++ spaced_place place)
 line_of (Cancel site proposal) = codes "cancel" ++ (spaced site ++ spaced_dot proposal)
 line_of (Give site number) = codes "give" ++ (spaced site ++ spaced number)
 line_of (GiveAll site) = codes "give" ++ (spaced site ++ codes " all")

@@ -21,6 +21,7 @@ mod number;
 mod quoted;
 mod read_line;
 mod script;
+mod shared;
 mod word;
 
 pub use atom_list::AtomList;

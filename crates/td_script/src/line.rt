@@ -1,10 +1,32 @@
-ghost use Rattle.std.specs.Prelude.{◌≡◌, ◌≢◌, ◌<◌, ◌∷◌, ◌++◌, All, IfNone, IfSome, false, true, length};
+ghost use Rattle.std.specs.Prelude.{◌≡◌, ◌≢◌, ◌<◌, ◌∷◌, ◌++◌, All, IfNone, IfSome, MatchOption, MatchResult};
+ghost use Rattle.std.specs.Prelude.{false, true, length};
 ghost use Rattle.std.specs.Char.{is_ascii_control};
 ghost use Rattle.std.specs.List.{list_any};
+ghost use Rattle.td_script.specs.Judging.{heard};
 ghost use Rattle.td_script.specs.Lines.{is_skipped, is_text_line, lines_of};
 
-/// The line as a text, where it is UTF-8 without control characters.
-pub(crate) fn text_of_line(line: &[u8]) -> Option<&str>
+use crate::kind::Kind;
+use crate::script::MAX_LINE;
+
+/// The text of a line that says something, in whichever language.
+pub(crate) fn hear(line: &[u8]) -> Result<Option<&str>, Kind>
+    ensures { MatchResult result
+        (λ text. MatchOption text (heard line.now ≡ Ok None)
+            (λ text. (text.now ≡ line.now) × (heard line.now ≡ Ok (Some line.now))))
+        (λ kind. heard line.now ≡ Err kind) }
+{
+    if line.len() > MAX_LINE {
+        return Err(Kind::Long);
+    }
+    let text = text_of_line(line).ok_or(Kind::Bytes)?;
+    if is_skipped(text) {
+        return Ok(None);
+    }
+    Ok(Some(text))
+}
+
+// The line as a text, where it is UTF-8 without control characters.
+fn text_of_line(line: &[u8]) -> Option<&str>
     ensures some { IfSome result (λ text. (text.now ≡ line.now) × (is_text_line line.now ≡ true)) }
     ensures none { IfNone result (is_text_line line.now ≡ false) }
 {
@@ -21,8 +43,8 @@ fn has_control(line: &[u8]) -> bool
     line.iter().any(|byte| byte.is_ascii_control())
 }
 
-/// An empty line, and a line that begins with `#`, says nothing.
-pub(crate) fn is_skipped(line: &str) -> bool
+// An empty line, and a line that begins with `#`, says nothing.
+fn is_skipped(line: &str) -> bool
     ensures { result ≡ is_skipped line.now }
 {
     line.is_empty() || line.starts_with('#')

@@ -9,8 +9,7 @@ use crate::before::Before;
 use crate::command::Command;
 use crate::kind::{Kind, LineFault};
 use crate::language::command;
-use crate::line::{is_skipped, text_of_line};
-use crate::script::MAX_LINE;
+use crate::line::hear;
 use crate::word::Word;
 use std::alloc::Global;
 use td_base::MAX_SITE;
@@ -26,14 +25,10 @@ pub(crate) fn read_line(
     requires requests { before.requests < 2 ^ 63 }
     ensures { IsLineAnswer (judged size before line.now) result }
 {
-    if line.len() > MAX_LINE {
-        return Err(LineFault::Faulty(Kind::Long));
-    }
-    let line = text_of_line(line).ok_or(Kind::Bytes)?;
-    if is_skipped(line) {
+    let Some(text) = hear(line)? else {
         return Ok(None);
-    }
-    let command = read_command(alloc, size, before, line)?;
+    };
+    let command = read_command(alloc, size, before, text)?;
     Ok(Some(command))
 }
 
