@@ -78,13 +78,13 @@ number_at_back bytes n rest e =
     record { fits = number.0; whole = spaced_word n is number.1; free = is.free }
 
 -- a number that passes a test
-tested_at_there : (test : ℕ → Bool) (kind : Kind) (n : ℕ) (rest : List ℕ) → IsNumber n → test n ≡ true → IsOpen rest
+pub tested_at_there : (test : ℕ → Bool) (kind : Kind) (n : ℕ) (rest : List ℕ) → IsNumber n → test n ≡ true → IsOpen rest
     → by_word (λ word. tested test kind (number_of word)) (spaced n ++ rest) ≡ Ok (n, rest)
 tested_at_there test kind n rest small passes free =
     number_word_there (λ word. tested test kind (number_of word)) n n rest small free
     (tested_in test kind (number_of (decimal n)) n (number_of_decimal n small) passes)
 
-tested_at_back : (test : ℕ → Bool) (kind : Kind) (Fits : ℕ → Type 0) → ((n : ℕ) → test n ≡ true → Fits n)
+pub tested_at_back : (test : ℕ → Bool) (kind : Kind) (Fits : ℕ → Type 0) → ((n : ℕ) → test n ≡ true → Fits n)
     → (bytes : List ℕ) (n : ℕ) (rest : List ℕ)
     → by_word (λ word. tested test kind (number_of word)) bytes ≡ Ok (n, rest) → IsArgument spaced Fits bytes n rest
 tested_at_back test kind Fits fits bytes n rest e =

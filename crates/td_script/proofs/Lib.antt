@@ -20,3 +20,7 @@ pub mod LineLaws
 pub mod ScriptLaws
 pub mod ReadScript
 pub mod WritingLaws
+pub mod LiveLineLaws
+pub mod LiveCommands
+pub mod LiveScriptLaws
+pub mod ReadLive

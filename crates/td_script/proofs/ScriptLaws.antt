@@ -82,14 +82,14 @@ pub record IsWithin (sites sum : ℕ) : Type 0 where
   pub wide : 16 < sites → sum ≤ MAX_WIDE_REQUESTS
   pub middle : 8 < sites → sum ≤ MAX_MIDDLE_REQUESTS
 
-limit_back : (least sites greatest sum : ℕ) → (ltb least sites && ltb greatest sum) ≡ false → least < sites → sum ≤ greatest
+pub limit_back : (least sites greatest sum : ℕ) → (ltb least sites && ltb greatest sum) ≡ false → least < sites → sum ≤ greatest
 limit_back least sites greatest sum e h =
     ⊎_elim
     (λ (f : ltb least sites ≡ false). absurd (true≢false (sym (lt-ltb least sites h) ∙ f)))
     (λ (f : ltb greatest sum ≡ false). ltb-false greatest sum f)
     (and_cases (ltb least sites) (ltb greatest sum) e)
 
-limit_there : (least sites greatest sum : ℕ) → (least < sites → sum ≤ greatest) → (ltb least sites && ltb greatest sum) ≡ false
+pub limit_there : (least sites greatest sum : ℕ) → (least < sites → sum ≤ greatest) → (ltb least sites && ltb greatest sum) ≡ false
 limit_there least sites greatest sum h =
     ⊎_elim
     (λ (more : least < sites). and_right (ltb least sites) (ltb greatest sum) (le-ltb greatest sum (h more)))
@@ -149,10 +149,10 @@ pub record IsScriptOf (size : ℕ) (cs : List Command) (sites : ℕ) : Type 0 wh
   pub narrow : 16 < sites → size ≤ MAX_WIDE_SCRIPT
   pub sum : IsWithin sites (sum_by requests cs)
 
-narrow_back : (size n : ℕ) → is_too_wide size n ≡ false → 16 < n → size ≤ MAX_WIDE_SCRIPT
+pub narrow_back : (size n : ℕ) → is_too_wide size n ≡ false → 16 < n → size ≤ MAX_WIDE_SCRIPT
 narrow_back size n e h = limit_back 16 n MAX_WIDE_SCRIPT size e h
 
-narrow_there : (size n : ℕ) → (16 < n → size ≤ MAX_WIDE_SCRIPT) → is_too_wide size n ≡ false
+pub narrow_there : (size n : ℕ) → (16 < n → size ≤ MAX_WIDE_SCRIPT) → is_too_wide size n ≡ false
 narrow_there size n h = limit_there 16 n MAX_WIDE_SCRIPT size h
 
 nothing_within : (sites : ℕ) → IsWithin sites 0

@@ -13,3 +13,7 @@ pub mod Faults
 pub mod Script
 pub mod Answers
 pub mod AtomListParts
+pub mod LiveWords
+pub mod LiveSpelling
+pub mod LiveScript
+pub mod LiveFaults

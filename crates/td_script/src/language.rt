@@ -8,7 +8,7 @@ use crate::argument::{last, next_word, number_word, site_word};
 use crate::before::Before;
 use crate::command::Command;
 use crate::kind::{Kind, LineFault};
-use crate::shared::{index_and_text, place, proposal, sites, two_numbers};
+use crate::shared::{index_and_text, place, proposal, sites_number, two_numbers};
 use crate::word::{SiteWord, Word};
 use std::alloc::Global;
 use td_base::{MAX_SITE, Site};
@@ -26,7 +26,7 @@ pub(crate) fn command(
 {
     match word {
         Word::Sites => {
-            let n = sites(size, rest)?;
+            let n = sites_number(size, rest)?;
             Ok(Command::Sites { n })
         }
         Word::Settle => Ok(last(Command::Settle, rest)?),

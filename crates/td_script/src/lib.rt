@@ -17,6 +17,7 @@ mod language;
 mod laws;
 mod line;
 mod listed_atoms;
+mod live;
 mod number;
 mod quoted;
 mod read_line;
@@ -31,6 +32,11 @@ pub use commands::Commands;
 pub use kind::{Kind, ScriptFault};
 pub use laws::{scripts_have_no_fault, spelled_scripts_are_unique, written_scripts_are_read_again};
 pub use listed_atoms::ListedAtoms;
+pub use live::{
+    DEFAULT_TURNS, EditorLine, EditorLines, Homes, LinesByEditor, Live, Loss, MAX_ALL_CALLS, MAX_CALLS,
+    MAX_EDITORS, MAX_LIVE_SCRIPT, MAX_TURNS, NO_LOSS, live_scripts_have_no_fault, read_live,
+    spelled_live_scripts_are_unique,
+};
 pub use number::{MAX_DIGITS, number_of};
 pub use script::{
     MAX_LINE, MAX_MIDDLE_REQUESTS, MAX_SCRIPT, MAX_WIDE_REQUESTS, MAX_WIDE_SCRIPT, Script,

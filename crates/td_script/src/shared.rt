@@ -14,7 +14,7 @@ use std::alloc::Global;
 use td_base::{Dot, MAX_SITE};
 
 /// How many sites there are, in a script of so many bytes.
-pub(crate) fn sites(size: usize, rest: &str) -> Result<u8, Kind>
+pub(crate) fn sites_number(size: usize, rest: &str) -> Result<u8, Kind>
     ensures { result ≡ sites_at size rest.now }
 {
     let (n, rest) = number(rest)?;

@@ -1,0 +1,16 @@
+// What the definitions of the language come to: the grammar and the first fault fit each other.
+ghost use Rattle.std.specs.Prelude.{◌≡◌, ℕ, List, None};
+ghost use Rattle.td_script.specs.LiveFaults.{first_live_fault};
+ghost use Rattle.td_script.specs.LiveScript.{SpellsLive};
+ghost use Rattle.td_script.specs.declared.live.script.Live.{Live};
+
+/// Bytes have no fault where they spell a live script, and only there.
+pub fn live_scripts_have_no_fault()
+    ensures script { (bytes : List ℕ) (live : Live) → SpellsLive bytes live → first_live_fault bytes ≡ None }
+    ensures other { (bytes : List ℕ) → first_live_fault bytes ≡ None → (live : Live) × SpellsLive bytes live }
+{}
+
+/// No bytes spell two live scripts.
+pub fn spelled_live_scripts_are_unique()
+    ensures { (bytes : List ℕ) (s t : Live) → SpellsLive bytes s → SpellsLive bytes t → s ≡ t }
+{}
