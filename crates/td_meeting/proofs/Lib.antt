@@ -1,0 +1,7 @@
+pub mod Rows
+pub mod Messages
+pub mod Consistency
+pub mod Telling
+pub mod Hearing
+pub mod Matching
+pub mod Example
