@@ -3,7 +3,7 @@ use Rattle.std.proofs.Common.{◌≡◌, ◌≢◌, ◌<◌, ◌≤◌, ◌+◌,
 use Rattle.std.specs.Option.{option_to_list}
 use Rattle.td_base.specs.declared.site.TheConstants.{MAX_SITE}
 use Rattle.td_base.specs.Lists.{In}
-use Rattle.td_base.proofs.Lists.{In-front}
+use Rattle.td_base.proofs.Lists.{In-front, all_in}
 use Rattle.td_op.specs.declared.entry.Entry.{Entry}
 use Rattle.td_op.specs.declared.input.Input.TheVariants.{Take}
 use Rattle.td_op.specs.declared.message.Message.{Message}
@@ -15,7 +15,7 @@ use Rattle.td_meeting.specs.Thin.{is_addressed}
 use Rattle.td_meeting.specs.Takes.{takes_from, IsWelcome, TakesWelcome}
 use Rattle.td_meeting.specs.Peers.{PeerValue, HasTakenOf, Hears, Tells, sent_to}
 use Rattle.td_meeting.specs.Accounts.{Account, IsAccount, WorkersMet, AreSettled, family_of}
-use Rattle.td_meeting.proofs.Rows.{found, history_is, all_in, apart, prefix_in, zip_right, zip_left, peer_of}
+use Rattle.td_meeting.proofs.Rows.{found, history_is, apart, prefix_in, zip_right, zip_left, peer_of}
 use Rattle.td_meeting.proofs.Messages.{takes_in, welcome_at, told_in, addressed}
 
 -- the worker of a site
@@ -48,20 +48,24 @@ less_or zero zero h = absurd (h refl)
 less_or zero (suc b) h = inl (omega arith)
 less_or (suc a) zero h = inr (omega arith)
 less_or (suc a) (suc b) h =
-    ⊎_elim (λ (l : a < b). inl (omega (arith, l))) (λ (l : b < a). inr (omega (arith, l))) (less_or a b (λ e. h (ap suc e)))
+    ⊎_elim (λ (l : a < b). inl (omega (arith, l)))
+    (λ (l : b < a). inr (omega (arith, l))) (less_or a b (λ e. h (ap suc e)))
 
 one : (packet : List ℕ) (m n : Message) → SpellsIn m packet → SpellsIn n packet → m ≡ n
 one packet m n h k = one_message packet h.0 k.0 m n h.1 k.1
 
 -- what the peer of the one took, the peer of the other sent
-taken_of : (accounts : List Account) (r t : ℕ) → AreSettled accounts → 0 < r → 0 < t → r ≢ t → (x : At accounts r) (y : At accounts t)
-    → (p q : PeerValue) → In p x.account.peers → p.number ≡ t → In q y.account.peers → q.number ≡ r → HasTakenOf p q
+taken_of : (accounts : List Account) (r t : ℕ) → AreSettled accounts → 0 < r → 0 < t → r ≢ t → (x : At accounts r)
+    → (y : At accounts t) → (p q : PeerValue) → In p x.account.peers → p.site ≡ t → In q y.account.peers → q.site ≡ r
+    → HasTakenOf p q
 taken_of accounts r t s some some' other x y p q i e j f =
-    let pe : p.number ≡ y.account.site = e ∙ sym y.is in
-    let qe : q.number ≡ x.account.site = f ∙ sym x.is in
+    let pe : p.site ≡ y.account.site = e ∙ sym y.is in
+    let qe : q.site ≡ x.account.site = f ∙ sym x.is in
     ⊎_elim
-    (λ (l : r - 1 < t - 1). (apart WorkersMet accounts (r - 1) (t - 1) x.account y.account s.met l x.found y.found p q i pe j qe).0)
-    (λ (l : t - 1 < r - 1). (apart WorkersMet accounts (t - 1) (r - 1) y.account x.account s.met l y.found x.found q p j qe i pe).1)
+    (λ (l : r - 1 < t - 1).
+    (apart WorkersMet accounts (r - 1) (t - 1) x.account y.account s.met l x.found y.found p q i pe j qe).0)
+    (λ (l : t - 1 < r - 1).
+    (apart WorkersMet accounts (t - 1) (r - 1) y.account x.account s.met l y.found x.found q p j qe i pe).1)
     (less_or (r - 1) (t - 1) (λ (k : r - 1 ≡ t - 1). other (pred r t some some' k)))
   where
     pred : (a b : ℕ) → 0 < a → 0 < b → a - 1 ≡ b - 1 → a ≡ b
@@ -87,27 +91,27 @@ came accounts site s some within front e back message split is from upto other =
     let b = y.account in
     let other' : t ≢ a.site = λ k. other (k ∙ x.is) in
     let back' : site ≢ b.site = λ (k : site ≡ b.site). other (sym (k ∙ y.is)) in
-    let pp = peer_of n a.site t a.peers x.account_is.numbers from upto other' in
-    let qq = peer_of n b.site site b.peers y.account_is.numbers some within back' in
+    let pp = peer_of n a.site t a.peers x.account_is.peers from upto other' in
+    let qq = peer_of n b.site site b.peers y.account_is.peers some within back' in
     let p = pp.0 in
     let q = qq.0 in
-    let ts = takes_from p.number a.entries in
-    let inside : In message (takes_from p.number a.entries) =
-    subst (λ (h : History). In message (takes_from p.number h)) (sym split ∙ x.entries)
-    (takes_in p.number front e back message is (sym pp.2)) in
+    let ts = takes_from p.site a.entries in
+    let inside : In message (takes_from p.site a.entries) =
+    subst (λ (h : History). In message (takes_from p.site h)) (sym split ∙ x.entries)
+    (takes_in p.site front e back message is (sym pp.2)) in
     let heard = zip_right SpellsIn (ts ++ option_to_list p.waiting) p.taken message
-    (all_in (Hears a.entries) a.peers p x.account_is.hears pp.1)
+    (all_in (Hears a.entries) a.peers x.account_is.hears p pp.1)
     (In-front message ts (option_to_list p.waiting) inside) in
     let packet = heard.0 in
     let crossed : In packet q.sent =
     prefix_in packet p.taken q.sent
     (taken_of accounts site t s some from (λ (k : site ≡ t). other (sym k)) x y p q pp.1 pp.2 qq.1 qq.2) heard.1 in
     let sent = (after (start b.site n) b.entries).sent in
-    let tells : Tells sent q = all_in (Tells sent) b.peers q y.account_is.tells qq.1 in
-    let said = sent_to q.loss q.number q.dealt q.again sent in
+    let tells : Tells sent q = all_in (Tells sent) b.peers y.account_is.tells q qq.1 in
+    let said = sent_to q.loss q.site q.dealt q.again sent in
     let told = zip_left SpellsIn said q.sent packet tells.packets crossed in
     let same : told.0 ≡ message = one packet told.0 message told.2 heard.2 in
-    let both = told_in q.loss q.number q.dealt q.again sent message
+    let both = told_in q.loss q.site q.dealt q.again sent message
     (subst (λ (m : Message). In m said) same told.1) in
     let there : after (start b.site n) b.entries ≡ machine (family_of accounts) t =
     λ i. after (start (y.is i) (sym (size_is accounts) i)) (sym y.entries i) in
@@ -126,8 +130,10 @@ welcome accounts site s some within front e back message split is =
     let a = x.account in
     let w : IsWelcome a.site n (after (start a.site n) front) message =
     welcome_at a.site n (start a.site n) front e back message
-    (subst (λ (h : History). TakesWelcome a.site n (start a.site n) h) (sym x.entries ∙ split) x.account_is.welcome) is in
-    subst (λ (k : ℕ × ℕ). IsWelcome k.0 n (after (start k.0 k.1) front) message) (λ i. (x.is i, sym (size_is accounts) i)) w
+    (subst (λ (h : History). TakesWelcome a.site n (start a.site n) h) (sym x.entries ∙ split)
+    x.account_is.welcome) is in
+    subst (λ (k : ℕ × ℕ). IsWelcome k.0 n (after (start k.0 k.1) front) message)
+    (λ i. (x.is i, sym (size_is accounts) i)) w
 
 pub consistent : (accounts : List Account) → AreSettled accounts → IsConsistent (family_of accounts)
 consistent accounts s =

@@ -22,7 +22,7 @@ maker : IsAccount 2 its_maker
 maker =
     record {
       legal = (atom_from (codes "a") refl, refl, tt);
-      numbers = refl;
+      peers = refl;
       welcome = (λ message e. absurd cc, tt);
       hears = (tt, tt);
       tells = (record { within = omega arith; next = λ e. absurd cc; packets = (spells, tt) }, tt);
@@ -32,7 +32,7 @@ taker : IsAccount 2 its_taker
 taker =
     record {
       legal = (fits, refl, tt);
-      numbers = refl;
+      peers = refl;
       welcome = (λ message e. subst (IsWelcome 2 2 (start 2 2)) (same first_insert message e) welcome, tt);
       hears = ((spells, tt), tt);
       tells = (record { within = omega arith; next = λ e. absurd cc; packets = tt }, tt);
@@ -42,10 +42,17 @@ taker =
     same a b e = cc
 
     welcome : IsWelcome 2 2 (start 2 2) first_insert
-    welcome = record { some = omega arith; within = omega arith; another = λ e. absurd (omega (arith, e)); own_made = omega arith }
+    welcome =
+        record {
+          some = omega arith;
+          within = omega arith;
+          another = λ e. absurd (omega (arith, e));
+          own_made = omega arith;
+        }
 
 have_met : WorkersMet its_maker its_taker
-have_met p q (inl e) ep (inl f) eq = subst (λ (v : PeerValue × PeerValue). Met v.0 v.1) (λ i. (sym e i, sym f i)) (([], refl), ([], refl))
+have_met p q (inl e) ep (inl f) eq =
+    subst (λ (v : PeerValue × PeerValue). Met v.0 v.1) (λ i. (sym e i, sym f i)) (([], refl), ([], refl))
 have_met p q (inl e) ep (inr j) eq = absurd j
 have_met p q (inr j) ep b eq = absurd j
 

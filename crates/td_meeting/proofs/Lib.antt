@@ -4,4 +4,5 @@ pub mod Consistency
 pub mod Telling
 pub mod Hearing
 pub mod Matching
+pub mod Own
 pub mod Example

@@ -37,7 +37,8 @@ takes_in number (f ∷ front) e back message is from =
     (takes_in number front e back message is from)
 
 pub welcome_at : (site size : ℕ) (m : Machine) (front : History) (e : Entry) (back : History) (message : Message)
-    → TakesWelcome site size m (front ++ e ∷ back) → e.input ≡ Take message → IsWelcome site size (after m front) message
+    → TakesWelcome site size m (front ++ e ∷ back) → e.input ≡ Take message
+    → IsWelcome site size (after m front) message
 welcome_at site size m [] e back message h is = h.0 message is
 welcome_at site size m (f ∷ front) e back message h is =
     welcome_at site size (step m f.input).machine front e back message h.1 is

@@ -1,16 +1,15 @@
 -- Rows of workers, and lists.
 use Rattle.std.proofs.Common.{◌≡◌, ◌≢◌, ◌⊎◌, ◌<◌, ◌≤◌, ◌+◌, ℕ, zero, suc, List, [], ◌∷◌, true, not, nat_eq, length, map, slice_get, Some, refl, sym, ap, subst, inl, inr, ⊎_elim, arith}
-use Rattle.std.specs.List.{AllByRecursion, AllZip, range_with_len}
+use Rattle.std.specs.List.{AllZip, range_with_len}
 use Rattle.std.proofs.lemmas.Bool.Decides.{nat_tests}
 use mathlib.Core.List.{IsPrefix}
 use Rattle.td_base.specs.Lists.{In, Successive}
-use Rattle.td_base.proofs.Lists.{In-front, filter_In, map_In}
+use Rattle.std.proofs.lemmas.Option.{same_Some}
+use Rattle.td_base.proofs.Lists.{In-front, filter_In, map_In, all_in}
+use Rattle.td_base.proofs.Elements.{In-slice_get}
 use Rattle.td_machine.specs.History.{history_at}
 use Rattle.td_meeting.specs.Peers.{PeerValue}
 use Rattle.td_meeting.specs.Accounts.{Account, others, family_of}
-
-some_same : {X : Type 0} (x y : X) → Some x ≡ Some y → x ≡ y
-some_same x y e = cc
 
 pub found : {X : Type 0} (xs : List X) (k : ℕ) → k < length xs → (x : X) × (slice_get xs k ≡ Some x)
 found [] k h = absurd (omega (arith, h))
@@ -20,18 +19,8 @@ found (x ∷ xs) (suc k) h = found xs k (omega (arith, h))
 pub history_is : (accounts : List Account) (k : ℕ) (a : Account) → slice_get accounts k ≡ Some a
     → history_at (family_of accounts) k ≡ a.entries
 history_is [] k a e = absurd cc
-history_is (b ∷ accounts) zero a e = ap (λ (c : Account). c.entries) (some_same b a e)
+history_is (b ∷ accounts) zero a e = ap (λ (c : Account). c.entries) (same_Some b a e)
 history_is (b ∷ accounts) (suc k) a e = history_is accounts k a e
-
-pub all_in : {X : Type 0} (P : X → Type 0) (xs : List X) (x : X) → AllByRecursion P xs → In x xs → P x
-all_in P [] x h i = absurd i
-all_in P (y ∷ xs) x h (inl e) = subst P (sym e) h.0
-all_in P (y ∷ xs) x h (inr i) = all_in P xs x h.1 i
-
-in_at : {X : Type 0} (xs : List X) (k : ℕ) (x : X) → slice_get xs k ≡ Some x → In x xs
-in_at [] k x e = absurd cc
-in_at (y ∷ xs) zero x e = inl (sym (some_same y x e))
-in_at (y ∷ xs) (suc k) x e = inr (in_at xs k x e)
 
 -- of two of them the earlier stands in the relation to the later
 pub apart : {X : Type 0} (R : X → X → Type 0) (xs : List X) (i j : ℕ) (x y : X) → Successive R xs → i < j
@@ -39,7 +28,7 @@ pub apart : {X : Type 0} (R : X → X → Type 0) (xs : List X) (i j : ℕ) (x y
 apart R [] i j x y h l a b = absurd (cc a)
 apart R (z ∷ xs) i zero x y h l a b = absurd (omega (arith, l))
 apart R (z ∷ xs) zero (suc j) x y h l a b =
-    subst (λ w. R w y) (some_same z x a) (all_in (R z) xs y h.0 (in_at xs j y b))
+    subst (λ w. R w y) (same_Some z x a) (all_in (R z) xs h.0 y (In-slice_get xs j y b))
 apart R (z ∷ xs) (suc i) (suc j) x y h l a b = apart R xs i j x y h.1 (omega (arith, l)) a b
 
 pub prefix_in : {X : Type 0} (x : X) (xs ys : List X) → IsPrefix xs ys → In x xs → In x ys
@@ -65,25 +54,30 @@ zip_left R (z ∷ xs) (w ∷ ys) y h (inr i) = let r = zip_left R xs ys y h.1 i 
 numbers_in : (k n s : ℕ) → k ≤ s → s < k + n → In s (range_with_len k n)
 numbers_in k zero s low high = absurd (omega (arith, low, high))
 numbers_in k (suc n) s low high =
-    ⊎_elim (λ (e : s ≡ k). inl e) (λ (l : suc k ≤ s). inr (numbers_in (k + 1) n s (omega (arith, l)) (omega (arith, high)))) (least k s low)
+    ⊎_elim (λ (e : s ≡ k). inl e)
+    (λ (l : suc k ≤ s). inr (numbers_in (k + 1) n s (omega (arith, l)) (omega (arith, high))))
+    (least k s low)
   where
     least : (a b : ℕ) → a ≤ b → (b ≡ a) ⊎ (suc a ≤ b)
     least zero zero l = inl refl
     least zero (suc b) l = inr (omega arith)
     least (suc a) zero l = absurd (omega (arith, l))
-    least (suc a) (suc b) l = ⊎_elim (λ (e : b ≡ a). inl (ap suc e)) (λ (m : suc a ≤ b). inr (omega (arith, m))) (least a b (omega (arith, l)))
+    least (suc a) (suc b) l =
+        ⊎_elim (λ (e : b ≡ a). inl (ap suc e)) (λ (m : suc a ≤ b). inr (omega (arith, m)))
+        (least a b (omega (arith, l)))
 
 others_in : (size site s : ℕ) → 0 < s → s ≤ size → s ≢ site → In s (others size site)
 others_in size site s some within other =
-    filter_In (λ (k : ℕ). not (nat_eq k site)) s (range_with_len 1 size) (numbers_in 1 size s (omega (arith, some)) (omega (arith, within)))
+    filter_In (λ (k : ℕ). not (nat_eq k site)) s (range_with_len 1 size)
+    (numbers_in 1 size s (omega (arith, some)) (omega (arith, within)))
     (differs s site other)
   where
     differs : (a b : ℕ) → a ≢ b → not (nat_eq a b) ≡ true
     differs a b h = grind (arith, nat_tests)
 
-pub peer_of : (size site s : ℕ) (peers : List PeerValue) → map (λ (p : PeerValue). p.number) peers ≡ others size site
-    → 0 < s → s ≤ size → s ≢ site → (p : PeerValue) × In p peers × (p.number ≡ s)
+pub peer_of : (size site s : ℕ) (peers : List PeerValue) → map (λ (p : PeerValue). p.site) peers ≡ others size site
+    → 0 < s → s ≤ size → s ≢ site → (p : PeerValue) × In p peers × (p.site ≡ s)
 peer_of size site s peers e some within other =
-    let i = map_In (λ (p : PeerValue). p.number) s peers
+    let i = map_In (λ (p : PeerValue). p.site) s peers
     (subst (λ ns. In s ns) (sym e) (others_in size site s some within other)) in
     (i.0, i.1, sym i.2)

@@ -22,7 +22,7 @@ others size site = filter (λ (k : ℕ). not (k == site)) (range_with_len 1 size
 -- sent is what its history takes and what its replica sent
 pub record IsAccount (size : ℕ) (a : Account) : Type 0 where
   pub legal : IsLegal a.site size a.entries
-  pub numbers : map (λ (p : PeerValue). p.number) a.peers ≡ others size a.site
+  pub peers : map (λ (p : PeerValue). p.site) a.peers ≡ others size a.site
   pub welcome : TakesWelcome a.site size (start a.site size) a.entries
   pub hears : AllByRecursion (Hears a.entries) a.peers
   pub tells : AllByRecursion (Tells (after (start a.site size) a.entries).sent) a.peers
@@ -30,7 +30,7 @@ pub record IsAccount (size : ℕ) (a : Account) : Type 0 where
 -- the two workers have met: what they keep for each other has
 abbrev pub WorkersMet : Account → Account → Type 0
 WorkersMet a b =
-    (p q : PeerValue) → In p a.peers → p.number ≡ b.site → In q b.peers → q.number ≡ a.site → Met p q
+    (p q : PeerValue) → In p a.peers → p.site ≡ b.site → In q b.peers → q.site ≡ a.site → Met p q
 
 -- the workers of sites 1 to n, in this order, with all their links settled
 pub record AreSettled (accounts : List Account) : Type 0 where

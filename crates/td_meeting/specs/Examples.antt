@@ -1,5 +1,5 @@
 -- Worked examples: what is sent of five messages, and two workers that have met.
-use Rattle.std.specs.Prelude.{ℕ, List, [], ◌∷◌, ◌++◌, codes, replicate, false, None}
+use Rattle.std.specs.Prelude.{ℕ, List, [], ◌∷◌, ◌++◌, codes, replicate}
 use Rattle.td_op.specs.declared.body.Body.TheVariants.{Insert}
 use Rattle.td_op.specs.declared.request.Request.TheVariants.{Insert as AnInsert}
 use Rattle.td_op.specs.declared.message.Message.{Message}
@@ -8,6 +8,7 @@ use Rattle.td_path.specs.declared.slot.Slot.TheVariants.{Root}
 use Rattle.td_machine.specs.Stage.{Move, Ask, Give, dot, vote_yes, family_after}
 use Rattle.td_machine.specs.History.{history}
 use Rattle.td_meeting.specs.Thin.{Loss}
+use Rattle.td_meeting.specs.Peers.{new_peer}
 use Rattle.td_meeting.specs.Accounts.{Account}
 
 -- the vote of site 3 on the k-th operation of a site
@@ -34,17 +35,14 @@ one_letter = Ask 1 (AnInsert 0 (codes "a")) ∷ Give 2 1 ∷ []
 
 -- its bytes: the mark, the kind, the dot, the numbers of two sites, the slot, and the run of one atom
 abbrev pub its_packet : List ℕ
-its_packet =
-    codes "T2" ++ 1 ∷ 1 ∷ 0 ∷ 0 ∷ 0 ∷ 1 ∷ 2 ∷ replicate 8 0 ++ 0 ∷ 1 ∷ 1 ∷ codes "a"
+its_packet = codes "T2" ++ 1 ∷ 1 ∷ 0 ∷ 0 ∷ 0 ∷ 1 ∷ 2 ∷ replicate 8 0 ++ 0 ∷ 1 ∷ 1 ∷ codes "a"
 
 abbrev pub its_maker : Account
 its_maker =
     record {
       site = 1;
       entries = history (family_after 2 one_letter) 1;
-      peers =
-          record { number = 2; taken = []; waiting = None; sent = its_packet ∷ []; dealt = 1; again = false; loss = lossless }
-          ∷ [];
+      peers = record (new_peer 2 lossless) { sent = its_packet ∷ []; dealt = 1 } ∷ [];
     }
 
 abbrev pub its_taker : Account
@@ -52,7 +50,5 @@ its_taker =
     record {
       site = 2;
       entries = history (family_after 2 one_letter) 2;
-      peers =
-          record { number = 1; taken = its_packet ∷ []; waiting = None; sent = []; dealt = 0; again = false; loss = lossless }
-          ∷ [];
+      peers = record (new_peer 1 lossless) { taken = its_packet ∷ [] } ∷ [];
     }

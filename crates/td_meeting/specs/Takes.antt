@@ -7,18 +7,18 @@ use Rattle.td_machine.specs.Machine.{Machine, made}
 use Rattle.td_machine.specs.Step.{step}
 use Rattle.td_machine.specs.History.{History, sender, known_of}
 
--- what one input takes from the site with this number
+-- what one input takes from this site
 abbrev pub taken_in : ℕ → Input → List Message
-taken_in number (Local request) = []
-taken_in number (Take message) = if sender message == number then message ∷ [] else []
-taken_in number Next = []
+taken_in site (Local request) = []
+taken_in site (Take message) = if sender message == site then message ∷ [] else []
+taken_in site Next = []
 
 -- what the history takes from that site, in order
 abbrev pub takes_from : ℕ → History → List Message
-takes_from number [] = []
-takes_from number (e ∷ entries) = taken_in number e.input ++ takes_from number entries
+takes_from site [] = []
+takes_from site (e ∷ entries) = taken_in site e.input ++ takes_from site entries
 
--- the message may be taken at a site of so many, when its machine is as given, as far as the site can tell. (Whether its
+-- the message may be taken at a site of so many, when its machine is as given, as far as the site can tell. (That its
 -- sender did send it no site can tell by itself.)
 pub record IsWelcome (site size : ℕ) (m : Machine) (message : Message) : Type 0 where
   -- another of the sites sent it
