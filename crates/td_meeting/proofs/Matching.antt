@@ -12,7 +12,7 @@ use Rattle.td_meeting.specs.Rows.{MatchesFirsts, AllMatch, rows_of}
 number_of : PeerValue → ℕ
 number_of p = p.site
 
-abbrev others_from : ℕ → ℕ → ℕ → List ℕ
+abbrev pub others_from : ℕ → ℕ → ℕ → List ℕ
 others_from k n site = filter (λ (j : ℕ). not (nat_eq j site)) (range_with_len k n)
 
 -- the workers of sites k, k + 1 and so on, with peers for the others of these
@@ -37,11 +37,11 @@ self : (a b : ℕ) → a ≡ b → not (nat_eq a b) ≡ false
 self a b h = grind (arith, nat_tests)
 
 -- the first number stands before those of the others
-first_kept : (k n site : ℕ) → k ≢ site → others_from k (suc n) site ≡ k ∷ others_from (k + 1) n site
+pub first_kept : (k n site : ℕ) → k ≢ site → others_from k (suc n) site ≡ k ∷ others_from (k + 1) n site
 first_kept k n site h =
     ap (λ (b : Bool). cond b (k ∷ others_from (k + 1) n site) (others_from (k + 1) n site)) (not_self k site h)
 
-first_left : (k n : ℕ) → others_from k (suc n) k ≡ range_with_len (k + 1) n
+pub first_left : (k n : ℕ) → others_from k (suc n) k ≡ range_with_len (k + 1) n
 first_left k n =
     ap (λ (b : Bool). cond b (k ∷ others_from (k + 1) n k) (others_from (k + 1) n k)) (self k k refl)
     ∙ all_kept (k + 1) n (omega arith)
@@ -55,10 +55,10 @@ first_left k n =
         above : (a b : ℕ) → b < a → a ≢ b
         above a b h e = absurd (omega (arith, h, e))
 
-cons_head : (a b : ℕ) (xs ys : List ℕ) → a ∷ xs ≡ b ∷ ys → a ≡ b
+pub cons_head : (a b : ℕ) (xs ys : List ℕ) → a ∷ xs ≡ b ∷ ys → a ≡ b
 cons_head a b xs ys e = cc
 
-cons_tail : (a b : ℕ) (xs ys : List ℕ) → a ∷ xs ≡ b ∷ ys → xs ≡ ys
+pub cons_tail : (a b : ℕ) (xs ys : List ℕ) → a ∷ xs ≡ b ∷ ys → xs ≡ ys
 cons_tail a b xs ys e = cc
 
 rest_numbers : (a : Account) (k : ℕ) (ns : List ℕ) → map (λ (p : PeerValue). p.site) a.peers ≡ k ∷ ns

@@ -25,8 +25,7 @@ fn meet<R: Wait>(rt: &R, alloc: Global, one: Peer, other: Peer) -> Result<(), Me
         dealt: _,
         addressed: _,
         again: _,
-        drop_each: _,
-        double_each: _,
+        loss: _,
     } = one;
     let Peer {
         own: _,
@@ -37,8 +36,7 @@ fn meet<R: Wait>(rt: &R, alloc: Global, one: Peer, other: Peer) -> Result<(), Me
         dealt: _,
         addressed: _,
         again: _,
-        drop_each: _,
-        double_each: _,
+        loss: _,
     } = other;
     let _first = settle(rt, alloc, back, here)?;
     let _second = settle(rt, alloc, away, there)?;

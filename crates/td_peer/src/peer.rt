@@ -1,3 +1,4 @@
+use crate::loss::Loss;
 use crate::parcel::Parcel;
 use std::marker::Model;
 use td_base::Site;
@@ -18,8 +19,7 @@ pub struct Peer {
     pub(crate) addressed: u64,
     // the next has been sent once, and is to be sent again
     pub(crate) again: bool,
-    pub(crate) drop_each: u32,
-    pub(crate) double_each: u32,
+    pub(crate) loss: Loss,
 }
 
 impl Model for Peer {
@@ -36,7 +36,7 @@ impl Model for Peer {
       dealt = p.dealt;
       addressed = p.addressed;
       again = p.again;
-      loss = record { drop_each = p.drop_each; double_each = p.double_each };
+      loss = p.loss;
     } };
 
     ghost invariant = { λ p. IsPeer p.own p.site p.inbox p.outbox p.waiting p.dealt p.addressed };

@@ -5,7 +5,7 @@ ghost use Rattle.td_peer.specs.declared.parcel.Parcel.{Parcel};
 ghost use Rattle.td_link.specs.Moments.{WasFull};
 ghost use Rattle.td_peer.specs.Serving.{Serves, LaterPeer, SentOrNothing, SentAtMostOne, sent_more, times, passed, noted};
 
-use crate::loss::{copies, is_addressed};
+use crate::loss::is_addressed;
 use crate::parcel::Parcel;
 use crate::peer::Peer;
 use std::sync::Wait;
@@ -148,6 +148,6 @@ impl Peer {
         if !is_addressed(self.site, message) {
             return 0;
         }
-        copies(self.drop_each, self.double_each, self.addressed + 1)
+        self.loss.copies(self.addressed + 1)
     }
 }
