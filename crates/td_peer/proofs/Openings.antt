@@ -7,6 +7,7 @@ use Rattle.td_meeting.specs.Thin.{Loss}
 use Rattle.td_meeting.specs.Rows.{MatchesFirsts, AllMatch}
 use Rattle.td_meeting.proofs.Matching.{others_from, first_kept, first_left}
 use Rattle.td_peer.specs.Peers.{PeerState, Linked}
+use Rattle.td_peer.specs.declared.opening.TheConstants.{PLACES}
 use Rattle.td_peer.specs.Opening.{IsFresh, IsFreshRow, AreFreshRows, Paired, OpensNext, OpensFirst}
 
 abbrev pub sites : List PeerState → List ℕ
@@ -101,7 +102,7 @@ opens_first first last lost whole row (r ∷ rows) done o none = absurd (omega (
 -- what a worker keeps for the others of so many sites from this one on
 pub record IsFreshFrom (begin count site : ℕ) (lost : Loss) (row : List PeerState) : Type 0 where
   pub in_order : sites row ≡ others_from begin count site
-  pub fresh : AllByRecursion (λ (p : PeerState). IsFresh site p.site lost p) row
+  pub fresh : AllByRecursion (λ (p : PeerState). IsFresh site p.site PLACES lost p) row
 
 -- the rows of so many sites, from this one on
 abbrev pub AllFreshFrom : ℕ → ℕ → Loss → List (List PeerState) → Type 0
@@ -118,7 +119,7 @@ matches_weaker R S (x ∷ row) ([] ∷ rows) h m = absurd m
 matches_weaker R S (x ∷ row) ((y ∷ ys) ∷ rows) h m = (h x y m.0, matches_weaker R S row rows h m.1)
 
 mine_fresh : (first : ℕ) (lost : Loss) (row : List PeerState) (rows : List (List PeerState))
-    → MatchesFirsts (Paired first lost) row rows → AllByRecursion (λ (p : PeerState). IsFresh first p.site lost p) row
+    → MatchesFirsts (Paired first lost) row rows → AllByRecursion (λ (p : PeerState). IsFresh first p.site PLACES lost p) row
 mine_fresh first lost [] rows m = tt
 mine_fresh first lost (p ∷ row) [] m = absurd m
 mine_fresh first lost (p ∷ row) ([] ∷ rows) m = absurd m
@@ -133,11 +134,11 @@ tail_same x y xs ys e = cc
 module _ (first m : ℕ) (lost : Loss) where
   -- the row of a site behind the first, which it has something for in front now
   one_fresh : (site other : ℕ) (q : PeerState) (qs : List PeerState) → first < site → other ≡ site
-      → IsFresh other first lost q → IsFreshFrom (first + 1) m site lost qs → IsFreshFrom first (suc m) site lost (q ∷ qs)
+      → IsFresh other first PLACES lost q → IsFreshFrom (first + 1) m site lost qs → IsFreshFrom first (suc m) site lost (q ∷ qs)
   one_fresh site other q qs below same f h =
       record {
         in_order = (λ i. is_first i ∷ h.in_order i) ∙ sym (first_kept first m site (differs first site below));
-        fresh = (subst (λ (k : ℕ × ℕ). IsFresh k.0 k.1 lost q) (λ i. (same i, sym is_first i)) f, h.fresh);
+        fresh = (subst (λ (k : ℕ × ℕ). IsFresh k.0 k.1 PLACES lost q) (λ i. (same i, sym is_first i)) f, h.fresh);
       }
     where
       is_first : q.site ≡ first

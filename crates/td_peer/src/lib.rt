@@ -6,6 +6,7 @@
 #![tactic(auto)]
 
 mod hearing;
+mod laws;
 mod loss;
 mod meeting;
 mod opening;
@@ -14,6 +15,10 @@ mod peer;
 mod row;
 mod telling;
 
+pub use laws::{
+    fresh_peers_owe_nothing, linked_peers_stay_linked, no_packet_was_there,
+    nothing_is_left_to_send, peers_serve_on,
+};
 pub use loss::Loss;
 pub use meeting::meet_all;
 pub use opening::{PLACES, open_rows};

@@ -107,7 +107,7 @@ fn open_next(
     ensures { OnOk result (OpensNext first other loss row.old row.new rows.old.items rows.new.items
         done.old.items done.new.items) }
 {
-    let (one, twin) = pair(alloc, first, other, loss)?;
+    let (one, twin) = pair(alloc, first, other, PLACES, loss)?;
     let mut behind = rows.remove(0);
     behind.put_first(twin)?;
     row.push(one)?;
@@ -115,14 +115,22 @@ fn open_next(
     Ok(())
 }
 
-// What the workers of two sites keep for each other, over two new links.
-fn pair(alloc: Global, one: Site, other: Site, loss: Loss) -> Result<(Peer, Peer), Memory>
+// What the workers of two sites keep for each other, over two new links of so many places.
+pub(crate) fn pair(
+    alloc: Global,
+    one: Site,
+    other: Site,
+    places: u32,
+    loss: Loss,
+) -> Result<(Peer, Peer), Memory>
+    requires some { 0 < places }
+    requires few { places ≤ 65536 }
     ensures linked { IfOk result (λ r. Linked r.0 r.1) }
-    ensures one { IfOk result (λ r. IsFresh one other loss r.0) }
-    ensures other { IfOk result (λ r. IsFresh other one loss r.1) }
+    ensures one { IfOk result (λ r. IsFresh one other places loss r.0) }
+    ensures other { IfOk result (λ r. IsFresh other one places loss r.1) }
 {
-    let (away, there) = link::<Parcel>(alloc, PLACES, one)?;
-    let (back, here) = link::<Parcel>(alloc, PLACES, other)?;
+    let (away, there) = link::<Parcel>(alloc, places, one)?;
+    let (back, here) = link::<Parcel>(alloc, places, other)?;
     Ok((
         Peer::new(one, other, here, away, loss),
         Peer::new(other, one, there, back, loss),
