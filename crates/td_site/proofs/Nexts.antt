@@ -17,6 +17,7 @@ use Rattle.td_machine.specs.Step.{step}
 use Rattle.td_machine.specs.Taking.{misfit, forget, waited, next_of, take_as, answer, vote_on}
 use Rattle.td_machine.proofs.StepKinds.{least_in}
 use Rattle.td_replica.specs.Replica.{ReplicaValue, after_step, is_idle}
+use Rattle.td_site.specs.Sites.{SiteValue}
 use Rattle.td_site.specs.Later.{IsNext, OnlyNexts}
 use Rattle.td_site.proofs.Lists.{all_both, filter_fewer}
 
@@ -53,6 +54,15 @@ next_fewer m e = at (next_ready m.have m.waiting) refl e
         cases None h =
             subst (λ (l : List OpValue). length l < length m.waiting)
             (sym (take_waiting (proposed x.body) x (forget x m))) h
+
+-- the same of a site that makes the step and shows it
+pub fewer_wait : (s t u : SiteValue) → not (is_idle (step s.replica.machine Next).reply) ≡ true
+    → t ≡ record { replica = after_step Next s.replica; writer = s.writer; late = true } → u.replica ≡ t.replica
+    → length u.replica.machine.waiting < length s.replica.machine.waiting
+fewer_wait s t u ready stepped shown =
+    let is : u.replica ≡ after_step Next s.replica = shown ∙ ap (λ (x : SiteValue). x.replica) stepped in
+    subst (λ (r : ReplicaValue). length r.machine.waiting < length s.replica.machine.waiting) (sym is)
+    (next_fewer s.replica.machine ready)
 
 -- ---- histories
 
