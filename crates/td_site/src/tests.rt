@@ -8,7 +8,7 @@ use std::sync::Wait;
 use std::test::Fail;
 use td_base::{Atom, Dot};
 use td_doc::Rows;
-use td_op::{Input, Message, Reply, Request};
+use td_op::{Input, Reply, Request};
 use td_replica::Replica;
 use td_view::{Opener, Reader, Shown, views};
 
@@ -102,30 +102,39 @@ fn each_step_is_shown_and_a_refused_request_too(rt: HostRuntime) -> Result<(), F
     Ok(())
 }
 
-// What the second site of two sends that writes these letters.
-fn sends(alloc: Global, letters: [u8; 3]) -> Result<[Message; 3], Fail> {
-    let mut replica = replica(alloc, 2)?;
-    let [first, second, third] = letters;
-    replica.step(Input::Local(put(0, first)?))?;
-    replica.step(Input::Local(put(1, second)?))?;
-    replica.step(Input::Local(put(2, third)?))?;
-    let sent = |k| replica.sent_at(k).ok_or("a message");
-    Ok([sent(1)?, sent(2)?, sent(3)?])
+fn write(replica: &mut Replica<Rows>, index: u32, letter: u8) -> Result<(), Fail> {
+    replica.step_on(&Input::Local(put(index, letter)?))?;
+    Ok(())
+}
+
+// The site takes this message of the replica with this reply, and then what it may take and shows it all.
+fn take<R: Wait + Abort>(
+    rt: &R,
+    site: &mut Site<Rows>,
+    from: &Replica<Rows>,
+    message: u64,
+    reply: Reply,
+)
+    requires { site.old.late ≡ false }
+    ensures { site.new.late ≡ false }
+{
+    let message = from.sent_at(message).expect(rt, "a message");
+    assert_eq!(rt; site.step(&Input::Take(message)), Ok(reply));
+    assert_eq!(rt; site.catch_up(rt), Ok(()));
 }
 
 #[test]
 fn what_waited_is_taken_and_shown(rt: HostRuntime) -> Result<(), Fail> {
-    let [first, second, third] = sends(rt.alloc(), *b"xyz")?;
+    let mut other = replica(rt.alloc(), 2)?;
+    write(&mut other, 0, b'x')?;
+    write(&mut other, 1, b'y')?;
+    write(&mut other, 2, b'z')?;
     let (mut site, mut reader) = open(&rt, rt.alloc())?;
-    act(&rt, &mut site, &Input::Take(third), Reply::Later);
-    act(&rt, &mut site, &Input::Take(second), Reply::Later);
+    take(&rt, &mut site, &other, 3, Reply::Later);
+    take(&rt, &mut site, &other, 2, Reply::Later);
     reads(&rt, &mut reader, 2, "");
-    assert_eq!(rt; site.step(&Input::Take(first)), Ok(Reply::New));
-    reads(&rt, &mut reader, 2, "");
-    assert_eq!(rt; site.catch_up(&rt), Ok(()));
+    take(&rt, &mut site, &other, 1, Reply::New);
     reads(&rt, &mut reader, 5, "xyz");
-    assert_eq!(rt; site.catch_up(&rt), Ok(()));
-    assert_eq!(rt; site.replica().entries(), 5);
     site.quit(&rt);
     Ok(())
 }
