@@ -4,7 +4,6 @@ use Rattle.td_base.proofs.Equals.{same_dot_refl}
 use Rattle.td_base.specs.Lists.{In}
 use Rattle.td_base.proofs.Lists.{In-filter}
 use Rattle.td_path.specs.declared.slot.Slot.{Slot}
-use Rattle.td_op.specs.declared.entry.Entry.{Entry}
 use Rattle.td_op.specs.declared.input.Input.TheVariants.{Next}
 use Rattle.td_op.specs.declared.reply.Why.{Why}
 use Rattle.td_op.specs.Op.{OpValue}

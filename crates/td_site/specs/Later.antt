@@ -1,5 +1,5 @@
 -- A site that goes on.
-use Rattle.std.specs.Prelude.{◌≡◌, ◌++◌, Bool, false, not}
+use Rattle.std.specs.Prelude.{◌≡◌, ◌++◌, false, not}
 use Rattle.std.specs.List.{AllByRecursion}
 use mathlib.Core.List.{IsPrefix}
 use Rattle.td_op.specs.declared.entry.Entry.{Entry}
