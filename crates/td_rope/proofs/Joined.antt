@@ -1,5 +1,5 @@
 -- Parts, one after another.
-use Rattle.std.proofs.Common.{◌≡◌, ◌<◌, ◌≤◌, ◌+◌, ◌-◌, ◌++◌, ◌∷◌, [], ℕ, zero, suc, List, length, take, drop, set, get_or, refl, sym, ap, subst, ◌∙◌, arith, append_assoc, length-append, length-drop, add-one}
+use Rattle.std.proofs.Common.{◌≡◌, ◌<◌, ◌≤◌, ◌+◌, ◌-◌, ◌++◌, ◌∷◌, [], ℕ, zero, suc, List, length, take, drop, set, get_or, refl, sym, ap, ◌∙◌, arith, append_assoc, length-append, length-drop, add-one}
 use Rattle.std.specs.Prelude.{slice_get, slice_range, insert, remove, Some}
 use Rattle.std.specs.List.{concat, flat_map, insert_slice}
 use Rattle.std.proofs.lemmas.List.Folds.{concat-append}

@@ -1,16 +1,15 @@
 -- How a chunk keeps its atoms.
 use Rattle.std.proofs.Common.{◌≡◌, ◌<◌, ◌≤◌, ◌+◌, ◌-◌, ◌^◌, ◌++◌, ◌∷◌, [], ℕ, suc, List, length, map, take, drop, get_or, sum, refl, sym, ap, subst, ◌∙◌, arith, length-append, length-drop, add-one}
-use Rattle.std.specs.Prelude.{slice_get, slice_range, remove, Some, min, ◌⊎◌}
+use Rattle.std.specs.Prelude.{slice_range, remove, min}
 use Rattle.std.proofs.Common.{⊎_elim}
 use Rattle.std.proofs.lemmas.Bool.{cases_lt}
 use Rattle.std.specs.List.{All, concat, insert_slice, take-map, drop-map}
-use Rattle.std.proofs.lemmas.List.{map-append, take-append-drop, append-nil, take_more, get_or-map, length-take, take_min, take_all}
+use Rattle.std.proofs.lemmas.List.{map-append, take-append-drop, append-nil, length-take, take_min, take_all}
 use Rattle.std.proofs.lemmas.List.Folds.{concat-append}
 use Rattle.std.proofs.lemmas.List.Elements.{All-append, All-take, All-drop}
 use Rattle.std.proofs.Math.Seq.{take-add, take-append_seam, drop-append_seam, drop-cons}
 use Rattle.td_base.specs.Atom.{IsAtom}
 use Rattle.td_base.specs.Run.{pieces}
-use Rattle.td_base.proofs.RunLemmas.{concat_push}
 use Rattle.td_base.proofs.RunPieces.{length_concat, piece_bytes, piece_lengths, pieces_again}
 use Rattle.td_rope.specs.ChunkParts.{IsChunkParts}
 use Rattle.td_rope.proofs.Joined.{length_put, length_removed, no_range, range_behind}

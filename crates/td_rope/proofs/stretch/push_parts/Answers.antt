@@ -1,4 +1,4 @@
-use Rattle.std.proofs.Common.{◌≡◌, ◌+◌, ◌∙◌, ap, sym, arith}
+use Rattle.std.proofs.Common.{◌+◌, ◌∙◌, ap, sym, arith}
 use Rattle.td_rope.proofs.Results.{of_ok}
 use Rattle.td_rope.proofs.Joined.{more_within, length_more, bytes_more}
 use Rattle.td_rope.proofs.stretch.push_parts.Goals as goal

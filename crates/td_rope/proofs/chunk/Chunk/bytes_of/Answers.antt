@@ -1,4 +1,4 @@
-use Rattle.std.proofs.Common.{◌≡◌, ◌≤◌, ◌∙◌, List, ℕ, sym, ap, take, subst, length, arith}
+use Rattle.std.proofs.Common.{◌∙◌, List, ℕ, sym, ap, take, subst, length, arith}
 use Rattle.std.specs.List.{All, concat, slice_range}
 use Rattle.td_base.specs.Atom.{IsAtom}
 use Rattle.td_rope.proofs.Pieces.{starts, ends_within, stretch_bytes}

@@ -1,4 +1,4 @@
-use Rattle.std.proofs.Common.{◌≡◌, ◌∙◌, List, ℕ, sym, ap, take, length, sum, arith}
+use Rattle.std.proofs.Common.{◌∙◌, List, ℕ, sym, ap, take, length, sum, arith}
 use Rattle.std.specs.List.{concat}
 use Rattle.std.proofs.lemmas.List.{length-take-le}
 use Rattle.td_base.specs.Run.{pieces}

@@ -1,4 +1,4 @@
-use Rattle.std.proofs.Common.{◌≡◌, ◌∙◌, List, ℕ, sym, ap, length, arith}
+use Rattle.std.proofs.Common.{◌∙◌, List, ℕ, sym, ap, length, arith}
 use Rattle.std.specs.List.{concat, slice_range}
 use Rattle.td_rope.proofs.Pieces.{count_pieces, stretch_parts}
 use Rattle.td_rope.proofs.chunk.Chunk.stretch.Goals as goal

@@ -1,4 +1,4 @@
-use Rattle.std.proofs.Common.{◌≡◌, ◌<◌, ◌∙◌, List, ℕ, [], sym, ap, get_or, subst, length, arith, Some}
+use Rattle.std.proofs.Common.{◌∙◌, [], sym, ap, subst, Some}
 use Rattle.std.proofs.lemmas.Option.{slice_get-get_or}
 use Rattle.td_base.specs.Atom.{IsAtom}
 use Rattle.td_rope.proofs.Pieces.{one_atom}

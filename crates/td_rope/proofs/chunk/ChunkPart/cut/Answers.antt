@@ -1,4 +1,4 @@
-use Rattle.std.proofs.Common.{◌≡◌, ◌<◌, ◌+◌, ◌∙◌, List, ℕ, sym, ap, take, length, arith}
+use Rattle.std.proofs.Common.{◌+◌, ◌∙◌, List, ℕ, sym, ap, take, length, arith}
 use Rattle.std.specs.List.{concat, remove}
 use Rattle.td_rope.proofs.Pieces.{count_pieces, starts, ends_within, cut_parts}
 use Rattle.td_rope.proofs.chunk.ChunkPart.cut.Goals as goal

@@ -1,4 +1,4 @@
-use Rattle.std.proofs.Common.{◌≡◌, ◌<◌, ◌+◌, ◌^◌, ◌∙◌, List, ℕ, sym, ap, take, map, length, arith}
+use Rattle.std.proofs.Common.{◌≡◌, ◌∙◌, List, ℕ, sym, ap, take, map, length, arith}
 use Rattle.std.specs.List.{concat, insert_slice}
 use Rattle.std.proofs.lemmas.List.{take_at, length-map}
 use Rattle.td_rope.proofs.Pieces.{count_pieces, ends_within, put_parts}

@@ -1,4 +1,4 @@
-use Rattle.std.proofs.Common.{◌≡◌, ◌++◌, ◌∙◌, List, ap, sym, take, drop, length, arith, length-append}
+use Rattle.std.proofs.Common.{◌≡◌, ◌++◌, ◌∙◌, ap, sym, take, drop, length, arith, length-append}
 use Rattle.std.specs.List.{flat_map}
 use Rattle.td_rope.proofs.Joined.{joined_parted}
 use Rattle.td_rope.proofs.row.RowPart.part.Goals as goal

@@ -1,4 +1,4 @@
-use Rattle.std.proofs.Common.{◌≡◌, ◌∙◌, ap, length, arith}
+use Rattle.std.proofs.Common.{◌≡◌, ap, length, arith}
 use Rattle.std.specs.List.{flat_map}
 use Rattle.td_rope.proofs.row.RowPart.push_range.Goals as goal
 

@@ -1,4 +1,4 @@
-use Rattle.std.proofs.Common.{◌≡◌, ◌∙◌, ◌<◌, ◌≤◌, List, ℕ, sym, ap, subst, length, arith}
+use Rattle.std.proofs.Common.{◌≡◌, ◌∙◌, List, sym, ap, subst, length, arith}
 use Rattle.std.specs.List.{flat_map}
 use Rattle.td_rope.specs.Seats.{IsSeat}
 use Rattle.td_rope.proofs.Results.{on_err}
