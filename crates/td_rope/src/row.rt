@@ -70,7 +70,6 @@ impl<P: Part> Part for Row<P> {
     }
 
     fn part(&mut self, alloc: Global, index: u32) -> Result<Row<P>, Memory> {
-        let _ = alloc;
         if self.parts.is_empty() {
             return Ok(Row::new(alloc));
         }

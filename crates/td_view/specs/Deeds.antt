@@ -19,10 +19,10 @@ abbrev pub State : Type 0
 State = ℕ × ℕ × ℕ × List (List ℕ) × Past
 
 abbrev pub state_of : Shown → State
-state_of x = (x.upto, x.last, x.count, x.atoms.items, x.past)
+state_of x = (x.upto, x.last, x.count, x.atoms, x.past)
 
 abbrev pub publish_of : Shown → Publish
-publish_of x = publish x.upto x.atoms.items x.last
+publish_of x = publish x.upto x.atoms x.last
 
 abbrev pub done_by : State → Deed → State
 done_by s (Alter change) = (s.0, s.1, s.2, changed change s.3, s.4)

@@ -1,9 +1,10 @@
 -- The rule of the table: what ties the text that is shown to the history.
-use Rattle.std.specs.Prelude.{◌≡◌, ◌≢◌, ℕ, List, length, Option, Some, None}
+use Rattle.std.specs.Prelude.{◌≡◌, ◌≢◌, ℕ, List, [], ◌∷◌, ◌++◌, length, Some, None}
 use Rattle.std.proofs.Props.{props}
 use mathlib.Core.Option.{some}
 use lib.ListN.{get_elem?}
 use Rattle.td_view.specs.declared.shown.Shown.{Shown}
+use Rattle.td_view.specs.declared.table.Named.{Named}
 use Rattle.td_view.specs.Publishes.{IsLegal, EndsWith, legal_prop}
 use Rattle.td_view.specs.Deeds.{Past, publish_of}
 
@@ -17,11 +18,23 @@ pub stands_prop : (x : Shown) → IsProp (Stands x)
 stands_prop x = hlevel (props, legal_prop x.past.log)
 
 -- and each seat that knows a history knows the one of which this is a beginning
-abbrev pub Tied : Shown → List (Option Past) → Type 0
+abbrev pub Tied : Shown → List Named → Type 0
 Tied x views =
     Stands x
-    × ((seat : ℕ) (v : Option Past) → get_elem? views seat ≡ some v → (p : Past) → v ≡ Some p → p.book ≡ x.past.book)
+    × ((seat : ℕ) (v : Named) → get_elem? views seat ≡ some v → (p : Past) → v.of ≡ Some p → p.book ≡ x.past.book)
+
+-- a seat that knows nothing yet
+abbrev pub nobody : Named
+nobody = record { of = None; given = [] }
+
+-- one text more was given to it
+abbrev pub given_more : Named → Past → Named
+given_more v past = record v { given = v.given ++ past ∷ [] }
 
 -- the seat knows the history of which this is a beginning
-abbrev pub Knows : Past → Option Past → Type 0
-Knows past v = (v ≢ None) × ((p : Past) → v ≡ Some p → p.book ≡ past.book)
+abbrev pub Knows : Past → Named → Type 0
+Knows past v = (v.of ≢ None) × ((p : Past) → v.of ≡ Some p → p.book ≡ past.book)
+
+-- it does, and no text was given to it
+abbrev pub IsFresh : Past → Named → Type 0
+IsFresh past v = Knows past v × (v.given ≡ [])

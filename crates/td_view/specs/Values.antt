@@ -31,10 +31,12 @@ pub record ReaderValue : Type 0 where
   pub known : List Publish
   -- how often a reading was refused, as far as a number goes
   pub refused : ℕ
+  -- each text that `left_right` gave it, in order, by what was published up to that text
+  pub given : List (List Publish)
 
 -- a reader that has not looked since this was published
 abbrev pub new_reader : Book → List Publish → ReaderValue
-new_reader views list = record { views = views; seen = list; known = list; refused = 0 }
+new_reader views list = record { views = views; seen = list; known = list; refused = 0; given = [] }
 
 pub record ToldValue : Type 0 where
   -- of which views

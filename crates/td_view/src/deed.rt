@@ -1,12 +1,13 @@
-ghost use Rattle.std.specs.Prelude.{◌≡◌, ◌<◌, ◌^◌, length, MatchOption, MatchResult};
-ghost use Rattle.td_op.specs.Change.{changed, put_count, CanChange};
+ghost use Rattle.std.specs.Prelude.{◌≡◌, MatchOption, MatchResult, OnErr, OnOk};
+ghost use Rattle.td_op.specs.Change.{changed, CanChange};
 
 use crate::history::Past;
 use crate::shown::Shown;
 use left_right::Absorb;
 use std::alloc::AllocError;
-use td_base::Atom;
+use td_base::{Atom, Memory};
 use td_op::Change;
+use td_rope::Rope;
 
 /// What is done to a text that is not shown yet.
 #[derive(Drop)]
@@ -50,34 +51,42 @@ impl Absorb<Deed> for Shown {
     }
 }
 
-// Does a change, or nothing where there is no room.
-fn alter(atoms: &mut Vec<Atom>, change: &Change) -> Result<(), AllocError>
-    requires { length atoms.old.items < 2 ^ 32 }
-    ensures few { length atoms.new.items < 2 ^ 32 }
-    ensures atoms { MatchResult result
-        (λ _. atoms.new.items ≡ changed change.now atoms.old.items)
-        (λ _. atoms.new.items ≡ atoms.old.items) }
+// Does a change as far as it is in range.
+fn alter(atoms: &mut Rope, change: &Change) -> Result<(), AllocError>
+    ensures { MatchResult result (λ _. atoms.new ≡ changed change.now atoms.old) (λ _. atoms.new ≡ atoms.old) }
 {
     let Some(change) = in_range(change, atoms) else {
         return Ok(());
     };
-    let more = usize::from(room_for(&change));
-    if atoms.len() + more > u32::MAX as usize {
-        return Err(AllocError);
+    match do_change(atoms, &change) {
+        Ok(()) => Ok(()),
+        Err(Memory) => Err(AllocError),
     }
-    atoms.reserve(more)?;
-    change.apply(atoms);
-    Ok(())
+}
+
+// Does a change that is in range.
+fn do_change(atoms: &mut Rope, change: &Change) -> Result<(), Memory>
+    requires { CanChange change.now atoms.old }
+    ensures ok { OnOk result (atoms.new ≡ changed change.now atoms.old) }
+    ensures err { OnErr result (atoms.new ≡ atoms.old) }
+{
+    match *change {
+        Change::Put { index, atom } => atoms.put(index, atom),
+        Change::PutRun { index, run } => atoms.put_run(index, &run),
+        Change::Cut { index } => {
+            atoms.cut(index);
+            Ok(())
+        }
+    }
 }
 
 // The change with an index that is in range. None where it changes nothing.
-fn in_range(change: &Change, atoms: &[Atom]) -> Option<Change>
-    requires { length atoms.now < 2 ^ 32 }
+fn in_range(change: &Change, atoms: &Rope) -> Option<Change>
     ensures { MatchOption result
         (changed change.now atoms.now ≡ atoms.now)
         (λ fit. CanChange fit atoms.now × (changed fit atoms.now ≡ changed change.now atoms.now)) }
 {
-    let end = atoms.len() as u32;
+    let end = atoms.len();
     match *change {
         Change::Put { index, atom } => Some(Change::Put {
             index: index.min(end),
@@ -94,16 +103,5 @@ fn in_range(change: &Change, atoms: &[Atom]) -> Option<Change>
                 None
             }
         }
-    }
-}
-
-// How many atoms a change puts.
-fn room_for(change: &Change) -> u8
-    ensures { result ≡ put_count change.now }
-{
-    match change {
-        Change::Put { .. } => 1,
-        Change::PutRun { run, .. } => run.len(),
-        Change::Cut { .. } => 0,
     }
 }

@@ -73,13 +73,13 @@ fn count_down<R: Wait>(
     requires shown { press.desk.shown.value.past ≡ past.now }
     requires upto { press.desk.shown.value.upto ≡ upto }
     requires nothing { drop press.behind press.log.items ≡ [] }
-    requires legal { IsLegal (past.now.log ++ publish upto press.desk.shown.value.atoms.items last ∷ []) }
+    requires legal { IsLegal (past.now.log ++ publish upto press.desk.shown.value.atoms last ∷ []) }
     ensures stands { IfSome result.1 (λ next. Stands result.0.desk.shown.value
         × (result.0.desk.shown.value.past ≡ next) × (drop result.0.behind result.0.log.items ≡ [])) }
     ensures same { IfSome result.1 (λ next.
-        publish_of result.0.desk.shown.value ≡ publish upto press.desk.shown.value.atoms.items last) }
+        publish_of result.0.desk.shown.value ≡ publish upto press.desk.shown.value.atoms last) }
     ensures past { IfSome result.1 (λ next. (next.book ≡ past.now.book)
-        × (next.log ≡ past.now.log ++ publish upto press.desk.shown.value.atoms.items last ∷ [])) }
+        × (next.log ≡ past.now.log ++ publish upto press.desk.shown.value.atoms last ∷ [])) }
 {
     let mut press = press;
     let Some(next) = enter(head, past, count, press.published(), upto, &[], last) else {

@@ -5,7 +5,7 @@ ghost use Rattle.td_view.specs.declared.views_fault.ViewsFault.TheVariants.{Refu
 ghost use Rattle.td_view.specs.History.{head_of};
 ghost use Rattle.td_view.specs.Publishes.{start};
 ghost use Rattle.td_view.specs.Deeds.{publish_of};
-ghost use Rattle.td_view.specs.Tied.{Stands, Knows};
+ghost use Rattle.td_view.specs.Tied.{Stands, IsFresh};
 ghost use Rattle.td_view.specs.Values.{new_reader, one_more};
 
 use crate::history::{Head, Past};
@@ -18,6 +18,7 @@ use crate::writer::Writer;
 use logbook::{Seen, Start, Word};
 use std::alloc::{AllocError, Global};
 use std::sync::Wait;
+use td_rope::Rope;
 
 /// A writer, and so many readers of what it publishes.
 pub fn views<R: Wait>(
@@ -69,10 +70,10 @@ fn first_press<R: Wait>(
     ensures stands { IfOk result (λ press. Stands press.desk.shown.value
         × (publish_of press.desk.shown.value ≡ start) × (press.desk.shown.value.past ≡ past.now)) }
     ensures nothing { IfOk result (λ press. drop press.behind press.log.items ≡ []) }
-    ensures knows { IfOk result (λ press. Knows past.now (seat press.desk.place)) }
+    ensures fresh { IfOk result (λ press. IsFresh past.now (seat press.desk.place)) }
 {
-    let one = Shown::start(Vec::new(alloc), past.again());
-    let two = Shown::start(Vec::new(alloc), past.again());
+    let one = Shown::start(Rope::new(alloc), past.again());
+    let two = Shown::start(Rope::new(alloc), past.again());
     let press = Press::new(alloc, one, two, readers as usize)?;
     let (press, named) = name(rt, press);
     if named.is_err() {
@@ -90,7 +91,7 @@ fn name<R: Wait>(rt: &R, press: Press) -> (Press, Result<(), AllocError>)
         × (publish_of result.0.desk.shown.value ≡ publish_of press.desk.shown.value)
         × (result.0.desk.shown.value.past ≡ press.desk.shown.value.past)
         × (drop result.0.behind result.0.log.items ≡ [])
-        × Knows result.0.desk.shown.value.past (seat result.0.desk.place)) }
+        × IsFresh result.0.desk.shown.value.past (seat result.0.desk.place)) }
 {
     press.publish_as::<Names, R>(rt)
 }
@@ -104,7 +105,7 @@ fn row(
     readers: u32,
 ) -> (Press, Result<Vec<Reader>, ViewsFault>)
     requires past { length past.now.log ≡ 1 }
-    requires knows { Knows past.now (seat press.desk.place) }
+    requires fresh { IsFresh past.now (seat press.desk.place) }
     ensures kept { (result.0.desk.shown ≡ press.desk.shown)
         × (drop result.0.behind result.0.log.items ≡ drop press.behind press.log.items) }
     ensures readers { IfOk result.1 (λ all. all.items ≡ replicate readers (new_reader past.now.book past.now.log)) }
@@ -129,11 +130,11 @@ fn row(
 
 // A seat that knows the history.
 fn looker(press: &mut Press, past: &Past) -> Result<Looker, AllocError>
-    requires { Knows past.now (seat press.old.desk.place) }
+    requires { IsFresh past.now (seat press.old.desk.place) }
     ensures kept { (press.new.desk.shown ≡ press.old.desk.shown)
         × (drop press.new.behind press.new.log.items ≡ drop press.old.behind press.old.log.items)
         × (seat press.new.desk.place ≡ seat press.old.desk.place) }
-    ensures knows { IfOk result (λ looker. Knows past.now (seat looker.place)) }
+    ensures fresh { IfOk result (λ looker. IsFresh past.now (seat looker.place)) }
 {
     let _ = past;
     let mut reader = press.factory().reader()?;

@@ -27,10 +27,10 @@ pub fn enter(
 ) -> Option<Past>
     requires head { head.now ≡ head_of past.now.book }
     requires count { (count ≡ length past.now.log) × (count < 2 ^ 63) }
-    requires legal { IsLegal (past.now.log ++ publish upto (changed_all changes.now shown.now.atoms.items) last ∷ []) }
+    requires legal { IsLegal (past.now.log ++ publish upto (changed_all changes.now shown.now.atoms) last ∷ []) }
     ensures book { IfSome result (λ next. next.book ≡ past.now.book) }
     ensures log { IfSome result (λ next.
-        next.log ≡ past.now.log ++ publish upto (changed_all changes.now shown.now.atoms.items) last ∷ []) }
+        next.log ≡ past.now.log ++ publish upto (changed_all changes.now shown.now.atoms) last ∷ []) }
 {
     enter_picked::<Brand>(head, past, count, shown, upto, changes, last)
 }
@@ -45,13 +45,13 @@ fn enter_picked<K: Entry>(
     changes: &[Change],
     last: u64,
 ) -> Option<Past>
-    requires entry { K.entry ≡ publish upto (changed_all changes.now shown.now.atoms.items) last }
+    requires entry { K.entry ≡ publish upto (changed_all changes.now shown.now.atoms) last }
     requires head { head.now ≡ head_of past.now.book }
     requires count { (count ≡ length past.now.log) × (count < 2 ^ 63) }
-    requires legal { IsLegal (past.now.log ++ publish upto (changed_all changes.now shown.now.atoms.items) last ∷ []) }
+    requires legal { IsLegal (past.now.log ++ publish upto (changed_all changes.now shown.now.atoms) last ∷ []) }
     ensures book { IfSome result (λ next. next.book ≡ past.now.book) }
     ensures log { IfSome result (λ next.
-        next.log ≡ past.now.log ++ publish upto (changed_all changes.now shown.now.atoms.items) last ∷ []) }
+        next.log ≡ past.now.log ++ publish upto (changed_all changes.now shown.now.atoms) last ∷ []) }
 {
     let _ = shown;
     let _ = changes;
@@ -118,11 +118,11 @@ pub fn show<R: Wait>(
     requires counted { count ≡ length next.now.log }
     requires legal { IsLegal next.now.log }
     requires ends { EndsWith next.now.log
-        (publish upto (changed_all changes.now press.desk.shown.value.atoms.items) last) }
+        (publish upto (changed_all changes.now press.desk.shown.value.atoms) last) }
     requires book { next.now.book ≡ press.desk.shown.value.past.book }
     ensures stands { IfOk result.1 (λ _. Stands result.0.desk.shown.value) }
     ensures shown { IfOk result.1 (λ _. state_of result.0.desk.shown.value
-        ≡ (upto, last, count, changed_all changes.now press.desk.shown.value.atoms.items, next.now)) }
+        ≡ (upto, last, count, changed_all changes.now press.desk.shown.value.atoms, next.now)) }
     ensures nothing { IfOk result.1 (λ _. drop result.0.behind result.0.log.items ≡ []) }
     ensures same { IfErr result.1 (λ _. (result.0.desk.shown.value ≡ press.desk.shown.value)
         × (drop result.0.behind result.0.log.items ≡ drop press.behind press.log.items)) }

@@ -1,12 +1,13 @@
-ghost use Rattle.std.specs.Prelude.{◌≡◌, length, IfNone, IfSome};
+ghost use Rattle.std.specs.Prelude.{◌≡◌, ◌++◌, ◌∷◌, [], length, IfNone, IfSome};
 ghost use Rattle.std.specs.Fn.{FnOnceReturnsAt};
 ghost use mathlib.Core.List.{IsPrefix};
 ghost use Rattle.left_right.specs.Sides.{view as seat};
 ghost use Rattle.td_view.specs.declared.shown.Shown.{Shown};
 ghost use Rattle.td_view.specs.Publishes.{IsLegal, EndsWith};
 ghost use Rattle.td_view.specs.Deeds.{publish_of};
-ghost use Rattle.td_view.specs.Tied.{Knows};
+ghost use Rattle.td_view.specs.Tied.{IsFresh};
 ghost use Rattle.td_view.specs.Values.{new_reader, one_more};
+ghost use Rattle.td_view.specs.Looks.{IsMissed};
 
 use crate::beginnings::{compare, longer};
 use crate::history::Past;
@@ -18,8 +19,8 @@ use crate::view_mark::ViewMark;
 use std::marker::Model;
 
 /// Who looks at what a writer publishes, and never waits. It may go to another thread. Contracts see which views it
-/// reads, what was published up to its last look, the longest list that it saw or learnt, and how often a reading was
-/// refused.
+/// reads, what was published up to its last look, the longest list that it saw or learnt, how often a reading was
+/// refused, and each text that `left_right` gave it.
 #[derive(Drop)]
 pub struct Reader {
     // None only within a look
@@ -36,11 +37,18 @@ impl Model for Reader {
     ghost use Rattle.left_right.specs.Sides.{view as seat};
     ghost use Rattle.td_view.specs.Tied.{Knows};
     ghost use Rattle.td_view.specs.Values.{ReaderValue};
+    ghost use Rattle.td_view.specs.Looks.{logs_of};
     ghost use Rattle.td_view.specs.Parts.{IsReaderParts};
 
     ghost Value = { ReaderValue };
 
-    ghost view = { λ r. record { views = r.known.book; seen = r.seen.log; known = r.known.log; refused = r.refusals } };
+    ghost view = { λ r. record {
+      views = r.known.book;
+      seen = r.seen.log;
+      known = r.known.log;
+      refused = r.refusals;
+      given = logs_of r.looker (λ looker. (seat looker.place).given);
+    } };
 
     ghost invariant = { λ r.
         IsReaderParts r.seen r.known r.count × ForSome r.looker (λ looker. Knows r.known (seat looker.place)) };
@@ -49,7 +57,7 @@ impl Model for Reader {
 impl Reader {
     pub(crate) fn new(looker: Looker, past: &Past, count: u64) -> Reader
         requires count { count ≡ length past.now.log }
-        requires knows { Knows past.now (seat looker.place) }
+        requires fresh { IsFresh past.now (seat looker.place) }
         ensures { result ≡ new_reader past.now.book past.now.log }
     {
         Reader {
@@ -77,7 +85,8 @@ impl Reader {
 
     /// What `f` answers on the text of one publish: of one that is no older than any that the reader saw or learnt of.
     /// None where `left_right` refused the reading, or gave an older text, and then `f` is not called. It takes no
-    /// memory and never waits.
+    /// memory and never waits. Each text that `left_right` gives is noted, so none is passed over: one that is no older
+    /// is shown.
     pub fn look<X, F: FnOnce(&Shown) -> X>(&mut self, f: F) -> Option<X>
         requires { F.IsAlwaysCallable f }
         ensures shown { IfSome result (λ answer.
@@ -85,8 +94,16 @@ impl Reader {
         ensures later { IfSome result (λ _.
             IsPrefix self.old.known self.new.seen × IsPrefix self.old.seen self.new.seen) }
         ensures legal { IfSome result (λ _. IsLegal self.new.seen) }
-        ensures some { IfSome result (λ _. self.new ≡ record self.old { seen = self.new.seen; known = self.new.seen }) }
-        ensures none { IfNone result (self.new ≡ record self.old { refused = one_more self.old.refused }) }
+        ensures some { IfSome result (λ _. self.new ≡ record self.old {
+          seen = self.new.seen;
+          known = self.new.seen;
+          given = self.old.given ++ self.new.seen ∷ [];
+        }) }
+        ensures none { IfNone result (self.new ≡ record self.old {
+          refused = one_more self.old.refused;
+          given = self.new.given;
+        }) }
+        ensures missed { IfNone result (IsMissed self.old self.new) }
     {
         let Some(looker) = self.looker.take() else {
             self.refusals = raised(self.refusals);
@@ -104,6 +121,7 @@ impl Reader {
         let count = shown.count;
         let past = shown.past.again();
         if count < self.count {
+            compare(&past, &self.known);
             self.looker = Some(reading.leave());
             self.refusals = raised(self.refusals);
             return None;

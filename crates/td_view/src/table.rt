@@ -1,6 +1,6 @@
-ghost use Rattle.std.specs.Prelude.{◌≡◌, Some, None};
+ghost use Rattle.std.specs.Prelude.{◌≡◌, [], Some};
 ghost use Rattle.td_view.specs.Deeds.{Past};
-ghost use Rattle.td_view.specs.Tied.{Stands};
+ghost use Rattle.td_view.specs.Tied.{Stands, nobody, given_more};
 
 use crate::deed::Deed;
 use crate::history::Past;
@@ -9,20 +9,24 @@ use atomic_table::{Join, Split};
 use crossbeam_utils::rule::{Outcome, Protocol};
 use left_right::reader::Reader;
 use left_right::writer::Writer;
+use std::collections::LinkedList;
 
-/// What a seat at the table knows: of which history the texts are that are shown there. No value of it is made.
-pub type Named = Option<Past>;
+/// What a seat at the table knows: of which history the texts are that are shown there, and each text that was given to
+/// it, by the history up to that. No value of it is made.
+pub struct Named {
+    pub of: Option<Past>,
+    pub given: LinkedList<Past>,
+}
 
 /// The rule of the table that shows the texts.
 pub struct Table;
 
 impl Protocol<Shown, Named> for Table {
-    ghost use Rattle.std.specs.Prelude.{None};
-    ghost use Rattle.td_view.specs.Tied.{Tied};
+    ghost use Rattle.td_view.specs.Tied.{Tied, nobody};
 
     ghost holds = { Tied };
 
-    ghost first = { None };
+    ghost first = { nobody };
 }
 
 /// The side that shows.
@@ -35,7 +39,7 @@ pub type Looker = Reader<Shown, Named, Table>;
 pub struct Names;
 
 impl Outcome<Shown, Named> for Names {
-    ghost then = { λ v x y w. w ≡ Some y.past };
+    ghost then = { λ v x y w. w ≡ record { of = Some y.past; given = [] } };
 }
 
 /// Each later publish.
@@ -45,11 +49,12 @@ impl Outcome<Shown, Named> for Shows {
     ghost then = { λ v x y w. w ≡ v };
 }
 
-/// A look.
+/// A look. It notes the text that it is given.
 pub struct Looks;
 
 impl Outcome<Shown, Named> for Looks {
-    ghost then = { λ v x y w. (w ≡ v) × Stands y × ((p : Past) → v ≡ Some p → p.book ≡ y.past.book) };
+    ghost then = { λ v x y w. (w ≡ given_more v y.past) × Stands y
+        × ((p : Past) → v.of ≡ Some p → p.book ≡ y.past.book) };
 }
 
 /// What the press tells a new reader: of which history the texts are.
@@ -64,5 +69,5 @@ impl Split<Named> for Tells {
 impl Join<Named> for Tells {
     ghost both = { λ v w. w };
 
-    ghost spent = { None };
+    ghost spent = { nobody };
 }

@@ -8,7 +8,7 @@ use std::sync::Wait;
 use std::test::Fail;
 use std::thread;
 use std::thread::{Threads, join};
-use td_base::{Atom, Run};
+use td_base::{Atom, Bytes, Memory, Run};
 use td_op::Change;
 
 // Publishes, of a writer that owes nothing. False where memory ran out.
@@ -37,6 +37,16 @@ fn spells(shown: &Shown, letters: &[u8]) -> bool {
     shown.len() as usize == letters.len() && shown.atom(shown.len()).is_none()
 }
 
+// Whether the text is these letters, as a whole and in two ranges.
+fn tells(alloc: Global, shown: &Shown, letters: &[u8]) -> Result<bool, Memory> {
+    let mut all = Bytes::new(alloc);
+    shown.push_text(&mut all)?;
+    let mut parts = Bytes::new(alloc);
+    shown.push_range(0, 1, &mut parts)?;
+    shown.push_range(1, shown.len(), &mut parts)?;
+    Ok(all.as_slice() == letters && parts.as_slice() == letters)
+}
+
 // Publishes the changes, looks at these letters, and ends. After that a look is refused.
 fn play<R: Wait + Abort>(
     rt: &R,
@@ -54,6 +64,10 @@ fn play<R: Wait + Abort>(
     assert_eq!(rt;
         reader.look(|shown| (shown.upto(), spells(shown, letters))),
         Some((1, true))
+    );
+    assert_eq!(rt;
+        reader.look(|shown| tells(alloc, shown, letters)),
+        Some(Ok(true))
     );
     assert_eq!(rt; (reader.refused(), opener.refused()), (0, 0));
     let (ended, tolds) = writer.end(rt, alloc, 1)?;
@@ -221,6 +235,33 @@ fn a_text_is_looked_at_while_a_publish_waits(rt: HostRuntime) -> Result<(), Fail
     assert_eq!(rt; looked, (true, Some((0, Some(1)))));
     assert_eq!(rt; outer[0].look(|shown| shown.upto()), Some(2));
     writer.quit(&rt);
+    Ok(())
+}
+
+// Whether each of the readers is shown a text with no atoms.
+fn all_look(readers: &mut [Reader]) -> bool {
+    for reader in readers.iter_mut() {
+        if reader.look(|shown| shown.len()) != Some(0) {
+            return false;
+        }
+    }
+    true
+}
+
+#[test]
+fn as_many_readers_as_are_asked_for_are_opened_and_look(rt: HostRuntime) -> Result<(), Fail> {
+    for count in [1, 2, 64, 65] {
+        let mut opener = Opener::new();
+        let (writer, mut readers) = views(&rt, rt.alloc(), &mut opener, count).map_err(
+            |_| "views",
+        )?;
+        let looked = all_look(&mut readers);
+        writer.quit(&rt);
+        assert_eq!(rt;
+            (readers.len(), looked, opener.refused()),
+            (count as usize, true, 0)
+        );
+    }
     Ok(())
 }
 

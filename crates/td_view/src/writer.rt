@@ -193,13 +193,13 @@ fn begin(
         head.now past.now count owed }
     requires rises { press.now.desk.shown.value.upto ≤ upto }
     requires owed { (o : Past) → owed ≡ Some o → Owes past.now.log o
-        (publish upto (changed_all changes.now press.now.desk.shown.value.atoms.items) 0)
+        (publish upto (changed_all changes.now press.now.desk.shown.value.atoms) 0)
         (drop press.now.behind press.now.log.items) given changes.now }
     ensures none { IfNone result (owed ≡ None) }
     ensures book { IfSome result (λ r. r.0.book ≡ past.now.book) }
     ensures legal { IfSome result (λ r. IsLegal r.0.log) }
     ensures owes { IfSome result (λ r. Owes past.now.log r.0
-        (publish upto (changed_all changes.now press.now.desk.shown.value.atoms.items) 0)
+        (publish upto (changed_all changes.now press.now.desk.shown.value.atoms) 0)
         (drop press.now.behind press.now.log.items) r.1 changes.now) }
 {
     match owed {

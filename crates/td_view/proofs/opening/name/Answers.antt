@@ -10,5 +10,5 @@ publish_as-requires g c next is =
     let x = c.args.press.desk.shown.value in
     let s = c.requires.stands in
     let same = none_done (state_of next) (state_of x) _ is c.requires.nothing in
-    names _ _ x next (stands_next next x.upto x.last x.count x.atoms.items x.past same s.counted s.legal s.ends)
+    names _ _ x next (stands_next next x.upto x.last x.count x.atoms x.past same s.counted s.legal s.ends)
     (ap (λ (t : State). t.4.book) same)

@@ -29,6 +29,6 @@ pub returns-clause-later : goal.returns-clause-later
 returns-clause-later g c =
     let inside = c.self.inside in
     let now = c.again.result.log in
-    let known : IsPrefix inside.known.log now = subst (λ (q : Past). IsPrefix inside.known.log q.log) (sym c.again.ensures) c.compare.ensures.prefix in
+    let known : IsPrefix inside.known.log now = subst (λ (q : Past). IsPrefix inside.known.log q.log) (sym c.again.ensures) c.compare-2.ensures.prefix in
     let seen = prefix_trans inside.seen.log inside.known.log now (prefix_of inside.known.log inside.seen.log c.self.invariant.0.within) known in
     rw (← c.self.view_is) (known, seen)

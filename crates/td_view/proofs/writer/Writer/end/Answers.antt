@@ -16,7 +16,7 @@ count_down-after-requires-clause-legal g c =
     let x = c.loop-last.press.desk.shown.value in
     let m = c.loop-last.last in
     let f = subst (λ (q : Publish). Follows (publish_of x) q) (λ j. publish (sym i.4.1 j) (sym i.4.2 j) m) (i.6 c.loop-last-test.true) in
-    may_add x c.loop-last.past (publish c.upto-upto.result x.atoms.items m) i.2 i.3 f
+    may_add x c.loop-last.past (publish c.upto-upto.result x.atoms m) i.2 i.3 f
 
 pub loop-last-preserved : goal.loop-last-preserved
 loop-last-preserved g c =

@@ -14,7 +14,7 @@ invariant-loop-last g l =
     × ((l.number ≡ length l.past.log) × (l.number < 2 ^ 63))
     × (x.past ≡ l.past)
     × Stands x
-    × ((x.upto ≡ l.upto) × (l.upto ≡ p.upto) × (x.atoms.items ≡ p.atoms))
+    × ((x.upto ≡ l.upto) × (l.upto ≡ p.upto) × (x.atoms ≡ p.atoms))
     × (drop l.press.behind l.press.log.items ≡ [])
     × (0 < l.last → Follows (publish_of x) (again p l.last))
     × (l.all.items ++ tolds l.past.book l.past.log p l.last ≡ tolds l.fn.self.views l.fn.self.publishes p l.fn.count)

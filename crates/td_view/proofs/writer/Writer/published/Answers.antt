@@ -17,8 +17,8 @@ returns-then-not-give-clause-owes g c =
     let upto = c.args.upto in
     let changes = c.args.changes.now in
     let inside = c.self.inside in
-    let atoms = inside.press.desk.shown.value.atoms.items in
-    let shown = ap (λ d. d.shown.value.atoms.items) c.give.ensures.desk in
+    let atoms = inside.press.desk.shown.value.atoms in
+    let shown = ap (λ d. d.shown.value.atoms) c.give.ensures.desk in
     subst (λ (w : WriterValue). StillOwes w upto changes) (sym c.new-then-not-give.ensures)
     (owes_entered _ c.in-Some.next upto inside.count changes atoms refl c.in-Some.ensures.owes.0 shown c.self.invariant.counted c.give.ensures.given c.give.ensures.few)
 
@@ -27,8 +27,8 @@ returns-then-is_err-clause-owes g c =
     let upto = c.args.upto in
     let changes = c.args.changes.now in
     let inside = c.self.inside in
-    let atoms = inside.press.desk.shown.value.atoms.items in
+    let atoms = inside.press.desk.shown.value.atoms in
     let same = of_err c.show-press.result.1 _ (sym c.is_err.ensures.value ∙ c.if-is_err.true) c.show-press.ensures.same in
-    let shown = ap (λ (x : Shown). x.atoms.items) same.0 ∙ ap (λ d. d.shown.value.atoms.items) c.give.ensures.desk in
+    let shown = ap (λ (x : Shown). x.atoms) same.0 ∙ ap (λ d. d.shown.value.atoms) c.give.ensures.desk in
     subst (λ (w : WriterValue). StillOwes w upto changes) (sym c.new-then-is_err.ensures)
     (owes_entered _ c.in-Some.next upto inside.count changes atoms refl c.in-Some.ensures.owes.0 shown c.self.invariant.counted (same.1 ∙ c.give.ensures.given) c.give.ensures.few)
