@@ -5,7 +5,7 @@ use Rattle.std.proofs.Common.{filter, map, Option, Some, None, Result, Ok, Err, 
 use Rattle.std.proofs.Common.{append_assoc, append-nil, IsUtf8, arith}
 use Rattle.std.specs.Bool.{⊤}
 use Rattle.std.specs.Char.{is_ascii_control}
-use Rattle.std.specs.List.{list_any}
+use Rattle.std.specs.List.{flat_map, list_any}
 use Rattle.std.specs.Str.{is_utf8}
 use Rattle.std.proofs.lemmas.Bool.{both_ways, ltb-false, le-ltb, cond-true, cond-false}
 use Rattle.std.proofs.lemmas.Bool.{and_parts, not-true, not_from_true}
@@ -15,9 +15,11 @@ use Rattle.std.proofs.lemmas.Str.{IsUtf8-from_is_utf8}
 use Rattle.td_script.specs.declared.kind.Kind.{Kind}
 use Rattle.td_script.specs.declared.kind.Kind.TheVariants as Fault
 use Rattle.td_script.specs.declared.script.TheConstants.{MAX_LINE}
+use Rattle.td_script.specs.Characters.{line_feed}
 use Rattle.td_script.specs.Judging.{Judged, go_on, heard, judged_each, judged_line, onto_commands, said, said_of}
 use Rattle.td_script.specs.Lines.{is_skipped, is_text_line, lines_of}
 use Rattle.td_script.specs.Script.{IsLine}
+use Rattle.td_script.proofs.Cutting.{line_cut}
 use Rattle.td_script.proofs.Results.{ok_same, err_is_no_ok}
 use Rattle.td_script.proofs.Splitting.{Lacks}
 
@@ -164,7 +166,6 @@ first_same x y xs ys e = (cc, cc)
 
 module _ {B C : Type 0} (judge : B → List ℕ → Result (Option C) Kind) (after : B → C → B) (line_of : C → List ℕ)
     (IsGood : B → Type 0) (CanStand : B → C → Type 0) (language : IsLanguage judge after line_of IsGood CanStand) where
-
   -- what the other lines say, behind each state
   abbrev ReadsBack : ℕ → List (List ℕ) → Type 0
   ReadsBack number lines = (before : B) (cs : List C) → IsGood before
@@ -290,7 +291,6 @@ pub record IsReadTo {B C : Type 0} (judge : B → List ℕ → Result (Option C)
 module _ {B C : Type 0} (judge : B → List ℕ → Result (Option C) Kind) (after : B → C → B) (line_of : C → List ℕ)
     (IsGood : B → Type 0) (CanStand : B → C → Type 0) (start : B)
     (language : IsLanguage judge after line_of IsGood CanStand) where
-
   abbrev IsRead : (bytes rest : List ℕ) (cs : List C) (before : B) (number : ℕ) → Type 0
   IsRead = IsReadTo judge after IsGood start
 
@@ -346,3 +346,23 @@ module _ {B C : Type 0} (judge : B → List ℕ → Result (Option C) Kind) (aft
       → length rest ≤ 0 → judged_each judge after 1 (lines_of bytes) start ≡ Ok cs
   all_read bytes [] cs before number h none = h.whole ∙ ap (λ (xs : List C). Ok xs) (append-nil cs)
   all_read bytes (b ∷ rest) cs before number h none = absurd (omega arith)
+
+-- ---- lines as they are written
+
+pub lines_of_written : {C : Type 0} (line_of : C → List ℕ) (cs : List C) → All (λ c. IsLine (line_of c)) cs
+    → lines_of (flat_map (λ c. line_of c ++ line_feed ∷ []) cs) ≡ map line_of cs
+lines_of_written line_of [] h = refl
+lines_of_written line_of (c ∷ cs) h =
+    let is : IsLine (line_of c) = All-head (λ c. IsLine (line_of c)) c cs h in
+    ap lines_of (append_assoc (line_of c) (line_feed ∷ []) (flat_map (λ c. line_of c ++ line_feed ∷ []) cs))
+    ∙ line_cut (line_of c) (flat_map (λ c. line_of c ++ line_feed ∷ []) cs)
+    (lacks_lf (line_of c) (text_parts (line_of c) is.text).0)
+    ∙ ap (λ (xs : List (List ℕ)). line_of c ∷ xs)
+    (lines_of_written line_of cs (All-tail (λ c. IsLine (line_of c)) c cs h))
+
+pub all_spoken : {C : Type 0} (line_of : C → List ℕ) → ((c : C) → is_skipped (line_of c) ≡ false) → (cs : List C)
+    → filter (λ line. not (is_skipped line)) (map line_of cs) ≡ map line_of cs
+all_spoken line_of spoken [] = refl
+all_spoken line_of spoken (c ∷ cs) =
+    filter_spoken (line_of c) (map line_of cs) (spoken c)
+    ∙ ap (λ (xs : List (List ℕ)). line_of c ∷ xs) (all_spoken line_of spoken cs)

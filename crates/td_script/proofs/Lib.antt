@@ -24,3 +24,4 @@ pub mod LiveLineLaws
 pub mod LiveCommands
 pub mod LiveScriptLaws
 pub mod ReadLive
+pub mod LiveWritingLaws

@@ -88,9 +88,11 @@ declared_push editors [] c h is =
     let none : editors + 0 ≡ editors = omega arith in (subst (λ (n : ℕ). IsDeclared n c) none is, tt)
 declared_push editors (first ∷ front) c h is =
     let whole : editors + length (homes_in (first ∷ front)) ≡ editors + length (home_of_command first) + length (homes_in front) =
-    ap (λ (n : ℕ). editors + n) (length-append (home_of_command first) (homes_in front)) ∙ (omega arith) in
-    (h.0, declared_push (editors + length (home_of_command first)) front c h.1
-    (subst (λ (n : ℕ). IsDeclared n c) whole is))
+    ap (λ (n : ℕ). editors + n) (length-append (home_of_command first) (homes_in front)) ∙ (omega arith) in (
+      h.0,
+      declared_push (editors + length (home_of_command first)) front c h.1
+          (subst (λ (n : ℕ). IsDeclared n c) whole is),
+    )
 
 declared_front : (editors : ℕ) (front back : List LiveCommand) → AreDeclared editors (front ++ back)
     → AreDeclared editors front
@@ -466,7 +468,7 @@ others_push sites front c others h =
       requests = λ wide. omega (arith, adds.requests wide);
       own = λ e.
           let whole : sum_by calls (lines_at e (front ++ c ∷ []))
-              ≡ sum_by calls (lines_at e front) + sum_by calls (line_at e c) = own_more e front c in
+          ≡ sum_by calls (lines_at e front) + sum_by calls (line_at e c) = own_more e front c in
           omega (arith, whole, adds.own e);
       all = omega (arith, adds.all);
     }
@@ -516,7 +518,7 @@ last_follows sites front (Line editor line) some h =
     let sum : sum_by calls_of_command (front ++ Line editor line ∷ []) ≡ sum_by calls_of_command front + calls line =
     sum_by_push calls_of_command front (Line editor line) in
     let own : sum_by calls (lines_at editor (front ++ Line editor line ∷ []))
-        ≡ sum_by calls (lines_of_editor (lines_of_all n front) editor) + calls line =
+    ≡ sum_by calls (lines_of_editor (lines_of_all n front) editor) + calls line =
     ap (λ (xs : List EditorLine). sum_by calls xs)
     (more_of (line_at editor) front (Line editor line)
     ∙ ap (λ (xs : List EditorLine). lines_at editor front ++ (xs ++ []))

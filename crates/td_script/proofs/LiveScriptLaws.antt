@@ -135,9 +135,11 @@ more_there size sites front (c ∷ cs) some is =
     let all : AreLiveOthers sites ((front ++ c ∷ []) ++ cs) = subst (AreLiveOthers sites) (sym assoc) is in
     let ones : AreLiveOthers sites (front ++ c ∷ []) = others_front sites (front ++ c ∷ []) cs all in
     let here : AreLiveOthers sites front = others_front sites front (c ∷ []) ones in
-    let follows = last_follows sites front c some ones in
-    (live_follows follows, subst (λ (b : LiveBefore). AreMore size b cs) (sym (after_is sites front c here.declared follows))
-    (more_there size sites (front ++ c ∷ []) cs some all))
+    let follows = last_follows sites front c some ones in (
+      live_follows follows,
+      subst (λ (b : LiveBefore). AreMore size b cs) (sym (after_is sites front c here.declared follows))
+          (more_there size sites (front ++ c ∷ []) cs some all),
+    )
 
 -- a live script of commands that can stand one behind the other
 record IsLiveOf (size : ℕ) (cs : List LiveCommand) (before : LiveBefore) : Type 0 where
@@ -186,9 +188,11 @@ commands_there : (size : ℕ) (cs : List LiveCommand) (sites : ℕ) → AreLiveC
     → AreMore size live_start cs
 commands_there size [] sites are h = tt
 commands_there size (c ∷ cs) sites are h =
-    let is = h sites cs (ap (λ (x : LiveCommand). x ∷ cs) are.0) in
-    (live_begins sites are.0 refl is.0, subst (λ (x : LiveCommand). AreMore size (live_after live_start x) cs) (sym are.0)
-    (more_there size sites [] cs are.1.0 is.1))
+    let is = h sites cs (ap (λ (x : LiveCommand). x ∷ cs) are.0) in (
+      live_begins sites are.0 refl is.0,
+      subst (λ (x : LiveCommand). AreMore size (live_after live_start x) cs) (sym are.0)
+          (more_there size sites [] cs are.1.0 is.1),
+    )
 
 sites_same : (sites : ℕ) (cs others : List LiveCommand) (n : ℕ) → AreLiveCommands sites cs → cs ≡ Sites n ∷ others
     → n ≡ sites
@@ -240,7 +244,7 @@ judged_of_spelled bytes live h =
     (at_start refl) (record {
       each = h.lines;
       spelled = h.spelled;
-      more = commands_there (length bytes) h.of live.sites h.commands 
+      more = commands_there (length bytes) h.of live.sites h.commands
           (limits_there (length bytes) live.sites h.of h.commands h.declared h.few h.fits);
     })
 

@@ -19,7 +19,7 @@ use Rattle.td_script.specs.Lines.{is_skipped, is_text_line, lines_of}
 use Rattle.td_script.specs.Script.{AreCommands, IsCommand, IsLine, IsScript, IsWritable, Spells, spelled, requests}
 use Rattle.td_script.specs.Spelling.{line_of}
 use Rattle.td_script.proofs.Cutting.{line_cut}
-use Rattle.td_script.proofs.JudgingLaws.{IsLanguage, filter_spoken, lacks_lf, lines_back, lines_there, same_commands, skipped_there, text_parts}
+use Rattle.td_script.proofs.JudgingLaws.{IsLanguage, all_spoken, lines_back, lines_of_written, lines_there, same_commands, skipped_there}
 use Rattle.td_script.proofs.JudgingLaws as More
 use Rattle.td_script.proofs.LineLaws.{CanStand, begins, follows, command_of, judged_back, judged_there, spoken}
 use Rattle.td_script.proofs.WritingLaws.{others_written, sites_written}
@@ -232,17 +232,6 @@ script_of_no_fault bytes h =
     some_is_not_none : ◌≡◌ {A = Option (ℕ × Kind)} (Some (0, Fault.Size)) None → ⊥
     some_is_not_none e = cc
 
-lines_of_spelled : (cs : List Command) → All (λ c. IsLine (line_of c)) cs → lines_of (spelled cs) ≡ map line_of cs
-lines_of_spelled [] h = refl
-lines_of_spelled (c ∷ cs) h =
-    let is : IsLine (line_of c) = All-head (λ c. IsLine (line_of c)) c cs h in
-    ap lines_of (append_assoc (line_of c) (10 ∷ []) (spelled cs)) ∙ line_cut (line_of c) (spelled cs) (lacks_lf (line_of c) (text_parts (line_of c) is.text).0)
-    ∙ ap (λ (xs : List (List ℕ)). line_of c ∷ xs) (lines_of_spelled cs (All-tail (λ c. IsLine (line_of c)) c cs h))
-
-all_spoken : (cs : List Command) → filter (λ line. not (is_skipped line)) (map line_of cs) ≡ map line_of cs
-all_spoken [] = refl
-all_spoken (c ∷ cs) = filter_spoken (line_of c) (map line_of cs) (spoken c) ∙ ap (λ (xs : List (List ℕ)). line_of c ∷ xs) (all_spoken cs)
-
 -- the commands of a script are written on lines
 other_lines : (sites : ℕ) (cs : List Command) → sites ≤ MAX_SITE → All (IsCommand sites) cs → All IsWritable cs → All (λ c. length (line_of c) ≤ MAX_LINE) cs → All (λ c. IsLine (line_of c)) cs
 other_lines sites [] few h k l = All-nil (λ c. IsLine (line_of c))
@@ -262,11 +251,11 @@ all_lines sites (c ∷ cs) h k l =
 pub read_again : (script : Script) → IsScript script → Spells (spelled script.commands) script
 read_again script h =
     let each : All (λ c. IsLine (line_of c)) script.commands = all_lines script.sites script.commands h.commands h.texts h.lines in
-    let lines : lines_of (spelled script.commands) ≡ map line_of script.commands = lines_of_spelled script.commands each in
+    let lines : lines_of (spelled script.commands) ≡ map line_of script.commands = lines_of_written line_of script.commands each in
     record {
       short = h.short;
       lines = subst (All IsLine) (sym lines) (All-map IsLine line_of script.commands each);
-      spelled = ap (filter (λ line. not (is_skipped line))) lines ∙ all_spoken script.commands;
+      spelled = ap (filter (λ line. not (is_skipped line))) lines ∙ all_spoken line_of spoken script.commands;
       commands = h.commands;
       fits = h.fits;
     }

@@ -31,22 +31,22 @@ use Rattle.td_script.proofs.TextWords.{written_utf8}
 use Rattle.td_script.proofs.Results.{out_of_range}
 
 -- bytes of a line that can be read
-record IsClean (bytes : List ℕ) : Type 0 where
-  plain : list_any is_ascii_control bytes ≡ false
-  utf8 : IsUtf8 bytes
+pub record IsClean (bytes : List ℕ) : Type 0 where
+  pub plain : list_any is_ascii_control bytes ≡ false
+  pub utf8 : IsUtf8 bytes
 
-text_line : (line : List ℕ) → IsClean line → is_text_line line ≡ true
+pub text_line : (line : List ℕ) → IsClean line → is_text_line line ≡ true
 text_line line h = and_from (not (list_any is_ascii_control line)) (is_utf8 line)
     (not_from_false (list_any is_ascii_control line) h.plain) (is_utf8-from_IsUtf8 line h.utf8)
 
-both : (xs ys : List ℕ) → IsClean xs → IsClean ys → IsClean (xs ++ ys)
+pub both : (xs ys : List ℕ) → IsClean xs → IsClean ys → IsClean (xs ++ ys)
 both xs ys h k = record {
   plain = list_any-append is_ascii_control xs ys
       ∙ or_from (list_any is_ascii_control xs) (list_any is_ascii_control ys) h.plain k.plain;
   utf8 = IsUtf8-append xs ys h.utf8 k.utf8;
 }
 
-by_test : (xs : List ℕ) → list_any is_ascii_control xs ≡ false → list_all (λ b. ltb b 128) xs ≡ true → IsClean xs
+pub by_test : (xs : List ℕ) → list_any is_ascii_control xs ≡ false → list_all (λ b. ltb b 128) xs ≡ true → IsClean xs
 by_test xs h k = record { plain = h; utf8 = ascii_by_test xs k }
 
 printed : (b : ℕ) → 32 ≤ b → b < 127 → is_ascii_control b ≡ false
@@ -63,17 +63,17 @@ digits_clean n small = record {
   utf8 = decimal_utf8 n small;
 }
 
-spaced_clean : (n : ℕ) → IsNumber n → IsClean (spaced n)
+pub spaced_clean : (n : ℕ) → IsNumber n → IsClean (spaced n)
 spaced_clean n small = both (32 ∷ []) (decimal n) (by_test (32 ∷ []) refl refl) (digits_clean n small)
 
-site_clean : (sites n : ℕ) → sites ≤ MAX_SITE → IsSiteOf sites n → IsClean (spaced n)
+pub site_clean : (sites n : ℕ) → sites ≤ MAX_SITE → IsSiteOf sites n → IsClean (spaced n)
 site_clean sites n few h = spaced_clean n (omega (arith, h.1))
 
-dot_clean : (sites : ℕ) (d : DotValue) → sites ≤ MAX_SITE → IsDotOf sites d → IsClean (spaced_dot d)
+pub dot_clean : (sites : ℕ) (d : DotValue) → sites ≤ MAX_SITE → IsDotOf sites d → IsClean (spaced_dot d)
 dot_clean sites d few h = both (spaced d.site) (46 ∷ decimal d.seq) (site_clean sites d.site few h.0)
     (both (46 ∷ []) (decimal d.seq) (by_test (46 ∷ []) refl refl) (digits_clean d.seq (omega (arith, h.1.1))))
 
-bit_clean : (bit : Bit) → IsClean (spaced_bit bit)
+pub bit_clean : (bit : Bit) → IsClean (spaced_bit bit)
 bit_clean Left = by_test (codes " left") refl refl
 bit_clean Right = by_test (codes " right") refl refl
 
@@ -98,7 +98,7 @@ atoms_utf8 [] h = IsUtf8-nil
 atoms_utf8 (atom ∷ atoms) h = IsUtf8-append atom (concat atoms) (All-head IsAtom atom atoms h).text
     (atoms_utf8 atoms (All-tail IsAtom atom atoms h))
 
-text_clean : (atoms : List (List ℕ)) → IsClusters atoms → All IsTextByte (concat atoms) → IsClean (spaced_text atoms)
+pub text_clean : (atoms : List (List ℕ)) → IsClusters atoms → All IsTextByte (concat atoms) → IsClean (spaced_text atoms)
 text_clean atoms h k =
     let inner : IsClean (flat_map escaped (concat atoms)) =
     record { plain = written_plain (concat atoms) k; utf8 = written_utf8 (concat atoms) (atoms_utf8 atoms h.each) } in
@@ -106,13 +106,13 @@ text_clean atoms h k =
     (both (flat_map escaped (concat atoms)) (34 ∷ []) inner (by_test (34 ∷ []) refl refl))
 
 -- a word, a site and the rest of a line
-line_clean : (word : List ℕ) (sites site : ℕ) (rest : List ℕ) → list_any is_ascii_control word ≡ false
+pub line_clean : (word : List ℕ) (sites site : ℕ) (rest : List ℕ) → list_any is_ascii_control word ≡ false
     → list_all (λ b. ltb b 128) word ≡ true → sites ≤ MAX_SITE → IsSiteOf sites site → IsClean rest
     → IsClean (word ++ (spaced site ++ rest))
 line_clean word sites site rest h k few is clean =
     both word (spaced site ++ rest) (by_test word h k) (both (spaced site) rest (site_clean sites site few is) clean)
 
-alone_clean : (word : List ℕ) (sites site : ℕ) → list_any is_ascii_control word ≡ false
+pub alone_clean : (word : List ℕ) (sites site : ℕ) → list_any is_ascii_control word ≡ false
     → list_all (λ b. ltb b 128) word ≡ true → sites ≤ MAX_SITE → IsSiteOf sites site → IsClean (word ++ spaced site)
 alone_clean word sites site h k few is = both word (spaced site) (by_test word h k) (site_clean sites site few is)
 

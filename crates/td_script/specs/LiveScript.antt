@@ -1,8 +1,8 @@
 -- The grammar of live scripts: which bytes spell which live script.
 use Rattle.std.specs.Prelude.{◌≡◌, ◌<◌, ◌≤◌, ◌+◌, ◌==◌, ⊤, ℕ, not, if◌then◌else◌, Option, unwrap_or, slice_get}
-use Rattle.std.specs.Prelude.{List, [], ◌∷◌, All, length, filter, map, sum_by}
+use Rattle.std.specs.Prelude.{List, [], ◌∷◌, ◌++◌, All, length, filter, map, sum_by}
 use Rattle.std.specs.Int.{IsInRange}
-use Rattle.std.specs.List.{flat_map, range_with_len}
+use Rattle.std.specs.List.{concat, flat_map, range_with_len}
 use Rattle.td_base.specs.declared.site.TheConstants.{MAX_SITE}
 use Rattle.td_script.specs.declared.before.TheConstants.{MAX_NARROW}
 use Rattle.td_script.specs.declared.live.command.LiveCommand.{LiveCommand}
@@ -13,10 +13,11 @@ use Rattle.td_script.specs.declared.live.script.Live.{Live}
 use Rattle.td_script.specs.declared.live.script.Loss.{Loss as LossOf}
 use Rattle.td_script.specs.declared.live.script.TheConstants.{DEFAULT_TURNS, MAX_ALL_CALLS, MAX_CALLS, NO_LOSS}
 use Rattle.td_script.specs.declared.live.script.TheConstants.{MAX_EDITORS, MAX_LIVE_SCRIPT, MAX_TURNS}
-use Rattle.td_script.specs.declared.script.TheConstants.{MAX_WIDE_SCRIPT, MAX_WIDE_REQUESTS}
+use Rattle.td_script.specs.declared.script.TheConstants.{MAX_LINE, MAX_WIDE_SCRIPT, MAX_WIDE_REQUESTS}
+use Rattle.td_script.specs.Characters.{line_feed}
 use Rattle.td_script.specs.Lines.{lines_of, is_skipped}
 use Rattle.td_script.specs.LiveSpelling.{live_line_of}
-use Rattle.td_script.specs.Script.{IsNumber, IsSiteOf, IsDotOf, IsClusters, IsPlace, IsLine}
+use Rattle.td_script.specs.Script.{IsNumber, IsSiteOf, IsDotOf, IsClusters, IsPlace, IsLine, IsTextByte}
 
 -- what a line can ask of an editor, among so many sites
 abbrev pub IsEditorLine : ℕ → EditorLine → Type 0
@@ -146,3 +147,23 @@ pub record SpellsLive (bytes : List ℕ) (live : Live) : Type 0 where
   pub few : AreFew of
   pub fits : FitsCalls (length bytes) live.sites of
   pub whole : live ≡ live_of live.sites of
+
+-- the lines of the commands, each ended by LF
+abbrev pub live_spelled : List LiveCommand → List ℕ
+live_spelled cs = flat_map (λ c. live_line_of c ++ line_feed ∷ []) cs
+
+-- a command whose text can be written
+abbrev pub IsLiveWritable : LiveCommand → Type 0
+IsLiveWritable (Line editor (Ins index atoms)) = All IsTextByte (concat atoms)
+IsLiveWritable (Line editor (Paste index atoms)) = All IsTextByte (concat atoms)
+IsLiveWritable _ = ⊤
+
+-- the commands of a live script that can be written, among so many sites
+pub record IsLiveScript (sites : ℕ) (cs : List LiveCommand) : Type 0 where
+  pub short : length (live_spelled cs) ≤ MAX_LIVE_SCRIPT
+  pub lines : All (λ c. length (live_line_of c) ≤ MAX_LINE) cs
+  pub texts : All IsLiveWritable cs
+  pub commands : AreLiveCommands sites cs
+  pub declared : AreDeclared 0 cs
+  pub few : AreFew cs
+  pub fits : FitsCalls (length (live_spelled cs)) sites cs

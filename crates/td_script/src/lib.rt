@@ -33,9 +33,9 @@ pub use kind::{Kind, ScriptFault};
 pub use laws::{scripts_have_no_fault, spelled_scripts_are_unique, written_scripts_are_read_again};
 pub use listed_atoms::ListedAtoms;
 pub use live::{
-    DEFAULT_TURNS, EditorLine, EditorLines, Homes, LinesByEditor, Live, Loss, MAX_ALL_CALLS, MAX_CALLS,
-    MAX_EDITORS, MAX_LIVE_SCRIPT, MAX_TURNS, NO_LOSS, live_scripts_have_no_fault, read_live,
-    spelled_live_scripts_are_unique,
+    DEFAULT_TURNS, EditorLine, EditorLines, Homes, LinesByEditor, Live, Loss, MAX_ALL_CALLS,
+    MAX_CALLS, MAX_EDITORS, MAX_LIVE_SCRIPT, MAX_TURNS, NO_LOSS, live_scripts_have_no_fault,
+    read_live, spelled_live_scripts_are_unique, written_live_scripts_are_read_again,
 };
 pub use number::{MAX_DIGITS, number_of};
 pub use script::{

@@ -12,7 +12,7 @@ use crate::script::MAX_LINE;
 pub(crate) fn hear(line: &[u8]) -> Result<Option<&str>, Kind>
     ensures { MatchResult result
         (λ text. MatchOption text (heard line.now ≡ Ok None)
-            (λ text. (text.now ≡ line.now) × (heard line.now ≡ Ok (Some line.now))))
+        (λ text. (text.now ≡ line.now) × (heard line.now ≡ Ok (Some line.now))))
         (λ kind. heard line.now ≡ Err kind) }
 {
     if line.len() > MAX_LINE {

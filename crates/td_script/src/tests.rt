@@ -1,3 +1,4 @@
 mod atom_list;
 mod clusters;
+mod live;
 mod script;

@@ -8,7 +8,9 @@ use crate::live::command::LiveCommand;
 use crate::live::editor_line::EditorLine;
 use crate::live::homes::Homes;
 use crate::live::lines_by_editor::LinesByEditor;
-use crate::live::script::{DEFAULT_TURNS, Live, Loss, MAX_ALL_CALLS, MAX_CALLS, MAX_EDITORS, NO_LOSS};
+use crate::live::script::{
+    DEFAULT_TURNS, Live, Loss, MAX_ALL_CALLS, MAX_CALLS, MAX_EDITORS, NO_LOSS,
+};
 use crate::live::word::LiveWord;
 use crate::script::MAX_WIDE_REQUESTS;
 use std::alloc::Global;

@@ -1,7 +1,8 @@
 // What the definitions of the language come to: the grammar and the first fault fit each other.
 ghost use Rattle.std.specs.Prelude.{◌≡◌, ℕ, List, None};
 ghost use Rattle.td_script.specs.LiveFaults.{first_live_fault};
-ghost use Rattle.td_script.specs.LiveScript.{SpellsLive};
+ghost use Rattle.td_script.specs.LiveScript.{IsLiveScript, SpellsLive, live_of, live_spelled};
+ghost use Rattle.td_script.specs.declared.live.command.LiveCommand.{LiveCommand};
 ghost use Rattle.td_script.specs.declared.live.script.Live.{Live};
 
 /// Bytes have no fault where they spell a live script, and only there.
@@ -13,4 +14,9 @@ pub fn live_scripts_have_no_fault()
 /// No bytes spell two live scripts.
 pub fn spelled_live_scripts_are_unique()
     ensures { (bytes : List ℕ) (s t : Live) → SpellsLive bytes s → SpellsLive bytes t → s ≡ t }
+{}
+
+/// A live script that is written line by line is spelled by what is written.
+pub fn written_live_scripts_are_read_again()
+    ensures { (sites : ℕ) (cs : List LiveCommand) → IsLiveScript sites cs → SpellsLive (live_spelled cs) (live_of sites cs) }
 {}

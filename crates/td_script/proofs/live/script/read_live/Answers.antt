@@ -19,7 +19,7 @@ loop-rest-preserved-in-Ok-None c =
 pub put-requires-clause-place : goal.put-requires-clause-place
 put-requires-clause-place c =
     let said : live_judged (length c.args.bytes.now) c.loop-rest.before c.split_line.result.0.now
-        ≡ Ok (Some c.in-Ok-Some.command) = rw c.in-Ok-Some.field-0-is at c.in-Ok-Some.ensures in
+    ≡ Ok (Some c.in-Ok-Some.command) = rw c.in-Ok-Some.field-0-is at c.in-Ok-Some.ensures in
     has_place (length c.args.bytes.now) c.loop-rest.before c.in-Ok-Some.command
     (stands_here c.args.bytes.now c.loop-rest.rest.now c.split_line.result.0.now c.loop-rest.before c.loop-rest.number
     c.in-Ok-Some.command c.loop-rest.invariant.read said)
@@ -27,7 +27,7 @@ put-requires-clause-place c =
 pub put-requires-clause-sums : goal.put-requires-clause-sums
 put-requires-clause-sums c =
     let said : live_judged (length c.args.bytes.now) c.loop-rest.before c.split_line.result.0.now
-        ≡ Ok (Some c.in-Ok-Some.command) = rw c.in-Ok-Some.field-0-is at c.in-Ok-Some.ensures in
+    ≡ Ok (Some c.in-Ok-Some.command) = rw c.in-Ok-Some.field-0-is at c.in-Ok-Some.ensures in
     no_sum_fault (length c.args.bytes.now) c.loop-rest.before c.in-Ok-Some.command
     (stands_here c.args.bytes.now c.loop-rest.rest.now c.split_line.result.0.now c.loop-rest.before c.loop-rest.number
     c.in-Ok-Some.command c.loop-rest.invariant.read said)
@@ -35,7 +35,7 @@ put-requires-clause-sums c =
 pub loop-rest-preserved : goal.loop-rest-preserved
 loop-rest-preserved c =
     let said : live_judged (length c.args.bytes.now) c.loop-rest.before c.split_line.result.0.now
-        ≡ Ok (Some c.in-Ok-Some.command) = rw c.in-Ok-Some.field-0-is at c.in-Ok-Some.ensures in
+    ≡ Ok (Some c.in-Ok-Some.command) = rw c.in-Ok-Some.field-0-is at c.in-Ok-Some.ensures in
     let more = one_more c.args.bytes.now c.loop-rest.rest.now c.split_line.result.0.now c.split_line.result.1.now
     c.loop-rest.before c.loop-rest.number c.in-Ok-Some.command c.loop-rest.invariant.read c.split_line.ensures.lines said
     in
