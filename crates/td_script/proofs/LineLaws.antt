@@ -1,15 +1,14 @@
 -- What is judged of a line: a command where the line is the line of a command that can stand there, and only there.
 use Rattle.std.proofs.Common.{◌≡◌, ◌≢◌, ◌<◌, ◌≤◌, ◌+◌, ◌^◌, ℕ, Bool, true, false, cond, not, eqb, ltb, List}
-use Rattle.std.proofs.Common.{◌++◌, length, codes, Option, Some, None, Result, Ok, Err, Bor, MatchResult, refl}
+use Rattle.std.proofs.Common.{◌++◌, codes, Option, Some, None, Result, Ok, Err, Bor, MatchResult, refl}
 use Rattle.std.proofs.Common.{sym, ap, subst, ◌∙◌, bytes_eq, IsUtf8, arith}
 use Rattle.std.specs.List.{list_all, list_any}
 use Rattle.std.specs.Prelude.{IfSome, IfNone}
 use Rattle.std.specs.Result.{result_ok}
 use Rattle.std.specs.Str.{is_utf8}
-use Rattle.std.proofs.lemmas.Bool.{both_ways, eqb-false, ne_eqb, ltb-true, ltb-false, le-ltb, cond-true, cond-false}
-use Rattle.std.proofs.lemmas.Bool.{and_parts, and_from, and_right, not-true, not_from_true, not_from_false}
+use Rattle.std.proofs.lemmas.Bool.{eqb-false, ne_eqb, ltb-true, ltb-false, le-ltb, cond-false}
+use Rattle.std.proofs.lemmas.Bool.{and_from, and_right, not_from_false}
 use Rattle.std.proofs.lemmas.Bool.{false_from_ne_true}
-use Rattle.std.proofs.lemmas.List.Folds.{list_any_at}
 use Rattle.std.proofs.lemmas.List.Sums.{AllPass-from_list_all}
 use Rattle.std.proofs.lemmas.List.Elements.{All-weaker}
 use Rattle.std.proofs.lemmas.Slice.Eq.{bytes_eq-Decides}
@@ -22,20 +21,18 @@ use Rattle.td_script.specs.declared.before.Before.{Before}
 use Rattle.td_script.specs.declared.command.Command.{Command}
 use Rattle.td_script.specs.declared.command.Command.TheVariants.{Sites, Ins, Paste, Del, Flat, Cancel, Give}
 use Rattle.td_script.specs.declared.command.Command.TheVariants.{GiveAll, Settle, Show, Tree, Count}
-use Rattle.td_script.specs.declared.command.Place.TheVariants.{Whole, Beside}
 use Rattle.td_script.specs.declared.kind.Kind.{Kind}
 use Rattle.td_script.specs.declared.kind.Kind.TheVariants as Fault
-use Rattle.td_script.specs.declared.script.TheConstants.{MAX_LINE}
 use Rattle.td_script.specs.declared.word.Word.{Word}
 use Rattle.td_script.specs.declared.word.Word.TheVariants as First
 use Rattle.td_script.specs.declared.word.SiteWord.{SiteWord}
 use Rattle.td_script.specs.declared.word.SiteWord.TheVariants as At
-use Rattle.td_script.specs.Arguments.{by_word, cut_word, last, site_of, sites_of}
+use Rattle.td_script.specs.Arguments.{by_word, cut_word, site_of}
 use Rattle.td_script.specs.Faults.{command, is_misplaced, is_too_much, judged, command_named, within}
 use Rattle.td_script.specs.Shared.{made, sites_at}
 use Rattle.std.specs.Char.{is_ascii_control}
 use Rattle.td_script.specs.Lines.{is_skipped, is_text_line}
-use Rattle.td_script.specs.Script.{IsCommand, IsLine, IsSiteOf, requests}
+use Rattle.td_script.specs.Script.{IsCommand, IsLine, requests}
 use Rattle.td_script.specs.Spelling.{line_of, spaced}
 use Rattle.td_script.specs.Words.{spelling, word_named, words}
 use Rattle.td_script.proofs.ArgumentLaws.{site_at_back}

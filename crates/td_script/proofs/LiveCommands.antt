@@ -1,15 +1,14 @@
 -- What the commands of a live script come to, one behind the other.
 use Rattle.std.proofs.Common.{◌≡◌, ◌≢◌, ◌<◌, ◌≤◌, ◌+◌, ◌-◌, ⊎_elim, ℕ, zero, suc, Bool, true, false, cond, eqb, ltb, ◌&&◌, ◌||◌}
-use Rattle.std.proofs.Common.{List, [], ◌∷◌, ◌++◌, length, get_or, set, map, All, sum_by, Option, Some, None, refl, sym}
-use Rattle.std.proofs.Common.{ap, subst, ◌∙◌, append_assoc, append-nil, length-append, zero-add, arith}
-use Rattle.std.specs.Bool.{⊤}
+use Rattle.std.proofs.Common.{List, [], ◌∷◌, ◌++◌, length, set, map, All, sum_by, Option, Some, None, refl, sym}
+use Rattle.std.proofs.Common.{ap, subst, ◌∙◌, append-nil, length-append, zero-add, arith}
 use Rattle.std.specs.Int.{IsInRange}
 use Rattle.std.specs.List.{flat_map, range_with_len}
 use Rattle.std.specs.Prelude.{slice_get}
 use Rattle.std.proofs.lemmas.Bool.{ne_eqb, eq-eqb, ltb-false, le-ltb, cond-true, cond-false, or_parts, or_from, cases_eq}
 use Rattle.std.proofs.lemmas.Grind.{flat_map-append}
 use Rattle.std.proofs.lemmas.List.Elements.{All-nil, All-cons, All-head, All-tail, All-push}
-use Rattle.std.proofs.lemmas.List.FromFn.{get_or-map-range_with_len, length-map-range_with_len, map-range_with_len_more}
+use Rattle.std.proofs.lemmas.List.FromFn.{get_or-map-range_with_len, map-range_with_len_more}
 use Rattle.std.proofs.lemmas.List.Sums.{sum_by-append, sum_by_push}
 use Rattle.td_script.specs.declared.before.TheConstants.{MAX_NARROW}
 use Rattle.td_script.specs.declared.kind.Kind.{Kind}
@@ -21,7 +20,7 @@ use Rattle.td_script.specs.declared.live.editor_line.EditorLine.{EditorLine}
 use Rattle.td_script.specs.declared.live.script.Loss.{Loss as LossOf}
 use Rattle.td_script.specs.declared.live.script.TheConstants.{MAX_ALL_CALLS, MAX_CALLS, MAX_EDITORS}
 use Rattle.td_script.specs.declared.script.TheConstants.{MAX_WIDE_REQUESTS}
-use Rattle.td_script.specs.LiveFaults.{HasPlace, fault_of_sums, lines_of_editor, live_after, sum_fault, with_line}
+use Rattle.td_script.specs.LiveFaults.{fault_of_sums, lines_of_editor, live_after, with_line}
 use Rattle.td_script.specs.LiveScript.{AreDeclared, IsDeclared, IsLiveCommand, calls, calls_of_command, home_of_command}
 use Rattle.td_script.specs.LiveScript.{homes_in, line_at, lines_at, lines_of_all, loss_of_command, losses_in}
 use Rattle.td_script.specs.LiveScript.{turns_in, turns_of_command}

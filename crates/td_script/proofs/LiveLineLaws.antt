@@ -1,12 +1,12 @@
 -- What is judged of a line of a live script: a command where the line is the line of a command that can stand there, and
 -- only there.
-use Rattle.std.proofs.Common.{◌≡◌, ◌≢◌, ◌<◌, ◌≤◌, ◌+◌, ◌^◌, ℕ, Bool, true, false, cond, eqb, ltb, leb, List, [], ◌∷◌}
+use Rattle.std.proofs.Common.{◌≡◌, ◌≢◌, ◌<◌, ◌≤◌, ◌^◌, ℕ, Bool, true, false, cond, eqb, ltb, List, []}
 use Rattle.std.proofs.Common.{◌++◌, length, codes, Option, Some, None, Result, Ok, Err, refl, sym, ap, subst, ◌∙◌}
 use Rattle.std.proofs.Common.{append-nil, bytes_eq, IsUtf8, arith}
 use Rattle.std.specs.Int.{is_in_range, IsInRange}
 use Rattle.std.specs.List.{list_all}
 use Rattle.std.specs.Prelude.{is_some, nat_le}
-use Rattle.std.proofs.lemmas.Bool.{eqb-false, ne_eqb, ltb-false, le-ltb, leb-true, leb-false, le-leb, lt-leb, cond-true, cond-false}
+use Rattle.std.proofs.lemmas.Bool.{eqb-false, ne_eqb, ltb-false, le-ltb, leb-true, leb-false, le-leb, lt-leb, cond-false}
 use Rattle.std.proofs.lemmas.Slice.Eq.{bytes_eq-Decides}
 use Rattle.td_base.proofs.Searches.{find_In}
 use Rattle.td_base.specs.declared.site.TheConstants.{MAX_SITE}
@@ -25,15 +25,15 @@ use Rattle.td_script.specs.declared.live.word.EditorWord.{EditorWord}
 use Rattle.td_script.specs.declared.live.word.EditorWord.TheVariants as At
 use Rattle.td_script.specs.Arguments.{by_word, cut_word, last, site_of}
 use Rattle.td_script.specs.Lines.{is_skipped}
-use Rattle.td_script.specs.LiveFaults.{HasPlace, editor_line, editor_of, is_live_misplaced, live_after, live_command}
+use Rattle.td_script.specs.LiveFaults.{HasPlace, editor_line, editor_of, is_live_misplaced, live_command}
 use Rattle.td_script.specs.LiveFaults.{live_command_named, live_judged, sum_fault, surplus, turns_of, unless}
 use Rattle.td_script.specs.LiveFaults.{within_calls}
 use Rattle.td_script.specs.LiveScript.{IsEditorLine, IsLiveCommand}
 use Rattle.td_script.specs.LiveSpelling.{line_of_editor, live_line_of}
 use Rattle.td_script.specs.LiveWords.{live_spelling, live_word_named, live_words}
-use Rattle.td_script.specs.Script.{IsLine, IsPlace, IsSiteOf}
+use Rattle.td_script.specs.Script.{IsLine}
 use Rattle.td_script.specs.Shared.{index_and_text, made, place_at, proposal_at, sites_at, two_numbers}
-use Rattle.td_script.specs.Spelling.{spaced, spaced_bit, spaced_dot, spaced_place, spaced_text}
+use Rattle.td_script.specs.Spelling.{spaced, spaced_dot, spaced_place, spaced_text}
 use Rattle.td_script.proofs.ArgumentLaws.{site_at_back, site_at_there, tested_at_back, tested_at_there}
 use Rattle.td_script.proofs.JudgingLaws.{IsJudged, judged_line_back, judged_line_there}
 use Rattle.td_script.proofs.LineLaws.{ascii_by_test}

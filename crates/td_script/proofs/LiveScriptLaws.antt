@@ -1,8 +1,7 @@
 -- Bytes have no fault where they spell a live script, and only there; and the live script is the one that is read.
-use Rattle.std.proofs.Common.{◌≡◌, ◌<◌, ◌≤◌, ◌+◌, ⊎_elim, ℕ, ltb, List, [], ◌∷◌, ◌++◌, length, All, sum_by}
-use Rattle.std.proofs.Common.{Option, Some, None, Result, Ok, Err, refl, sym, ap, subst, ◌∙◌, append_assoc, append-nil}
+use Rattle.std.proofs.Common.{◌≡◌, ◌<◌, ◌≤◌, ⊎_elim, ℕ, ltb, List, [], ◌∷◌, ◌++◌, length, sum_by}
+use Rattle.std.proofs.Common.{Option, Some, None, Ok, Err, refl, sym, ap, subst, ◌∙◌, append_assoc, append-nil}
 use Rattle.std.proofs.Common.{zero-add, arith}
-use Rattle.std.specs.Bool.{⊤}
 use Rattle.std.proofs.lemmas.Bool.{lt-ltb, le-ltb, cond-true, cond-false, cases_lt}
 use Rattle.std.proofs.lemmas.List.FromFn.{length-map-range_with_len}
 use Rattle.std.proofs.lemmas.List.Sums.{sum_by-cons}
@@ -19,10 +18,9 @@ use Rattle.td_script.specs.Judging.{Judged, fault_in, judged_each}
 use Rattle.td_script.specs.Lines.{lines_of}
 use Rattle.td_script.specs.LiveFaults.{first_live_fault, judged_live, live_after, live_judged, live_start}
 use Rattle.td_script.specs.LiveScript.{AreDeclared, AreFew, AreLiveCommands, FitsCalls, SpellsLive, calls_of_command}
-use Rattle.td_script.specs.LiveScript.{homes_in, lines_at, lines_of_all, live_from, live_of}
+use Rattle.td_script.specs.LiveScript.{homes_in, lines_at, live_from, live_of}
 use Rattle.td_script.specs.LiveSpelling.{live_line_of}
 use Rattle.td_script.specs.Script.{IsSiteOf}
-use Rattle.td_script.specs.Shared.{is_too_wide}
 use Rattle.td_script.proofs.JudgingLaws.{AreLinesOf, IsLanguage, lines_back, lines_there, same_commands, skipped_there}
 use Rattle.td_script.proofs.JudgingLaws as More
 use Rattle.td_script.proofs.LiveCommands.{AreLiveOthers, after_is, before_of, last_follows, no_others, others_front}

@@ -2,7 +2,6 @@
 -- lines of a live script are read again.
 use Rattle.std.proofs.Common.{◌≡◌, ◌≤◌, ◌+◌, ℕ, true, not, List, [], ◌∷◌, ◌++◌, length, All, codes, filter, refl, sym}
 use Rattle.std.proofs.Common.{ap, subst, ◌∙◌, length-append, arith}
-use Rattle.std.specs.Bool.{⊤}
 use Rattle.std.proofs.lemmas.List.Elements.{All-nil, All-cons, All-head, All-tail, All-map}
 use Rattle.td_base.specs.declared.site.TheConstants.{MAX_SITE}
 use Rattle.td_script.specs.declared.command.Place.{Place}
@@ -13,7 +12,7 @@ use Rattle.td_script.specs.declared.live.editor_line.EditorLine.{EditorLine}
 use Rattle.td_script.specs.declared.live.editor_line.EditorLine.TheVariants.{Ins, Paste, Del, Flat, Cancel, Look}
 use Rattle.td_script.specs.declared.live.script.TheConstants.{MAX_EDITORS}
 use Rattle.td_script.specs.declared.script.TheConstants.{MAX_LINE}
-use Rattle.td_script.specs.Lines.{is_skipped, is_text_line, lines_of}
+use Rattle.td_script.specs.Lines.{is_skipped, is_text_line}
 use Rattle.td_script.specs.LiveScript.{AreDeclared, AreLiveCommands, IsDeclared, IsEditorLine, IsLiveCommand, IsLiveScript}
 use Rattle.td_script.specs.LiveScript.{IsLiveWritable, SpellsLive, home_of_command, homes_in, live_of, live_spelled}
 use Rattle.td_script.specs.LiveSpelling.{line_of_editor, live_line_of}

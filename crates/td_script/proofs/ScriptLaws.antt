@@ -1,6 +1,5 @@
 -- Bytes have no fault where they spell a script, and only there; and the script is the one that is read.
-use Rattle.std.proofs.Common.{◌≡◌, ◌<◌, ◌≤◌, ◌+◌, ⊎_elim, ℕ, Bool, true, false, not, ltb, ◌&&◌, List, [], ◌∷◌, length, All, filter, map, sum_by, Option, Some, None, Result, Ok, Err, refl, sym, ap, subst, ◌∙◌, append_assoc, zero-add, arith}
-use Rattle.std.specs.Bool.{⊤}
+use Rattle.std.proofs.Common.{◌≡◌, ◌<◌, ◌≤◌, ◌+◌, ⊎_elim, ℕ, true, false, not, ltb, ◌&&◌, List, [], ◌∷◌, length, All, filter, map, sum_by, Option, Some, None, Ok, Err, refl, sym, ap, subst, ◌∙◌, zero-add, arith}
 use Rattle.std.proofs.lemmas.Bool.{ltb-false, lt-ltb, le-ltb, cond-true, cond-false, or_parts, or_from, and_cases, and_left, and_right, true≢false, cases_lt}
 use Rattle.std.proofs.lemmas.List.Sums.{sum_by-cons}
 use Rattle.std.proofs.lemmas.List.Elements.{All-nil, All-cons, All-head, All-tail, All-map}
@@ -18,7 +17,6 @@ use Rattle.td_script.specs.Shared.{is_too_wide}
 use Rattle.td_script.specs.Lines.{is_skipped, is_text_line, lines_of}
 use Rattle.td_script.specs.Script.{AreCommands, IsCommand, IsLine, IsScript, IsWritable, Spells, spelled, requests}
 use Rattle.td_script.specs.Spelling.{line_of}
-use Rattle.td_script.proofs.Cutting.{line_cut}
 use Rattle.td_script.proofs.JudgingLaws.{IsLanguage, all_spoken, lines_back, lines_of_written, lines_there, same_commands, skipped_there}
 use Rattle.td_script.proofs.JudgingLaws as More
 use Rattle.td_script.proofs.LineLaws.{CanStand, begins, follows, command_of, judged_back, judged_there, spoken}

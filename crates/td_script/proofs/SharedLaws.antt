@@ -1,7 +1,6 @@
 -- What more than one language asks for: its spelling is read as its value, and what is read is its spelling.
 use Rattle.std.proofs.Common.{◌≡◌, ◌≢◌, ◌<◌, ◌≤◌, ◌^◌, ℕ, Bool, true, false, cond, List, [], ◌∷◌, ◌++◌, get_or, codes}
 use Rattle.std.proofs.Common.{Result, Ok, Err, refl, sym, ap, subst, ◌∙◌, append-nil, bytes_eq, IsUtf8, arith}
-use Rattle.std.specs.Bool.{⊤}
 use Rattle.std.specs.Fmt.{decimal}
 use Rattle.std.specs.Int.{IsInRange}
 use Rattle.std.proofs.lemmas.Bool.{cond-false, false_from_ne_true}
@@ -19,7 +18,7 @@ use Rattle.td_script.specs.declared.command.Place.{Place}
 use Rattle.td_script.specs.declared.command.Place.TheVariants.{Whole, Beside}
 use Rattle.td_script.specs.declared.kind.Kind.{Kind}
 use Rattle.td_script.specs.declared.kind.Kind.TheVariants as Fault
-use Rattle.td_script.specs.Arguments.{behind, by_word, with_rest, last, number_of, sites_of, dot_of, bit_of}
+use Rattle.td_script.specs.Arguments.{by_word, with_rest, last, number_of, sites_of, dot_of, bit_of}
 use Rattle.td_script.specs.Arguments.{text_at, word_at}
 use Rattle.td_script.specs.Script.{IsNumber, IsSiteOf, IsDotOf, IsClusters, IsPlace}
 use Rattle.td_script.specs.Shared.{index_and_text, is_too_wide, made, place_at, place_beside, place_of, proposal_at}

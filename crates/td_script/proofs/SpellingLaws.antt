@@ -1,38 +1,29 @@
 -- The line of each command is read as the command.
-use Rattle.std.proofs.Common.{◌≡◌, ◌≤◌, ℕ, Bool, true, false, cond, eqb, ltb, List, [], ◌++◌, codes, Result, Ok, Err}
+use Rattle.std.proofs.Common.{◌≡◌, ◌≤◌, ℕ, Bool, eqb, ltb, List, [], ◌++◌, codes, Ok}
 use Rattle.std.proofs.Common.{refl, sym, ap, ◌∙◌, append-nil, bytes_eq, arith}
 use Rattle.std.specs.Fmt.{decimal}
-use Rattle.std.proofs.lemmas.Bool.{cond-false, false_from_ne_true}
-use Rattle.std.proofs.lemmas.Slice.Eq.{bytes_eq-Decides}
-use Rattle.td_base.specs.Value.{DotValue}
-use Rattle.td_base.specs.declared.bit.Bit.{Bit}
-use Rattle.td_base.specs.declared.bit.Bit.TheVariants.{Left, Right}
+use Rattle.std.proofs.lemmas.Bool.{cond-false}
 use Rattle.td_base.specs.declared.site.TheConstants.{MAX_SITE}
 use Rattle.td_script.specs.declared.before.Before.{Before}
 use Rattle.td_script.specs.declared.command.Command.{Command}
 use Rattle.td_script.specs.declared.command.Command.TheVariants.{Sites, Ins, Paste, Del, Flat, Cancel, Give}
 use Rattle.td_script.specs.declared.command.Command.TheVariants.{GiveAll, Settle, Show, Tree, Count}
 use Rattle.td_script.specs.declared.command.Place.TheVariants.{Whole, Beside}
-use Rattle.td_script.specs.declared.kind.Kind.{Kind}
-use Rattle.td_script.specs.declared.kind.Kind.TheVariants as Fault
 use Rattle.td_script.specs.declared.word.Word.{Word}
 use Rattle.td_script.specs.declared.word.Word.TheVariants as First
 use Rattle.td_script.specs.declared.word.SiteWord.{SiteWord}
 use Rattle.td_script.specs.declared.word.SiteWord.TheVariants as At
-use Rattle.td_script.specs.Arguments.{behind, by_word, bit_of, dot_of, number_of, text_at, with_rest, last}
+use Rattle.td_script.specs.Arguments.{behind, number_of, with_rest, last}
 use Rattle.td_script.specs.Arguments.{cut_word}
 use Rattle.td_script.specs.Faults.{command, give_at, is_misplaced, site_command}
 use Rattle.td_script.specs.Shared.{sites_at}
 use Rattle.td_script.proofs.SharedLaws.{IsSitesFor, made_there, index_and_text_there, two_numbers_there, place_there}
 use Rattle.td_script.proofs.SharedLaws.{proposal_there, sites_there, not_name}
-use Rattle.td_script.specs.Script.{IsNumber, IsSiteOf, IsDotOf, IsClusters, IsCommand}
+use Rattle.td_script.specs.Script.{IsNumber, IsSiteOf, IsCommand}
 use Rattle.td_script.specs.Spelling.{line_of, spaced, spaced_bit, spaced_dot, spaced_text}
 use Rattle.td_script.specs.Words.{spelling}
-use Rattle.td_script.proofs.ArgumentLaws.{decimal_lacks, number_of_decimal, number_at_there, site_at_there}
-use Rattle.td_script.proofs.ArgumentLaws.{sites_at_there, dot_at_there, bit_at_there}
+use Rattle.td_script.proofs.ArgumentLaws.{decimal_lacks, number_of_decimal, site_at_there}
 use Rattle.td_script.proofs.Numbers.{form_of_decimal}
-use Rattle.td_script.proofs.Results.{err_is_no_ok}
-use Rattle.td_script.proofs.TextLaws.{text_at_there}
 use Rattle.td_script.proofs.WordLaws.{IsOpen, behind_there, word_at_there}
 
 give_there : (sites site number : ℕ) → IsNumber number
