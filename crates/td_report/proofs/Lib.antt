@@ -1,3 +1,4 @@
-mod Printing
-mod Walking
-mod LiveRows
+pub mod Printing
+pub mod Walking
+pub mod LiveRows
+pub mod Tracing

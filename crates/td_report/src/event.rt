@@ -25,7 +25,8 @@ pub fn event_line(alloc: Global, message: &Message) -> Result<Bytes, Memory>
     }
 }
 
-fn vote_word(yes: bool) -> &'static [u8]
+/// Yes or no, behind a space.
+pub(crate) fn vote_word(yes: bool) -> &'static [u8]
     ensures { result.now ≡ yes_or_no yes }
 {
     if yes { b" yes" } else { b" no" }

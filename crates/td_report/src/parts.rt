@@ -84,7 +84,8 @@ pub(crate) fn push_slot(line: &mut Bytes, slot: Slot) -> Result<(), Memory>
     }
 }
 
-fn push_bit(line: &mut Bytes, bit: Bit) -> Result<(), Memory>
+/// A bit behind a space.
+pub(crate) fn push_bit(line: &mut Bytes, bit: Bit) -> Result<(), Memory>
     ensures { OnOk result (line.new ≡ line.old ++ spaced_bit bit) }
 {
     match bit {

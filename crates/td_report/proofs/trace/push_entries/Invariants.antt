@@ -1,0 +1,6 @@
+use Rattle.std.proofs.Common.{◌≡◌, ◌++◌, take}
+use Rattle.td_report.specs.Trace.{all_written, entry_said, numbered}
+use Rattle.td_report.proofs.trace.push_entries.Given as goal
+
+abbrev pub invariant-loop-k : goal.invariant-loop-k
+invariant-loop-k g l = l.lines ≡ l.fn.lines ++ all_written (numbered entry_said 1 (take l.k l.replica.entries))
