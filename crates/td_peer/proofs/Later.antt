@@ -1,5 +1,5 @@
 -- What holds of a peer later on.
-use Rattle.std.proofs.Common.{◌≡◌, ◌<◌, ◌≤◌, ◌++◌, ℕ, zero, suc, List, [], ◌∷◌, Bool, true, false, length, take, slice_get, refl, sym, ap, ◌∙◌, subst, append_assoc, append-nil, arith}
+use Rattle.std.proofs.Common.{◌≡◌, ◌<◌, ◌≤◌, ◌++◌, ℕ, zero, suc, List, [], ◌∷◌, Bool, true, false, length, take, refl, sym, ap, ◌∙◌, subst, append_assoc, append-nil, arith}
 use Rattle.std.proofs.Math.Seq.{take-length}
 use Rattle.std.proofs.lemmas.List.{take-append-le}
 use mathlib.Core.List.{IsPrefix}
@@ -11,7 +11,7 @@ use Rattle.td_meeting.proofs.Telling.{tell_more, get_more}
 use Rattle.td_peer.specs.declared.parcel.Parcel.{Parcel}
 use Rattle.td_peer.specs.Peers.{PeerState, peer_of, packets, Linked}
 use Rattle.td_peer.specs.Serving.{Serves, LaterPeer}
-use Rattle.td_peer.specs.Opening.{IsFresh, new_state}
+use Rattle.td_peer.specs.Opening.{IsFresh}
 
 prefix_then : {X : Type 0} (xs ys zs : List X) → IsPrefix xs ys → IsPrefix ys zs → IsPrefix xs zs
 prefix_then {X} xs ys zs p q =

@@ -9,8 +9,7 @@ ghost use Rattle.td_peer.specs.Serving.{Serves, LaterPeer, TakesNext};
 ghost use Rattle.td_peer.specs.Opening.{IsFresh};
 
 /// Where nothing was sent either way a peer has taken what no history takes, and serves any replica.
-#[tactic(auto, using(crate::proofs::Later::fresh_is_new, crate::proofs::Later::fresh_serves,
-    crate::proofs::Later::fresh_hears))]
+#[tactic(auto, using(crate::proofs::Later::fresh_is_new, crate::proofs::Later::fresh_serves, crate::proofs::Later::fresh_hears))]
 pub fn fresh_peers_owe_nothing()
     ensures peer { (one other places : ℕ) (loss : Loss) (p : PeerState) → IsFresh one other places loss p
         → peer_of p ≡ new_peer other loss }

@@ -1,15 +1,17 @@
 // How the links between workers end.
 ghost use Rattle.std.specs.Prelude.{◌≡◌, ◌<◌, ◌++◌, ◌∷◌, [], length, map, drop, List, IfOk, OnOk};
 ghost use Rattle.td_meeting.specs.Rows.{MatchesFirsts, AllMatch};
-ghost use Rattle.td_peer.specs.Peers.{PeerState, Linked, PeersMet};
+ghost use Rattle.td_peer.specs.Peers.{PeerState, packets, Linked, PeersMet};
+ghost use mathlib.Core.List.{IsPrefix};
 ghost use Rattle.td_peer.specs.Meeting.{MetNext};
 
+use crate::parcel::Parcel;
 use crate::peer::Peer;
 use crate::row::Row;
 use std::alloc::Global;
 use std::sync::Wait;
 use td_base::Memory;
-use td_link::settle;
+use td_link::{Rx, Tx, settle};
 
 // Settles both links between two workers. What was not taken is lost.
 fn meet<R: Wait>(rt: &R, alloc: Global, one: Peer, other: Peer) -> Result<(), Memory>
@@ -38,8 +40,17 @@ fn meet<R: Wait>(rt: &R, alloc: Global, one: Peer, other: Peer) -> Result<(), Me
         again: _,
         loss: _,
     } = other;
-    let _first = settle(rt, alloc, back, here)?;
-    let _second = settle(rt, alloc, away, there)?;
+    settle_link(rt, alloc, back, here)?;
+    settle_link(rt, alloc, away, there)?;
+    Ok(())
+}
+
+// Settles one link. What was taken from it is a beginning of what was sent, and the rest is lost.
+fn settle_link<R: Wait>(rt: &R, alloc: Global, tx: Tx<Parcel>, rx: Rx<Parcel>) -> Result<(), Memory>
+    requires { tx.link ≡ rx.link }
+    ensures { OnOk result (IsPrefix (packets rx.taken) (packets tx.sent)) }
+{
+    let _left = settle(rt, alloc, tx, rx)?;
     Ok(())
 }
 

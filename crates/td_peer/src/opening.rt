@@ -19,13 +19,7 @@ pub const PLACES: u32 = 64;
 impl Peer {
     /// What the worker of a site keeps for that of another one over these links, of which nothing is dealt with. It
     /// takes no memory.
-    pub fn new(
-        own: Site,
-        site: Site,
-        inbox: Rx<Parcel>,
-        outbox: Tx<Parcel>,
-        loss: Loss,
-    ) -> Peer
+    pub fn new(own: Site, site: Site, inbox: Rx<Parcel>, outbox: Tx<Parcel>, loss: Loss) -> Peer
         requires hears { inbox.mark ≡ Some site }
         requires tells { outbox.mark ≡ Some own }
         ensures { result ≡ new_state own site inbox outbox loss }
@@ -138,7 +132,7 @@ pub(crate) fn pair(
 }
 
 // The site with this number.
-fn site_of(number: u8) -> Site
+pub(crate) fn site_of(number: u8) -> Site
     requires some { 0 < number }
     requires few { number ≤ MAX_SITE }
     ensures { result ≡ number }

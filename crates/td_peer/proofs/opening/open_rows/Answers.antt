@@ -1,4 +1,4 @@
-use Rattle.std.proofs.Common.{arith, ℕ, ◌≡◌}
+use Rattle.std.proofs.Common.{arith, ◌≡◌}
 use Rattle.td_peer.proofs.Openings.{opened_before, fresh_rows}
 use Rattle.td_peer.proofs.opening.open_rows.Goals as goal
 
