@@ -1,4 +1,5 @@
-ghost use Rattle.std.specs.Prelude.{◌≡◌, ◌<◌, ◌≤◌, ◌+◌, ◌^◌, ◌++◌, ℕ, List, [], length, remove, slice_get, slice_range, Some, IfOk, OnErr, OnOk};
+ghost use Rattle.std.specs.Prelude.{◌≡◌, ◌<◌, ◌≤◌, ◌+◌, ◌^◌, ◌++◌, ℕ, List, [], length, remove, slice_get, slice_range};
+ghost use Rattle.std.specs.Prelude.{Some, IfOk, OnErr, OnOk};
 ghost use Rattle.std.specs.List.{concat, insert_slice};
 
 use std::alloc::Global;

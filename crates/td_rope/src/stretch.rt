@@ -32,7 +32,8 @@ fn push_part<P: Part>(
     to: u32,
     text: &mut Bytes,
 ) -> Result<(), Memory>
-    ensures ok { OnOk result (text.new ≡ text.old ++ concat (slice_range (P.atoms part.now) (from - start) (to - start))) }
+    ensures ok { OnOk result (text.new
+        ≡ text.old ++ concat (slice_range (P.atoms part.now) (from - start) (to - start))) }
     ensures err { OnErr result (text.new ≡ text.old) }
 {
     let first = from.saturating_sub(start);

@@ -16,7 +16,7 @@ IsMissed before after =
 abbrev pub logs : List Past → List (List Publish)
 logs pasts = map (λ (p : Past). p.log) pasts
 
--- what it was, of these that one has, if it is there
+-- the same of what somebody has, if there is somebody
 abbrev pub logs_of : {L : Type 0} → Option L → (L → List Past) → List (List Publish)
 logs_of None pasts = []
 logs_of (Some l) pasts = logs (pasts l)

@@ -54,7 +54,8 @@ impl Shown {
         self.atoms.atom(i)
     }
 
-    /// Adds the text, the bytes of all atoms, at the end of these bytes, in one pass. This and `push_range` take memory.
+    /// Adds the text, the bytes of all atoms, at the end of these bytes, in one pass. It takes memory, as `push_range`
+    /// does.
     pub fn push_text(&self, text: &mut Bytes) -> Result<(), Memory>
         ensures ok { OnOk result (text.new ≡ text.old ++ concat self.now.atoms) }
         ensures err { OnErr result (text.new ≡ text.old) }
