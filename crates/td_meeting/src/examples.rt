@@ -3,7 +3,8 @@ ghost use Rattle.std.specs.Prelude.{◌≡◌, [], ◌∷◌, true, false};
 ghost use Rattle.td_meeting.specs.Thin.{thin, messages_to};
 ghost use Rattle.td_meeting.specs.Peers.{sent_to};
 ghost use Rattle.td_meeting.specs.Accounts.{AreSettled, family_of};
-ghost use Rattle.td_meeting.specs.Examples.{vote_on, five, lossy, lossless, first_insert, its_packet, one_letter, its_maker, its_taker};
+ghost use Rattle.td_meeting.specs.Examples.{vote_on, five, lossy, lossless, first_insert, its_packet};
+ghost use Rattle.td_meeting.specs.Examples.{one_letter, its_maker, its_taker};
 ghost use Rattle.td_machine.specs.Stage.{family_after};
 ghost use Rattle.td_wire.specs.Spelling.{SpellsIn};
 

@@ -24,8 +24,8 @@ new_state own site inbox outbox loss =
       loss = loss;
     }
 
--- what the worker of one site keeps for that of another one, over a link of so many places, when nothing was sent either
--- way
+-- what the worker of one site keeps for that of another one, over a link of so many places, when nothing was sent
+-- either way
 pub record IsFresh (one other places : ℕ) (lost : Loss) (p : PeerState) : Type 0 where
   pub nothing : p ≡ new_state one other p.inbox p.outbox lost
   pub taken : p.inbox.taken ≡ []
@@ -49,8 +49,8 @@ pub record Paired (first : ℕ) (lost : Loss) (p q : PeerState) : Type 0 where
   pub mine : IsFresh first p.site PLACES lost p
   pub theirs : IsFresh p.site first PLACES lost q
 
--- one more of the rows behind has got something for the first site in front, and the row of the first site something for
--- it
+-- one more of the rows behind has got something for the first site in front, and the row of the first site something
+-- for it
 pub record OpensNext (first other : ℕ) (lost : Loss) (row next : List PeerState)
     (rows behind done more : List (List PeerState)) : Type 0 where
   pub one : PeerState

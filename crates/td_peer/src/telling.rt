@@ -1,9 +1,11 @@
 // What is sent to another worker.
-ghost use Rattle.std.specs.Prelude.{◌≡◌, ◌<◌, ◌+◌, ◌^◌, ◌-◌, Some, None, slice_get, length, true, false, MatchOption, IfSome, IfNone};
+ghost use Rattle.std.specs.Prelude.{◌≡◌, ◌<◌, ◌+◌, ◌^◌, ◌-◌, Some, None, slice_get, length, true, false};
+ghost use Rattle.std.specs.Prelude.{MatchOption, IfSome, IfNone};
 ghost use Rattle.td_wire.specs.Spelling.{SpellsIn};
 ghost use Rattle.td_peer.specs.declared.parcel.Parcel.{Parcel};
 ghost use Rattle.td_link.specs.Moments.{WasFull};
-ghost use Rattle.td_peer.specs.Serving.{Serves, LaterPeer, SentOrNothing, SentAtMostOne, sent_more, times, passed, noted};
+ghost use Rattle.td_peer.specs.Serving.{Serves, LaterPeer, SentOrNothing, SentAtMostOne, sent_more};
+ghost use Rattle.td_peer.specs.Serving.{times, passed, noted};
 
 use crate::loss::is_addressed;
 use crate::parcel::Parcel;
