@@ -1,5 +1,5 @@
 -- A site that goes on.
-use Rattle.std.specs.Prelude.{◌≡◌, ◌++◌, false, not}
+use Rattle.std.specs.Prelude.{◌≡◌, ◌++◌, ◌⊎◌, true, false, not}
 use Rattle.std.specs.List.{AllByRecursion}
 use mathlib.Core.List.{IsPrefix}
 use Rattle.td_op.specs.declared.entry.Entry.{Entry}
@@ -32,3 +32,7 @@ pub record OnlyNexts (old new : History) : Type 0 where
 -- no operation that waits can be taken
 abbrev pub NothingReady : Machine → Type 0
 NothingReady m = not (is_idle (step m Next).reply) ≡ false
+
+-- something is left to do: the last step is not shown, or an operation that waits can be taken
+abbrev pub IsBehind : SiteValue → Type 0
+IsBehind s = (s.late ≡ true) ⊎ (not (is_idle (step s.replica.machine Next).reply) ≡ true)

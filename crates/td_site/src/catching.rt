@@ -1,10 +1,10 @@
 // How a site catches up with what it has been given.
-ghost use Rattle.std.specs.Prelude.{◌≡◌, ◌<◌, true, false, not, length, OnOk};
+ghost use Rattle.std.specs.Prelude.{◌≡◌, ◌<◌, true, false, not, length, OnOk, OnErr};
 ghost use Rattle.td_op.specs.declared.input.Input.TheVariants.{Next};
 ghost use Rattle.td_machine.specs.Step.{step};
 ghost use Rattle.td_replica.specs.Replica.{is_idle};
 ghost use Rattle.td_site.specs.Shows.{texts_to};
-ghost use Rattle.td_site.specs.Later.{LaterSite, OnlyNexts, NothingReady};
+ghost use Rattle.td_site.specs.Later.{LaterSite, OnlyNexts, NothingReady, IsBehind};
 
 use crate::site::Site;
 use std::sync::Wait;
@@ -21,6 +21,7 @@ impl<D: Doc> Site<D> {
         ensures late { OnOk result (self.new.late ≡ false) }
         ensures texts { OnOk result (self.new.writer.publishes
             ≡ texts_to self.new.replica (length self.new.replica.entries)) }
+        ensures err { OnErr result (IsBehind self.new) }
         ensures later { LaterSite self.old self.new }
     {
         self.show(rt)?;
@@ -40,6 +41,7 @@ impl<D: Doc> Site<D> {
         ensures late { OnOk result (self.new.late ≡ false) }
         ensures texts { OnOk result (self.new.writer.publishes
             ≡ texts_to self.new.replica (length self.new.replica.entries)) }
+        ensures err { OnErr result (IsBehind self.new) }
         ensures later { LaterSite self.old self.new }
     {
         self.step(&Input::Next)?;
