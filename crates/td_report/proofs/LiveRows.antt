@@ -8,7 +8,7 @@ use Rattle.std.proofs.lemmas.Option.{none-some, same_Some, slice_get-map}
 use Rattle.td_base.specs.Value.{AtomIdValue}
 use Rattle.td_base.proofs.Elements.{In-slice_get}
 use Rattle.td_base.proofs.Lists.{In-filter}
-use Rattle.td_doc.specs.Answers.{live_before, row_told}
+use Rattle.td_doc.specs.Answers.{row_told}
 use Rattle.td_doc.specs.Document.{DocRow, row_id, find_row, is_live, live_atoms, live_id_at, live_rows, IsDocument}
 use Rattle.td_doc.specs.declared.doc.Row.{Row}
 use Rattle.td_doc.proofs.SubtreeRows.{find_in}

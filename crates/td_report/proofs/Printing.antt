@@ -1,9 +1,9 @@
 -- Values printed one behind the other.
-use Rattle.std.proofs.Common.{◌≡◌, ◌+◌, ◌∙◌, ℕ, zero, suc, List, [], ◌∷◌, ◌++◌, Option, Some, None, add-one, ap, append_assoc, append-nil, refl, subst, sym, take}
+use Rattle.std.proofs.Common.{◌≡◌, ◌+◌, ◌∙◌, ℕ, zero, suc, List, [], ◌∷◌, ◌++◌, Option, Some, None, add-one, ap, append_assoc, append-nil, refl, sym, take}
 use Rattle.std.specs.Prelude.{slice_get}
 use Rattle.std.specs.Option.{option_and_then}
 use Rattle.std.specs.List.{flat_map}
-use Rattle.td_base.specs.Value.{DotValue, AtomIdValue}
+use Rattle.td_base.specs.Value.{AtomIdValue}
 use Rattle.td_doc.specs.Document.{DocRow, find_row}
 use Rattle.td_doc.specs.Deletion.{delete_at}
 use Rattle.td_report.specs.Parts.{if_any}

@@ -1,6 +1,6 @@
 -- The lines of a trace, written one behind the other.
-use Rattle.std.proofs.Common.{◌≡◌, ◌+◌, ◌-◌, ◌∙◌, ℕ, zero, suc, List, [], ◌∷◌, ◌++◌, Option, Some, None, cond, eqb, length, map}
-use Rattle.std.proofs.Common.{ap, append_assoc, append-nil, arith, refl, subst, sym, take}
+use Rattle.std.proofs.Common.{◌≡◌, ◌+◌, ◌-◌, ◌∙◌, ℕ, zero, suc, List, [], ◌∷◌, ◌++◌, Option, None, eqb, length, map}
+use Rattle.std.proofs.Common.{ap, append_assoc, append-nil, arith, refl, sym, take}
 use Rattle.std.specs.Prelude.{slice_get}
 use Rattle.std.specs.List.{flat_map}
 use Rattle.std.proofs.lemmas.Bool.{cond-false, ne_eqb}
@@ -43,9 +43,11 @@ pub next_entry : (start : List ℕ) (xs : List Entry) (k : ℕ)
 next_entry start xs k =
     let number : k + 1 ≡ 1 + k = omega arith in
     let more : suc k ≡ k + 1 = omega arith in
-    ap (λ (o : Option Entry). (start ++ all_written (numbered entry_said 1 (take k xs))) ++ if_any (entry_written (k + 1)) o)
+    ap (λ (o : Option Entry). (start ++ all_written (numbered entry_said 1 (take k xs)))
+    ++ if_any (entry_written (k + 1)) o)
     (kth_suc k xs)
-    ∙ append_assoc start (all_written (numbered entry_said 1 (take k xs))) (if_any (entry_written (k + 1)) (slice_get xs k))
+    ∙ append_assoc start (all_written (numbered entry_said 1 (take k xs))) (if_any (entry_written (k + 1))
+    (slice_get xs k))
     ∙ ap (λ (n : ℕ). start
     ++ (all_written (numbered entry_said 1 (take k xs)) ++ if_any (entry_written n) (slice_get xs k))) number
     ∙ ap (λ (rest : List ℕ). start ++ rest) (next_of 1 k xs)
@@ -87,7 +89,8 @@ parts_of_trace sites histories logs texts =
     let last_three : all_written (three ++ Ended ∷ []) ≡ all_written three ++ written Ended =
     flat_map-append written three (Ended ∷ [])
     ∙ ap (λ (xs : List ℕ). all_written three ++ xs) (append-nil (written Ended)) in
-    let last_two : all_written (two ++ (three ++ Ended ∷ [])) ≡ all_written two ++ (all_written three ++ written Ended) =
+    let last_two : all_written (two ++ (three ++ Ended ∷ [])) ≡ all_written two ++ (all_written three
+    ++ written Ended) =
     flat_map-append written two (three ++ Ended ∷ []) ∙ ap (λ (xs : List ℕ). all_written two ++ xs) last_three in
     ap (λ (xs : List ℕ). written (SitesAre sites) ++ xs)
     (flat_map-append written one (two ++ (three ++ Ended ∷ []))

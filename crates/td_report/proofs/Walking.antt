@@ -1,9 +1,9 @@
 -- A document is walked row by row.
 use Rattle.std.proofs.Common.{◌≡◌, ◌≢◌, ◌∙◌, ◌<◌, ◌+◌, ℕ, zero, suc, List, [], ◌∷◌, Option, Some, None, Bool, true, false, cond, add-one, ap, arith, drop, length, refl, subst, sym, true≢false}
-use Rattle.std.specs.Prelude.{slice_get, IsTrue}
-use Rattle.std.specs.Option.{ForSome, is_some, option_map}
+use Rattle.std.specs.Prelude.{slice_get}
+use Rattle.std.specs.Option.{is_some, option_map}
 use Rattle.std.proofs.lemmas.Option.{none-some, same_Some}
-use Rattle.td_base.specs.Lists.{In, Successive}
+use Rattle.td_base.specs.Lists.{Successive}
 use Rattle.td_base.specs.Value.{AtomIdValue}
 use Rattle.td_base.proofs.Elements.{In-slice_get}
 use Rattle.td_base.proofs.Lists.{all_in}

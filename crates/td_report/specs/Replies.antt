@@ -1,8 +1,7 @@
 -- What an edit and a proposal print of their replies, and the events: the votes and decisions that steps send.
-use Rattle.std.specs.Prelude.{ℕ, Bool, true, false, List, [], ◌∷◌, ◌++◌, Option, codes}
+use Rattle.std.specs.Prelude.{ℕ, Bool, true, false, List, [], ◌++◌, Option, codes}
 use Rattle.std.specs.Fmt.{decimal}
 use Rattle.td_base.specs.Value.{DotValue}
-use Rattle.td_op.specs.Op.{OpValue}
 use Rattle.td_op.specs.declared.body.Body.{Body}
 use Rattle.td_op.specs.declared.body.Body.TheVariants.{Commit, Abort}
 use Rattle.td_op.specs.declared.message.Message.{Message}

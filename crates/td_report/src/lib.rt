@@ -2,8 +2,8 @@
 //!
 //! Each call answers the lines of its values, each ended by LF, or want of memory. Begin at `specs/Replies.antt` and
 //! `specs/Tree.antt`, which have one definition for each kind of line, over the values that a machine has: replies,
-//! messages, rows. `specs/TraceLines.antt` has what a line of a trace says and how it is written, apart from any replica,
-//! and `specs/Trace.antt` the whole trace. Numbers, dots and texts are written as `td_script` reads them.
+//! messages, rows. `specs/TraceLines.antt` has what a line of a trace says and how it is written, apart from any
+//! replica, and `specs/Trace.antt` the whole trace. Numbers, dots and texts are written as `td_script` reads them.
 #![tactic(auto)]
 
 mod count;
