@@ -1,0 +1,18 @@
+use Rattle.td_line.proofs.Working.{served_then, served_shown}
+use Rattle.td_line.proofs.line.Line.finish.Goals as goal
+
+pub returns-in_err-show-clause-served : goal.returns-in_err-show-clause-served
+returns-in_err-show-clause-served g c =
+    let t = c.do_ask.new.site in
+    let u = c.show.new.self in
+    let m = c.do_ask.new.self in
+    served_then c.args.site.now t u c.args.self.now m m c.do_ask.ensures.served
+    (served_shown t u m c.show.ensures.later c.show.ensures.replica)
+
+pub returns-clause-served : goal.returns-clause-served
+returns-clause-served g c =
+    let t = c.do_ask.new.site in
+    let u = c.show.new.self in
+    let m = c.do_ask.new.self in
+    served_then c.args.site.now t u c.args.self.now m m c.do_ask.ensures.served
+    (served_shown t u m c.show.ensures.later c.show.ensures.replica)
