@@ -1,8 +1,8 @@
 // The commands of the language of live scripts, and what each asks for behind its first word.
 ghost use Rattle.std.specs.Prelude.{◌≡◌, ◌≤◌};
 ghost use Rattle.td_script.specs.Answers.{IsLineAnswer};
-ghost use Rattle.td_script.specs.LiveFaults.{editor_at, editor_line, editor_of, live_command, loss_at};
-ghost use Rattle.td_script.specs.LiveFaults.{turns_at, turns_of};
+ghost use Rattle.td_script.specs.LiveFaults.{editor_at, editor_line, editor_of, live_command};
+ghost use Rattle.td_script.specs.LiveFaults.{loss_at, turns_at, turns_of};
 
 use crate::argument::{last, next_word, number_word, site_word};
 use crate::kind::{Kind, LineFault};

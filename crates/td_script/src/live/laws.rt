@@ -18,5 +18,6 @@ pub fn spelled_live_scripts_are_unique()
 
 /// A live script that is written line by line is spelled by what is written.
 pub fn written_live_scripts_are_read_again()
-    ensures { (sites : ℕ) (cs : List LiveCommand) → IsLiveScript sites cs → SpellsLive (live_spelled cs) (live_of sites cs) }
+    ensures { (sites : ℕ) (cs : List LiveCommand)
+        → IsLiveScript sites cs → SpellsLive (live_spelled cs) (live_of sites cs) }
 {}

@@ -63,7 +63,8 @@ fn the_first_fault_of_a_live_script_is_told(rt: HostRuntime) -> Result<(), Fail>
             "fault 6 size",
         ),
         (
-            "sites 9\neditor 1\neditor 2\neditor 3\neditor 4\neditor 5\ndel 1 0 65535\ndel 2 0 65535\ndel 3 0 65535\ndel 4 0 65535\ndel 5 0 4\nlook 5\nflat 5 root\n",
+            "sites 9\neditor 1\neditor 2\neditor 3\neditor 4\neditor 5\ndel 1 0 65535\ndel 2 0 65535\n\
+             del 3 0 65535\ndel 4 0 65535\ndel 5 0 4\nlook 5\nflat 5 root\n",
             "fault 13 calls",
         ),
         // none
