@@ -1,0 +1,17 @@
+pub mod Heards
+pub mod Locals
+pub mod Connected
+pub mod Rowing
+pub mod Walks
+pub mod Serving
+pub mod Working
+pub mod Turning
+pub mod Looks
+pub mod Lines
+pub mod Leaving
+pub mod Linked
+pub mod Ends
+pub mod Gathers
+pub mod Closeds
+pub mod Transport
+pub mod Opens
