@@ -108,7 +108,8 @@ last_within old last (q ∷ asks) (b ∷ c ∷ answers) a r h =
 is_at : ℕ → ℕ → ℕ
 is_at a k = if a == k then 1 else 0
 
-answers_more : (k : ℕ) (answers : List Answer) (a : Answer) → answers_at k (answers ++ a ∷ []) ≡ answers_at k answers + is_at a.entry k
+answers_more : (k : ℕ) (answers : List Answer) (a : Answer)
+    → answers_at k (answers ++ a ∷ []) ≡ answers_at k answers + is_at a.entry k
 unfolding is_at
 answers_more k [] a = at (a.entry == k)
   where
@@ -155,7 +156,8 @@ local_more old e (suc k) h =
 
 -- one entry more, and one answer more that has it
 pub counts_done : (old : History) (before : List Answer) (ask : Ask) (new : History) (after : List Answer)
-    → IsDone old before ask new after → (k : ℕ) → answers_at k after + local_at old k ≡ answers_at k before + local_at new k
+    → IsDone old before ask new after → (k : ℕ)
+    → answers_at k after + local_at old k ≡ answers_at k before + local_at new k
 counts_done old before ask new after d k =
     let a = d.answer in
     let at : a.entry ≡ suc (length old) = entry_after old new (entry_of ask a) a.entry d.entries d.entry in
@@ -199,4 +201,5 @@ only_then old now new a b =
 
 pub only_done : (old : History) (before : List Answer) (ask : Ask) (new : History) (after : List Answer)
     → IsDone old before ask new after → OnlyLocals old new
-only_done old before ask new after d = record { more = entry_of ask d.answer ∷ []; added = d.entries; local = (refl, tt) }
+only_done old before ask new after d =
+    record { more = entry_of ask d.answer ∷ []; added = d.entries; local = (refl, tt) }

@@ -44,8 +44,8 @@ done_next old before all now given left ask next more rest d first is =
       begins = prefix_then before given more d.begins (is.answer ∷ [], sym is.given);
     }
 
-pub done_all : (old : History) (before : List Answer) (all : List Ask) (now : History) (given : List Answer) (left : List Ask)
-    → AreDone old before all now given left → left ≡ []
+pub done_all : (old : History) (before : List Answer) (all : List Ask) (now : History) (given : List Answer)
+    (left : List Ask) → AreDone old before all now given left → left ≡ []
     → (asks : List Ask) → AreRecorded old 0 asks before → AreRecorded now 0 (asks ++ all) given
 done_all old before all now given left d none asks r =
     let is : all ≡ d.done = d.are ∙ ap (λ (w : List Ask). d.done ++ w) none ∙ append-nil d.done in
@@ -72,5 +72,6 @@ polled_begins sent taken left owed given more is sends begins =
     let whole : polled ++ map (λ (r : Report). r.answer) left ≡ sent_part owed given =
     sym (map-append (λ (r : Report). r.answer) taken left) ∙ ap (map (λ (r : Report). r.answer)) (sym is) ∙ sends in
     prefix_then polled given more
-    (prefix_then polled (sent_part owed given) given (map (λ (r : Report). r.answer) left, whole) (sent_begins owed given))
+    (prefix_then polled (sent_part owed given) given (map (λ (r : Report). r.answer) left, whole)
+    (sent_begins owed given))
     begins

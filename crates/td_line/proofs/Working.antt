@@ -127,7 +127,8 @@ served_done s t l m ask later waits d is =
         taken = ap (λ (x : LineValue). x.asks.taken) is ∙ h.taken
             ∙ ap (λ (o : Option Ask). h.done ++ option_to_list o) waits
             ∙ sym (append-nil (h.done ++ ask ∷ []))
-            ∙ ap (λ (o : Option Ask). (h.done ++ ask ∷ []) ++ option_to_list o) (sym (ap (λ (x : LineValue). x.ask) is));
+            ∙ ap (λ (o : Option Ask). (h.done ++ ask ∷ []) ++ option_to_list o)
+            (sym (ap (λ (x : LineValue). x.ask) is));
         recorded = recorded_done s.replica.entries l.given ask t.replica.entries m.given d h.done h.recorded;
       };
       counts = counts_done s.replica.entries l.given ask t.replica.entries m.given d;
@@ -142,8 +143,8 @@ taken_next old (Some ask) done taken more none is m =
     m ∙ ap (λ (w : List Ask). w ++ ask ∷ [])
     (is ∙ ap (λ (o : Option Ask). done ++ option_to_list o) none ∙ append-nil done)
 
-taken_more : (next : Option Ask) (taken more : List Ask) → MatchOption next (more ≡ taken) (λ ask. more ≡ taken ++ ask ∷ [])
-    → IsPrefix taken more
+taken_more : (next : Option Ask) (taken more : List Ask)
+    → MatchOption next (more ≡ taken) (λ ask. more ≡ taken ++ ask ∷ []) → IsPrefix taken more
 taken_more None taken more m = prefix_equal taken more m
 taken_more (Some ask) taken more m = (ask ∷ [], sym m)
 

@@ -68,8 +68,9 @@ pub record Served (s : SiteValue) (l : LineValue) (t : SiteValue) (m : LineValue
   pub counts : (k : ℕ) → answers_at k m.given + local_at s.replica.entries k
       ≡ answers_at k l.given + local_at t.replica.entries k
 
--- what a turn that ends well leaves of a line: the request taken is done; an answer is owed only where the answer queue
--- was full at a moment; and no request was taken only where the request queue was empty at a moment, or an answer is owed
+-- what a turn that ends well leaves of a line: the request taken is done; an answer is owed only where the answer
+-- queue was full at a moment; and no request was taken only where the request queue was empty at a moment, or an
+-- answer is owed
 pub record Turned (l m : LineValue) : Type 0 where
   pub done : m.ask ≡ None
   pub full : m.owed ≡ true → WasFull line_places m.answers.sent

@@ -21,8 +21,9 @@ use td_site::Site;
 use td_view::Reader;
 
 impl Line {
-    /// Ends the line and its editor: what was asked and is not done is done and shown, and the answers of all calls, in
-    /// order, are handed out, with the editor's reader. It may wait for readers.
+    /// Ends the line and its editor: what was asked and is not done is done and shown, and the answers of all calls,
+    /// in order, are handed out, with the editor's reader. It may wait for readers. After `Memory` line and editor are
+    /// gone.
     pub fn end<D: Doc, R: Wait>(
         self,
         rt: &R,

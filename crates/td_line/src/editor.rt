@@ -19,8 +19,8 @@ use td_link::{Rx, Tx};
 use td_op::Request;
 use td_view::{Reader, Shown};
 
-/// Who asks a site for edits, one after the other, and looks at its text. It may go to another thread. Contracts see an
-/// `EditorValue`.
+/// Who asks a site for edits, one after the other, and looks at its text. It may go to another thread. Contracts see
+/// an `EditorValue`.
 #[derive(Drop)]
 pub struct Editor {
     pub(crate) home: Site,
@@ -104,8 +104,8 @@ impl Editor {
         Some(answer)
     }
 
-    /// What `f` answers on a text of the site that has at least the entry of the last answer polled, and is never older
-    /// than one seen before. None only where `refused` rose, and then `f` is not called. It takes no memory and never
+    /// What `f` answers on a text of the site that has at least the entry of the last answer polled, and is never
+    /// older than one seen before. None only where `refused` rose, and then `f` is not called. It takes no memory and never
     /// waits.
     pub fn look<X, F: FnOnce(&Shown) -> X>(&mut self, f: F) -> Option<X>
         requires { F.IsAlwaysCallable f }

@@ -11,9 +11,9 @@ use td_doc::Doc;
 use td_site::Site;
 
 impl Line {
-    /// What a turn of the worker does for the editor: what is still owed first, then at most one request, which becomes
-    /// one step of the replica, is shown and answered. After `Memory` what was taken is kept, and done first the next
-    /// time. It may wait for readers.
+    /// What a turn of the worker does for the editor: what is still owed first, then at most one request, which
+    /// becomes one step of the replica, is shown and answered. After `Memory` what was taken is kept, and done first
+    /// the next time. It may wait for readers.
     pub fn serve<D: Doc, G: Gate, R: Wait>(
         &mut self,
         rt: &R,

@@ -33,5 +33,6 @@ pub returns-clause-given : goal.returns-clause-given
 returns-clause-given g c =
     let m = c.finish.new.self in
     let more : IsPrefix m.given c.do_left.new.given.items =
-    subst (λ (l : LineValue). IsPrefix l.given c.do_left.new.given.items) c.line.view_is c.in_ok-do_left.ensures.given in
+    subst (λ (l : LineValue). IsPrefix l.given c.do_left.new.given.items) c.line.view_is
+    c.in_ok-do_left.ensures.given in
     prefix_then c.args.self.given m.given c.do_left.new.given.items c.finish.ensures.served.line.given more

@@ -11,11 +11,13 @@ try_send-requires g c m h =
     let s = c.args.site.now in
     let l = c.args.self.now in
     let mark : l.answers.mark ≡ Some m = subst (λ (x : LineValue). x.answers.mark ≡ Some m) c.self.view_is h in
-    let given : c.deref.result.now ≡ l.given = c.deref.ensures.value ∙ ap (λ (x : LineValue). x.given) c.self.view_is in
+    let given : c.deref.result.now ≡ l.given =
+    subst (λ (x : LineValue). c.deref.result.now ≡ x.given) c.self.view_is c.deref.ensures.value in
     let last : Some c.in-Some.last.now ≡ slice_get l.given (length l.given - 1) =
-    c.in-Some.ensures.value ∙ ap (λ (w : List Answer). slice_get w (length w - 1)) given in
+    subst (λ (w : List Answer). Some c.in-Some.last.now ≡ slice_get w (length w - 1)) given c.in-Some.ensures.value in
     let views : s.writer.views ≡ m = same s.writer.views m (sym c.requires.views ∙ mark) in
-    let within = last_within s.replica.entries 0 c.requires.served.done l.given c.in-Some.last.now c.requires.served.recorded last in
+    let within =
+    last_within s.replica.entries 0 c.requires.served.done l.given c.in-Some.last.now c.requires.served.recorded last in
     let upto = c.told.ensures.upto in
     (ap (λ (x : ToldValue). x.views) c.told.ensures.told ∙ views, (upto.0, upto.1, le_trans within upto.2))
   where
