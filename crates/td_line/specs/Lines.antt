@@ -1,5 +1,5 @@
 -- What contracts see of the end of a line that a worker has, and what its work for one editor leaves.
-use Rattle.std.specs.Prelude.{◌≡◌, ◌<◌, ◌+◌, ◌-◌, ◌++◌, ℕ, Bool, true, false, List, map, take, length, Option, None}
+use Rattle.std.specs.Prelude.{◌≡◌, ◌≢◌, ◌⊎◌, ◌<◌, ◌+◌, ◌-◌, ◌++◌, ℕ, Bool, true, false, List, map, take, length, Option, None}
 use Rattle.std.specs.Option.{option_to_list}
 use mathlib.Core.List.{IsPrefix}
 use Rattle.logbook.specs.Pages.{Book}
@@ -67,6 +67,10 @@ pub record Served (s : SiteValue) (l : LineValue) (t : SiteValue) (m : LineValue
   pub served : HasServed s.replica.entries l → HasServed t.replica.entries m
   pub counts : (k : ℕ) → answers_at k m.given + local_at s.replica.entries k
       ≡ answers_at k l.given + local_at t.replica.entries k
+
+-- the last step is still to be shown, or the request that was taken is still to be done
+abbrev pub IsUnfinished : SiteValue → LineValue → Type 0
+IsUnfinished s l = (s.late ≡ true) ⊎ (l.ask ≢ None)
 
 -- what a turn that ends well leaves of a line: the request taken is done; an answer is owed only where the answer
 -- queue was full at a moment; and no request was taken only where the request queue was empty at a moment, or an

@@ -1,7 +1,7 @@
 // How a request is shown and answered.
-ghost use Rattle.std.specs.Prelude.{◌≡◌, true, false, None, Some, OnOk};
+ghost use Rattle.std.specs.Prelude.{◌≡◌, true, false, None, Some, OnOk, OnErr};
 ghost use Rattle.td_link.specs.Moments.{WasFull};
-ghost use Rattle.td_line.specs.Lines.{HasServed, Served, line_places};
+ghost use Rattle.td_line.specs.Lines.{HasServed, Served, IsUnfinished, line_places};
 
 use crate::gate::Gate;
 use crate::line::Line;
@@ -27,6 +27,7 @@ impl Line {
         ensures late { OnOk result (site.new.late ≡ false) }
         ensures done { OnOk result (self.new.ask ≡ None) }
         ensures full { OnOk result (self.new.owed ≡ true → WasFull line_places self.new.answers.sent) }
+        ensures err { OnErr result (IsUnfinished site.new self.new) }
     {
         site.show(rt)?;
         self.send(rt, gate, site);
@@ -52,6 +53,7 @@ impl Line {
         ensures late { OnOk result (site.new.late ≡ false) }
         ensures done { OnOk result (self.new.ask ≡ None) }
         ensures full { OnOk result (self.new.owed ≡ true → WasFull line_places self.new.answers.sent) }
+        ensures err { OnErr result (IsUnfinished site.new self.new) }
     {
         self.do_ask(site)?;
         site.show(rt)?;

@@ -1,5 +1,5 @@
 // How a request is done.
-ghost use Rattle.std.specs.Prelude.{◌≡◌, false, None, OnOk, OnErr};
+ghost use Rattle.std.specs.Prelude.{◌≡◌, ◌≢◌, false, None, OnOk, OnErr};
 ghost use Rattle.td_site.specs.Later.{LaterSite};
 ghost use Rattle.td_line.specs.Calls.{IsDone};
 ghost use Rattle.td_line.specs.Lines.{Served};
@@ -20,6 +20,7 @@ impl Line {
         ensures asks { self.new.asks ≡ self.old.asks }
         ensures answers { self.new.answers ≡ self.old.answers }
         ensures done { OnOk result (self.new.ask ≡ None) }
+        ensures err { OnErr result (self.new.ask ≢ None) }
     {
         let Some(ask) = self.ask else {
             return Ok(());

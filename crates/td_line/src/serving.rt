@@ -1,7 +1,7 @@
 // A turn of a worker for one editor.
-ghost use Rattle.std.specs.Prelude.{◌≡◌, ◌≤◌, ◌+◌, ◌++◌, ◌∷◌, [], length, false, None, Some, MatchOption, OnOk};
+ghost use Rattle.std.specs.Prelude.{◌≡◌, ◌≤◌, ◌+◌, ◌++◌, ◌∷◌, [], length, false, None, Some, MatchOption, OnOk, OnErr};
 ghost use Rattle.td_link.specs.Moments.{WasEmpty};
-ghost use Rattle.td_line.specs.Lines.{HasServed, Served, Turned};
+ghost use Rattle.td_line.specs.Lines.{HasServed, Served, Turned, IsUnfinished};
 
 use crate::gate::Gate;
 use crate::line::Line;
@@ -26,6 +26,7 @@ impl Line {
         ensures one { length self.new.asks.taken ≤ length self.old.asks.taken + 1 }
         ensures late { OnOk result (site.new.late ≡ false) }
         ensures turned { OnOk result (Turned self.old self.new) }
+        ensures err { OnErr result (IsUnfinished site.new self.new) }
     {
         self.catch_up(rt, gate, site)?;
         if self.owed {
