@@ -15,3 +15,4 @@ pub mod Gathers
 pub mod Closeds
 pub mod Transport
 pub mod Opens
+pub mod Staging

@@ -1,0 +1,4 @@
+mod calls;
+mod many;
+mod side_by_side;
+mod stage;
