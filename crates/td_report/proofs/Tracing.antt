@@ -7,8 +7,10 @@ use Rattle.std.proofs.lemmas.Bool.{cond-false, ne_eqb}
 use Rattle.std.proofs.lemmas.List.Concat.{flat_map-append}
 use Rattle.td_op.specs.declared.entry.Entry.{Entry}
 use Rattle.td_history.specs.Past.{kth}
-use Rattle.td_report.specs.declared.log.Did.{Did}
-use Rattle.td_report.specs.declared.log.EditorLog.{EditorLog}
+use Rattle.td_trace.specs.declared.log.Did.{Did}
+use Rattle.td_trace.specs.declared.log.EditorLog.{EditorLog}
+use Rattle.td_trace.specs.declared.entry.TraceEntry.{TraceEntry}
+use Rattle.td_trace.specs.Entries.{traced}
 use Rattle.td_report.specs.Parts.{if_any}
 use Rattle.td_report.specs.Trace.{all_written, did_said, entry_said, entry_written, history_said, log_said, numbered}
 use Rattle.td_report.specs.Trace.{text_said, trace}
@@ -21,8 +23,8 @@ kth_suc {X} k xs =
     ∙ ap (slice_get xs) back
 
 next_of : (number k : ℕ) (xs : List Entry)
-    → all_written (numbered entry_said number (take k xs)) ++ if_any (entry_written (number + k)) (slice_get xs k)
-    ≡ all_written (numbered entry_said number (take (suc k) xs))
+    → all_written (numbered entry_said number (map traced (take k xs))) ++ if_any (entry_written (number + k)) (slice_get xs k)
+    ≡ all_written (numbered entry_said number (map traced (take (suc k) xs)))
 next_of number zero [] = refl
 next_of number (suc k) [] = refl
 next_of number zero (x ∷ xs) =
@@ -30,28 +32,28 @@ next_of number zero (x ∷ xs) =
     ap (λ (n : ℕ). entry_written n x) same ∙ sym (append-nil (entry_written number x))
 next_of number (suc k) (x ∷ xs) =
     let same : number + suc k ≡ number + 1 + k = omega arith in
-    append_assoc (entry_written number x) (all_written (numbered entry_said (number + 1) (take k xs)))
+    append_assoc (entry_written number x) (all_written (numbered entry_said (number + 1) (map traced (take k xs))))
     (if_any (entry_written (number + suc k)) (slice_get xs k))
     ∙ ap (λ (n : ℕ). entry_written number x
-    ++ (all_written (numbered entry_said (number + 1) (take k xs)) ++ if_any (entry_written n) (slice_get xs k))) same
+    ++ (all_written (numbered entry_said (number + 1) (map traced (take k xs))) ++ if_any (entry_written n) (slice_get xs k))) same
     ∙ ap (λ (rest : List ℕ). entry_written number x ++ rest) (next_of (number + 1) k xs)
 
 -- the next entry, where there is one
 pub next_entry : (start : List ℕ) (xs : List Entry) (k : ℕ)
-    → (start ++ all_written (numbered entry_said 1 (take k xs))) ++ if_any (entry_written (k + 1)) (kth (k + 1) xs)
-    ≡ start ++ all_written (numbered entry_said 1 (take (k + 1) xs))
+    → (start ++ all_written (numbered entry_said 1 (map traced (take k xs)))) ++ if_any (entry_written (k + 1)) (kth (k + 1) xs)
+    ≡ start ++ all_written (numbered entry_said 1 (map traced (take (k + 1) xs)))
 next_entry start xs k =
     let number : k + 1 ≡ 1 + k = omega arith in
     let more : suc k ≡ k + 1 = omega arith in
-    ap (λ (o : Option Entry). (start ++ all_written (numbered entry_said 1 (take k xs)))
+    ap (λ (o : Option Entry). (start ++ all_written (numbered entry_said 1 (map traced (take k xs))))
     ++ if_any (entry_written (k + 1)) o)
     (kth_suc k xs)
-    ∙ append_assoc start (all_written (numbered entry_said 1 (take k xs))) (if_any (entry_written (k + 1))
+    ∙ append_assoc start (all_written (numbered entry_said 1 (map traced (take k xs)))) (if_any (entry_written (k + 1))
     (slice_get xs k))
     ∙ ap (λ (n : ℕ). start
-    ++ (all_written (numbered entry_said 1 (take k xs)) ++ if_any (entry_written n) (slice_get xs k))) number
+    ++ (all_written (numbered entry_said 1 (map traced (take k xs))) ++ if_any (entry_written n) (slice_get xs k))) number
     ∙ ap (λ (rest : List ℕ). start ++ rest) (next_of 1 k xs)
-    ∙ ap (λ (n : ℕ). start ++ all_written (numbered entry_said 1 (take n xs))) more
+    ∙ ap (λ (n : ℕ). start ++ all_written (numbered entry_said 1 (map traced (take n xs)))) more
 
 -- what an editor did, a line for each
 pub all_did : (did : List Did) → all_written (map did_said did) ≡ flat_map (λ d. written (did_said d)) did
@@ -77,7 +79,7 @@ numbered_push say number (y ∷ xs) x =
     (sym (flat_map-append written (say number y) (numbered say (number + 1) xs)))
     ∙ ap (λ (n : ℕ). all_written (numbered say number (y ∷ xs)) ++ all_written (say n x)) same
 
-pub parts_of_trace : (sites : ℕ) (histories : List (List Entry)) (logs : List EditorLog) (texts : List (List ℕ))
+pub parts_of_trace : (sites : ℕ) (histories : List (List TraceEntry)) (logs : List EditorLog) (texts : List (List ℕ))
     → trace sites histories logs texts
     ≡ written (SitesAre sites)
     ++ (all_written (numbered history_said 1 histories)

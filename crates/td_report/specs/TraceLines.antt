@@ -16,19 +16,13 @@ use Rattle.td_op.specs.declared.request.Request.TheVariants.{Insert, InsertAfter
 use Rattle.td_op.specs.declared.request.Request.TheVariants.{Propose, ProposeAt, Cancel}
 use Rattle.td_script.specs.Characters.{line_feed, space}
 use Rattle.td_script.specs.Spelling.{spaced, spaced_bit, spaced_dot}
-use Rattle.td_report.specs.declared.told.Told.{Told}
-use Rattle.td_report.specs.declared.told.Told.TheVariants.{Asked, TookOp, TookVote, Went}
+use Rattle.td_trace.specs.declared.entry.TraceEntry.{TraceEntry}
+use Rattle.td_trace.specs.declared.told.Told.{Told}
+use Rattle.td_trace.specs.declared.told.Told.TheVariants.{Asked, TookOp, TookVote, Went}
 use Rattle.td_report.specs.Parts.{identity, line, refusal, spaced_quoted, spaced_slot}
 use Rattle.td_report.specs.Replies.{yes_or_no}
 
 -- ---- what is told of an input
-
--- of an operation that was taken, its dot alone: its content stands where its own site made it
-abbrev pub told_of : Input → Told
-told_of (Local request) = Asked request
-told_of (Take (Op op)) = TookOp op.dot
-told_of (Take (Vote vote)) = TookVote vote
-told_of Next = Went
 
 -- an identity, behind a space
 abbrev pub spaced_identity : AtomIdValue → List ℕ
@@ -96,7 +90,7 @@ pub data TraceLine : Type 0 where
   -- what follows is the history of the site
   HistoryOf : (site : ℕ) → TraceLine
   -- the entry with this number in the history
-  EntryIs : (number : ℕ) → (input : Told) → (reply : Reply) → TraceLine
+  EntryIs : (number : ℕ) → (entry : TraceEntry) → TraceLine
   -- what follows is what the editor at the site did
   EditorAt : (number : ℕ) → (site : ℕ) → TraceLine
   -- the call with this number is this entry of the site
@@ -108,15 +102,15 @@ pub data TraceLine : Type 0 where
   Ended : TraceLine
 
 -- the entry with this number
-abbrev pub entry_line : ℕ → Told → Reply → List ℕ
-entry_line number input reply =
-    decimal number ++ (told_part input ++ (codes " ->" ++ (reply_part reply ++ line_feed ∷ [])))
+abbrev pub entry_line : ℕ → TraceEntry → List ℕ
+entry_line number entry =
+    decimal number ++ (told_part entry.told ++ (codes " ->" ++ (reply_part entry.reply ++ line_feed ∷ [])))
 
 -- the line as it is written, with its LF
 abbrev pub written : TraceLine → List ℕ
 written (SitesAre n) = line (codes "sites") n []
 written (HistoryOf site) = line (codes "site") site []
-written (EntryIs number input reply) = entry_line number input reply
+written (EntryIs number entry) = entry_line number entry
 written (EditorAt number site) = line (codes "editor") number (spaced site)
 written (CallIs number entry) = line (codes "call") number (spaced entry)
 written (LookIs calls upto text) = line (codes "look") calls (spaced upto ++ spaced_quoted text)

@@ -12,10 +12,10 @@ use crate::parts::{
     push_bit, push_identity, push_number, push_refusal, push_slot, push_spaced, push_spaced_dot,
 };
 use crate::show::push_quoted;
-use crate::told::Told;
 use std::alloc::Global;
 use td_base::{AtomId, Bytes, Dot, Memory, Run};
 use td_op::{Entry, Reply, Request, Vote, Why};
+use td_trace::{Told, TraceEntry};
 
 /// `K INPUT -> REPLY`: the entry with this number of a history.
 pub fn entry_line(alloc: Global, number: u64, entry: Entry) -> Result<Bytes, Memory>
@@ -31,9 +31,10 @@ pub(crate) fn push_entry(line: &mut Bytes, number: u64, entry: &Entry) -> Result
     ensures { OnOk result (line.new ≡ line.old ++ entry_written number entry.now) }
 {
     push_number(line, number)?;
-    push_told(line, &Told::of(&entry.input))?;
+    let traced = TraceEntry::of(entry);
+    push_told(line, &traced.told)?;
     line.push(b" ->")?;
-    push_reply(line, &entry.reply)?;
+    push_reply(line, &traced.reply)?;
     line.push(b"\n")
 }
 

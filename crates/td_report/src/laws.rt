@@ -1,13 +1,13 @@
 // What the definition of a trace comes to: it is made of the lines that the calls answer, one behind the other.
 ghost use Rattle.std.specs.Prelude.{◌≡◌, ◌+◌, ◌++◌, ◌∷◌, [], ℕ, List, length};
-ghost use Rattle.td_op.specs.declared.entry.Entry.{Entry};
-ghost use Rattle.td_report.specs.declared.log.EditorLog.{EditorLog};
+ghost use Rattle.td_trace.specs.declared.entry.TraceEntry.{TraceEntry};
+ghost use Rattle.td_trace.specs.declared.log.EditorLog.{EditorLog};
 ghost use Rattle.td_report.specs.Trace.{all_written, history_said, log_said, numbered, text_said, trace};
 ghost use Rattle.td_report.specs.TraceLines.{Ended, SitesAre, written};
 
 /// A trace is its first line, the lines of its sites, of its editors and of its texts, and its last line.
 pub fn traces_are_their_parts()
-    ensures { (sites : ℕ) (histories : List (List Entry)) (logs : List EditorLog) (texts : List (List ℕ))
+    ensures { (sites : ℕ) (histories : List (List TraceEntry)) (logs : List EditorLog) (texts : List (List ℕ))
         → trace sites histories logs texts
         ≡ written (SitesAre sites)
         ++ (all_written (numbered history_said 1 histories)
@@ -17,7 +17,7 @@ pub fn traces_are_their_parts()
 
 /// The lines of one more site, editor or text stand behind those before it.
 pub fn traces_grow_at_their_ends()
-    ensures sites { (histories : List (List Entry)) (history : List Entry)
+    ensures sites { (histories : List (List TraceEntry)) (history : List TraceEntry)
         → all_written (numbered history_said 1 (histories ++ history ∷ []))
         ≡ all_written (numbered history_said 1 histories)
         ++ all_written (history_said (1 + length histories) history) }

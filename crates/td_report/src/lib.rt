@@ -13,11 +13,9 @@ mod event;
 mod flattens;
 mod give;
 mod laws;
-mod log;
 mod parts;
 mod show;
 mod summary;
-mod told;
 mod trace;
 mod tree;
 
@@ -28,10 +26,8 @@ pub use event::event_line;
 pub use flattens::{cancel_line, flat_line};
 pub use give::{give_line, settle_line};
 pub use laws::{traces_are_their_parts, traces_grow_at_their_ends};
-pub use log::{Did, DidList, EditorLog};
 pub use show::show_line;
 pub use summary::summary_lines;
-pub use told::Told;
 pub use trace::{trace_editor, trace_end, trace_head, trace_site, trace_text};
 pub use tree::tree_lines;
 

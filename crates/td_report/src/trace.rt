@@ -1,19 +1,20 @@
 ghost use Rattle.std.specs.Prelude.{◌≡◌, ◌++◌, IfOk, OnOk};
 ghost use Rattle.std.specs.List.{flat_map};
 ghost use Rattle.td_history.specs.Past.{kth};
+ghost use Rattle.td_trace.specs.Entries.{traced_history};
 ghost use Rattle.td_report.specs.Parts.{if_any};
 ghost use Rattle.td_report.specs.Trace.{all_written, did_said, entry_said, entry_written, history_said, log_said};
 ghost use Rattle.td_report.specs.Trace.{numbered};
 ghost use Rattle.td_report.specs.TraceLines.{EditorAt, Ended, SitesAre, TextIs, written};
 
 use crate::entry::push_entry;
-use crate::log::{Did, EditorLog};
 use crate::parts::{begin, push_spaced};
 use crate::show::push_quoted;
 use std::alloc::Global;
 use td_base::{Bytes, Memory, Site};
 use td_doc::Doc;
 use td_replica::Replica;
+use td_trace::{Did, EditorLog};
 
 /// `sites N`: the first line of a trace. N is 0 where a live script has no command.
 pub fn trace_head(alloc: Global, sites: u8) -> Result<Bytes, Memory>
@@ -28,7 +29,8 @@ pub fn trace_head(alloc: Global, sites: u8) -> Result<Bytes, Memory>
 
 /// `site R`, and a line for each entry of its history.
 pub fn trace_site<D: Doc>(alloc: Global, replica: &Replica<D>) -> Result<Bytes, Memory>
-    ensures { IfOk result (λ lines. lines ≡ all_written (history_said replica.now.machine.site replica.now.entries)) }
+    ensures { IfOk result (λ lines. lines ≡ all_written
+        (history_said replica.now.machine.site (traced_history replica.now.entries))) }
 {
     let mut lines = begin(alloc, b"site", replica.site())?;
     lines.push(b"\n")?;
@@ -39,7 +41,8 @@ pub fn trace_site<D: Doc>(alloc: Global, replica: &Replica<D>) -> Result<Bytes, 
 // A line for each entry.
 #[tactic(auto, using(crate::proofs::Tracing::next_entry))]
 fn push_entries<D: Doc>(lines: &mut Bytes, replica: &Replica<D>) -> Result<(), Memory>
-    ensures { OnOk result (lines.new ≡ lines.old ++ all_written (numbered entry_said 1 replica.now.entries)) }
+    ensures { OnOk result (lines.new ≡ lines.old ++ all_written
+        (numbered entry_said 1 (traced_history replica.now.entries))) }
 {
     for k in 0..replica.entries() {
         push_entry_at(lines, replica, k + 1)?;

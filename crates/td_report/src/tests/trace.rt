@@ -1,9 +1,6 @@
 //! The lines of a trace: each row of the tables of inputs and of replies, and the trace of a live run.
 
-use crate::{
-    Did, DidList, EditorLog, entry_line, trace_editor, trace_end, trace_head, trace_site,
-    trace_text,
-};
+use crate::{entry_line, trace_editor, trace_end, trace_head, trace_site, trace_text};
 use std::alloc::Global;
 use std::process::Abort;
 use std::test::Fail;
@@ -13,6 +10,7 @@ use td_doc::Rows;
 use td_op::{Body, Entry, Input, Message, Op, Reply, Request, Vote, Why};
 use td_path::Slot;
 use td_replica::Replica;
+use td_trace::{Did, DidList, EditorLog};
 
 fn site(number: u8) -> Result<Site, Fail> {
     Ok(Site::new(number).ok_or("a site")?)

@@ -21,7 +21,7 @@ pub struct DidList {
 
 impl Model for DidList {
     ghost use Rattle.std.specs.Prelude.{List};
-    ghost use Rattle.td_report.specs.declared.log.Did.{Did};
+    ghost use Rattle.td_trace.specs.declared.log.Did.{Did};
 
     ghost Value = { List Did };
 
@@ -36,6 +36,13 @@ impl DidList {
         DidList {
             items: Vec::new(alloc),
         }
+    }
+
+    /// What was done, from a list of it. Takes no memory.
+    pub fn of(items: Vec<Did>) -> DidList
+        ensures { result ≡ items.items }
+    {
+        DidList { items }
     }
 
     /// Adds what was done at the end.

@@ -1,5 +1,5 @@
 ghost use Rattle.std.specs.Prelude.{◌≡◌};
-ghost use Rattle.td_report.specs.TraceLines.{told_of};
+ghost use Rattle.td_trace.specs.Entries.{told_of};
 
 use td_base::Dot;
 use td_op::{Input, Message, Request, Vote};
