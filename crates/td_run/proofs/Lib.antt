@@ -1,5 +1,4 @@
 pub mod OneWord
-pub mod RunLemmas
 pub mod NextEdits
 pub mod Events
 pub mod Offers

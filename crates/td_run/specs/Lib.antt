@@ -1,4 +1,3 @@
-pub mod Runs
 pub mod Asking
 pub mod Printing
 pub mod Outputs

@@ -16,7 +16,6 @@ mod outcome;
 mod play;
 mod player;
 mod program;
-mod runs;
 mod showing;
 mod status;
 mod typing;
@@ -24,7 +23,6 @@ mod words;
 
 pub use limits::the_limits_are_these;
 pub use program::run;
-pub use runs::a_text_is_cut_into_runs;
 pub use status::Status;
 pub use typing::typing_is_typing;
 

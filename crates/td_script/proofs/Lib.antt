@@ -25,3 +25,6 @@ pub mod LiveCommands
 pub mod LiveScriptLaws
 pub mod ReadLive
 pub mod LiveWritingLaws
+pub mod RunLemmas
+pub mod OwnedAtomsLemmas
+pub mod LiveFits

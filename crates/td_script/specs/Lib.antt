@@ -17,3 +17,4 @@ pub mod LiveWords
 pub mod LiveSpelling
 pub mod LiveScript
 pub mod LiveFaults
+pub mod Runs

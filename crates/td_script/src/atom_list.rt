@@ -1,10 +1,11 @@
-ghost use Rattle.std.specs.Prelude.{◌≡◌, ◌++◌, ◌∷◌, ◌↔◌, [], length, map, IsTrue, IfOk, OnOk, OnErr};
+ghost use Rattle.std.specs.Prelude.{◌≡◌, ◌++◌, ◌∷◌, ◌↔◌, [], length, map, All, IsTrue, IfOk, OnOk, OnErr};
 ghost use Rattle.std.specs.List.{concat};
 ghost use Rattle.std.specs.Str.{IsAscii};
 ghost use Rattle.td_base.specs.Atom.{IsAtom};
 ghost use Rattle.td_base.specs.Run.{letters};
 
 use crate::listed_atoms::ListedAtoms;
+use crate::owned_atoms::OwnedAtoms;
 use std::alloc::Global;
 use std::marker::Model;
 use td_base::{Atom, Memory};
@@ -97,6 +98,14 @@ impl AtomList {
         ensures { result ≡ self.now }
     {
         ListedAtoms::new(&self.lengths, &self.bytes)
+    }
+
+    /// The atoms, in order, with the memory that they stand in. Takes no memory.
+    pub fn into_atoms(self) -> OwnedAtoms
+        ensures atoms { result ≡ self }
+        ensures each { All IsAtom self }
+    {
+        OwnedAtoms::new(self.lengths, self.bytes)
     }
 
     /// The bytes of the atoms, one after another.

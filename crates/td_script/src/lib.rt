@@ -19,8 +19,10 @@ mod line;
 mod listed_atoms;
 mod live;
 mod number;
+mod owned_atoms;
 mod quoted;
 mod read_line;
+mod runs;
 mod script;
 mod shared;
 mod word;
@@ -35,9 +37,12 @@ pub use listed_atoms::ListedAtoms;
 pub use live::{
     DEFAULT_TURNS, EditorLine, EditorLines, Homes, LinesByEditor, Live, Loss, MAX_ALL_CALLS,
     MAX_CALLS, MAX_EDITORS, MAX_LIVE_SCRIPT, MAX_TURNS, NO_LOSS, live_scripts_have_no_fault,
-    read_live, spelled_live_scripts_are_unique, written_live_scripts_are_read_again,
+    read_live, spelled_live_scripts_are_fit, spelled_live_scripts_are_unique,
+    written_live_scripts_are_read_again,
 };
 pub use number::{MAX_DIGITS, number_of};
+pub use owned_atoms::OwnedAtoms;
+pub use runs::{TextRuns, a_text_is_cut_into_runs, runs_of};
 pub use script::{
     MAX_LINE, MAX_MIDDLE_REQUESTS, MAX_SCRIPT, MAX_WIDE_REQUESTS, MAX_WIDE_SCRIPT, Script,
     read_script,

@@ -15,7 +15,7 @@ pub use editor_line::EditorLine;
 pub use editor_lines::EditorLines;
 pub use homes::Homes;
 pub use laws::{
-    live_scripts_have_no_fault, spelled_live_scripts_are_unique,
+    live_scripts_have_no_fault, spelled_live_scripts_are_fit, spelled_live_scripts_are_unique,
     written_live_scripts_are_read_again,
 };
 pub use lines_by_editor::LinesByEditor;

@@ -1,5 +1,5 @@
-use Rattle.td_run.proofs.RunLemmas.{runs_kept}
-use Rattle.td_run.proofs.runs.runs_of.Goals as goal
+use Rattle.td_script.proofs.RunLemmas.{runs_kept}
+use Rattle.td_script.proofs.runs.runs_of.Goals as goal
 
 pub invariant_of-result : goal.invariant_of-result
 invariant_of-result c =

@@ -1,6 +1,6 @@
 use Rattle.std.proofs.Common.{◌≡◌, ◌<◌, ℕ, List, ap, sym, length, get_or, arith}
-use Rattle.td_run.proofs.RunLemmas.{next_in_run, run_is_full, sum_next}
-use Rattle.td_run.proofs.runs.first_run.Goals as goal
+use Rattle.td_script.proofs.RunLemmas.{next_in_run, run_is_full, sum_next}
+use Rattle.td_script.proofs.runs.first_run.Goals as goal
 
 pub returns-then-room-len-clause-first : goal.returns-then-room-len-clause-first
 returns-then-room-len-clause-first c =

@@ -1,8 +1,8 @@
 use Rattle.std.proofs.Common.{◌≡◌, ◌∷◌, ◌∙◌, sym, arith}
 use Rattle.td_base.specs.Run.{pieces}
-use Rattle.td_run.specs.Runs.{runs_of}
-use Rattle.td_run.proofs.RunLemmas.{first_run_is, lengths_short}
-use Rattle.td_run.proofs.runs.TextRunsIterator.next.Goals as goal
+use Rattle.td_script.specs.Runs.{runs_of}
+use Rattle.td_script.proofs.RunLemmas.{first_run_is, lengths_short}
+use Rattle.td_script.proofs.runs.TextRunsIterator.next.Goals as goal
 
 pub first_run-count-requires-clause-short : goal.first_run-count-requires-clause-short
 first_run-count-requires-clause-short c = lengths_short c.self.inside.lengths.now c.self.inside.bytes.now c.self.invariant

@@ -1,6 +1,6 @@
 use Rattle.std.proofs.Common.{◌≡◌, ◌+◌, List, ℕ, length, map, take, drop, sum}
-use Rattle.td_run.specs.Runs.{runs_of, runs_on}
-use Rattle.td_run.proofs.runs.first_run.Given as goal
+use Rattle.td_script.specs.Runs.{runs_of, runs_on}
+use Rattle.td_script.proofs.runs.first_run.Given as goal
 
 abbrev pub invariant-loop-len : goal.invariant-loop-len
 invariant-loop-len l = record {

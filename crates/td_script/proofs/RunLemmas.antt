@@ -14,7 +14,7 @@ use Rattle.td_base.specs.declared.run.TheConstants.{MAX_RUN_LEN}
 use Rattle.td_base.proofs.RunPieces.{length_concat, piece_bytes, piece_lengths}
 use Rattle.td_script.specs.AtomListParts.{IsAtomListParts}
 use Rattle.td_script.proofs.AtomListLemmas.{count_pieces, parts_of}
-use Rattle.td_run.specs.Runs.{one_run, runs_on, runs_of}
+use Rattle.td_script.specs.Runs.{one_run, runs_on, runs_of}
 
 one_is_run : (run : List (List ℕ)) → All IsAtom run → length (concat run) ≤ MAX_RUN_LEN → All IsRun (one_run run)
 one_is_run [] each short = All-nil IsRun

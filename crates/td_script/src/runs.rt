@@ -4,15 +4,15 @@ ghost use Rattle.std.specs.List.{flat_map};
 ghost use Rattle.td_base.specs.Atom.{IsAtom};
 ghost use Rattle.td_base.specs.declared.atom.TheConstants.{MAX_ATOM_LEN};
 ghost use Rattle.td_base.specs.Run.{IsRun};
-ghost use Rattle.td_run.specs.Runs.{runs_of};
+ghost use Rattle.td_script.specs.Runs.{runs_of};
 
+use crate::atom_list::AtomList;
 use std::marker::Model;
 use td_base::{MAX_RUN_LEN, Run};
-use td_script::AtomList;
 
 /// The runs of a text that are still to come. Contracts see the list of these.
 #[derive(Drop)]
-pub(crate) struct TextRuns<'a> {
+pub struct TextRuns<'a> {
     // how many bytes each of their atoms has
     lengths: &'a [u8],
     // the bytes of these atoms, one after another
@@ -23,7 +23,7 @@ impl<'a> Model for TextRuns<'a> {
     ghost use Rattle.std.specs.Prelude.{ℕ, List};
     ghost use Rattle.td_base.specs.Run.{pieces};
     ghost use Rattle.td_script.specs.AtomListParts.{IsAtomListParts};
-    ghost use Rattle.td_run.specs.Runs.{runs_of};
+    ghost use Rattle.td_script.specs.Runs.{runs_of};
 
     ghost Value = { List (List (List ℕ)) };
 
@@ -32,8 +32,8 @@ impl<'a> Model for TextRuns<'a> {
     ghost invariant = { λ r. IsAtomListParts r.lengths.now r.bytes.now };
 }
 
-/// The atoms in runs.
-pub(crate) fn runs_of(atoms: &AtomList) -> TextRuns<'_>
+/// The atoms in runs. Takes no memory.
+pub fn runs_of(atoms: &AtomList) -> TextRuns<'_>
     requires each { All IsAtom atoms.now }
     requires few { length atoms.now < 2 ^ 32 }
     ensures { result ≡ runs_of atoms.now }
@@ -66,8 +66,8 @@ impl<'a> Iterator for TextRuns<'a> {
     }
 }
 
-// How many of the atoms that have so many bytes one run has, and how many bytes these have.
-fn first_run(lengths: &[u8]) -> (usize, usize)
+/// How many of the atoms that have so many bytes one run has, and how many bytes these have.
+pub(crate) fn first_run(lengths: &[u8]) -> (usize, usize)
     requires short { All (λ len. len ≤ MAX_ATOM_LEN) lengths.now }
     requires some { lengths.now ≢ [] }
     ensures within { result.0 ≤ length lengths.now }
