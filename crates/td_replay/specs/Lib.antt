@@ -1,0 +1,10 @@
+pub mod Traced
+pub mod Replies
+pub mod Counting
+pub mod Judging
+pub mod Replay
+pub mod Rounds
+pub mod Ended
+pub mod Accepted
+pub mod Stage
+pub mod Examples
