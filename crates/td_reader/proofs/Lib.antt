@@ -1,0 +1,17 @@
+pub mod Cursors
+pub mod Readings
+pub mod Numbers
+pub mod NameLaws
+pub mod Texts
+pub mod AtomLaws
+pub mod RequestLaws
+pub mod ReplyLaws
+pub mod LineLaws
+pub mod Lasts
+pub mod Openings
+pub mod Reaching
+pub mod Running
+pub mod Feeds
+pub mod Fitting
+pub mod Faults
+pub mod Collecting

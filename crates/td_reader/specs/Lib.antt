@@ -1,0 +1,11 @@
+pub mod Values
+pub mod Form
+pub mod Reading
+pub mod Arguments
+pub mod Requests
+pub mod Replies
+pub mod Lines
+pub mod Said
+pub mod Reached
+pub mod Places
+pub mod Answers
