@@ -1,0 +1,15 @@
+pub mod Asking
+pub mod Following
+pub mod LineCalls
+pub mod Agenda
+pub mod Live
+pub mod Desks
+pub mod Turning
+pub mod Working
+pub mod Seating
+pub mod Books
+pub mod Finishing
+pub mod Drafts
+pub mod Ending
+pub mod Alone
+pub mod Printing
