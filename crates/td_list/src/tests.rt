@@ -1,52 +1,46 @@
 ghost use Rattle.std.specs.Prelude.{◌≡◌, ◌<◌, ◌^◌, ◌∷◌, [], true, false, IfOk};
 
-use crate::chunked::{Chunked, List};
+use crate::chunked::Chunked;
 use crate::deferred::Deferred;
 use crate::item::{Item, Share};
 use crate::line::Line;
 use crate::sequence::Sequence;
 use std::alloc::Global;
+use std::process::Abort;
 use td_base::Memory;
 
 #[test]
-fn a_list_in_one_line_answers(rt: HostRuntime) -> Result<(), Memory> {
-    let told = tell::<Line>(rt.alloc())?;
-    assert_eq!(rt; told, expected());
-    Ok(())
+fn a_list_in_a_line_answers(rt: HostRuntime) -> Result<(), Memory> {
+    answers::<Line>(&rt, rt.alloc())?;
+    answers::<Deferred<Line>>(&rt, rt.alloc())
 }
 
 #[test]
 fn a_list_in_chunks_answers(rt: HostRuntime) -> Result<(), Memory> {
-    let told = tell::<Chunked<Line>>(rt.alloc())?;
-    assert_eq!(rt; told, expected());
-    Ok(())
+    in_chunks_answers::<Line>(&rt, rt.alloc())
 }
 
+// The chunks of `List` stand in a list of this kind.
 #[test]
 fn a_list_in_chunks_in_chunks_answers(rt: HostRuntime) -> Result<(), Memory> {
-    let told = tell::<List>(rt.alloc())?;
+    in_chunks_answers::<Deferred<Chunked<Chunked<Line>>>>(&rt, rt.alloc())
+}
+
+fn answers<S: Sequence>(rt: &impl Abort, alloc: Global) -> Result<(), Memory> {
+    let told = tell::<S>(alloc)?;
     assert_eq!(rt; told, expected());
     Ok(())
 }
 
-#[test]
-fn a_list_that_is_told_later_answers(rt: HostRuntime) -> Result<(), Memory> {
-    let told = tell::<Deferred<Line>>(rt.alloc())?;
-    assert_eq!(rt; told, expected());
+fn in_chunks_answers<S: Sequence>(rt: &impl Abort, alloc: Global) -> Result<(), Memory> {
+    answers::<Chunked<S>>(rt, alloc)?;
+    let weights = [
+        stretch_replaced::<S>(alloc)?,
+        item_replaced::<S>(alloc)?,
+        edited::<S>(alloc)?,
+    ];
+    assert_eq!(rt; weights, [4, 12, 12]);
     Ok(())
-}
-
-#[test]
-fn items_of_the_greatest_numbers_are_read_back(rt: HostRuntime) {
-    for weight in [0, 1, (1 << 31) - 1] {
-        for marked in [false, true] {
-            let item = Item::new(u32::MAX, weight, marked);
-            assert_eq!(rt;
-                (item.name(), item.weight(), item.marked()),
-                (u32::MAX, weight, marked)
-            );
-        }
-    }
 }
 
 // What a list of the items 5, 3, 8, 9 with the weights 2, 0, 4, 1 answers, of which 8 and 9 are marked.
@@ -100,181 +94,52 @@ fn tell<S: Sequence>(alloc: Global) -> Result<Told, Memory> {
     })
 }
 
-#[test]
-fn items_are_taken_out_and_renewed(rt: HostRuntime) -> Result<(), Memory> {
-    let weights = [
-        edit::<Line>(rt.alloc())?,
-        edit::<Deferred<Line>>(rt.alloc())?,
-        edit::<List>(rt.alloc())?,
-    ];
-    assert_eq!(rt; weights, [12, 12, 12]);
-    Ok(())
-}
-
-// The weight of the list 5, 8, 9 after 8 went and 9 got the weight 10.
-fn edit<S: Sequence>(alloc: Global) -> Result<u32, Memory> {
-    let mut list = S::empty(alloc)?;
+// The list of 5, 8, 9 with the weights 2, 4, 1.
+fn three<S: Sequence>(alloc: Global) -> Result<Chunked<S>, Memory>
+    ensures { IfOk result (λ list. list ≡ record { name = 5; weight = 2; marked = false }
+        ∷ record { name = 8; weight = 4; marked = true }
+        ∷ record { name = 9; weight = 1; marked = true } ∷ []) }
+{
+    let mut list = Chunked::empty(alloc)?;
     list.push(&[
         Item::new(5, 2, false),
         Item::new(8, 4, true),
         Item::new(9, 1, true),
     ])?;
+    Ok(list)
+}
+
+// Its weight after 5 and 8 are replaced by an 8.
+fn stretch_replaced<S: Sequence>(alloc: Global) -> Result<u32, Memory> {
+    let mut list = three::<S>(alloc)?;
+    list.replace(5, Some(9), &[Item::new(8, 3, true)])?;
+    Ok(list.weight())
+}
+
+// Its weight after 8 is replaced by 3, 8 and 4, and 4 by a 6.
+fn item_replaced<S: Sequence>(alloc: Global) -> Result<u32, Memory> {
+    let mut list = three::<S>(alloc)?;
+    let piece = [
+        Item::new(3, 1, true),
+        Item::new(8, 1, true),
+        Item::new(4, 2, true),
+    ];
+    list.replace_one(8, &piece)?;
+    list.replace_one(4, &[Item::new(6, 7, true)])?;
+    Ok(list.weight())
+}
+
+// Its weight after 8 went and 9 got the weight 10.
+fn edited<S: Sequence>(alloc: Global) -> Result<u32, Memory> {
+    let mut list = three::<S>(alloc)?;
     list.remove(8);
     list.renew(Item::new(9, 10, true));
     Ok(list.weight())
 }
 
 #[test]
-fn a_change_that_is_pending_counts(rt: HostRuntime) -> Result<(), Memory> {
-    let list = with_eight(rt.alloc(), 7)?;
-    assert_eq!(rt;
-        (list.get(8), list.get(9), list.weight()),
-        (Item::new(8, 7, true), Item::new(9, 1, true), 10)
-    );
-    assert_eq!(rt;
-        (
-            list.weight_before(5),
-            list.weight_before(8),
-            list.weight_before(9)
-        ),
-        (0, 2, 9)
-    );
-    Ok(())
-}
-
-#[test]
-fn a_unit_is_found_round_a_pending_change(rt: HostRuntime) -> Result<(), Memory> {
-    let more = with_eight(rt.alloc(), 7)?;
-    assert_eq!(rt;
-        (
-            more.share_at(1),
-            more.share_at(2),
-            more.share_at(8),
-            more.share_at(9),
-            more.share_at(10)
-        ),
-        (share(5, 1), share(8, 0), share(8, 6), share(9, 0), None)
-    );
-    let less = with_eight(rt.alloc(), 1)?;
-    assert_eq!(rt;
-        (
-            less.share_at(2),
-            less.share_at(3),
-            less.share_at(4),
-            less.share_at(u32::MAX)
-        ),
-        (share(8, 0), share(9, 0), None, None)
-    );
-    Ok(())
-}
-
-#[test]
-fn a_pending_change_is_told(rt: HostRuntime) -> Result<(), Memory> {
-    let mut list = with_eight(rt.alloc(), 7)?;
-    list.renew(Item::new(9, 3, true));
-    assert_eq!(rt; (list.get(8), list.weight()), (Item::new(8, 7, true), 12));
-    list.insert_before(9, &[Item::new(4, 1, false)])?;
-    assert_eq!(rt; (list.weight_before(9), list.weight()), (10, 13));
-    list.renew(Item::new(8, 5, false));
-    assert_eq!(rt;
-        (list.next_marked(5), list.get(8)),
-        (Some(9), Item::new(8, 5, false))
-    );
-    list.renew(Item::new(8, 6, false));
-    list.remove(8);
-    assert_eq!(rt; (list.next(5), list.weight()), (Some(4), 6));
-    Ok(())
-}
-
-// The list of 5, 8, 9 with the weights 2, 4, 1, of which 8 got another weight.
-fn with_eight(alloc: Global, weight: u32) -> Result<Deferred<Line>, Memory>
-    requires { weight < 10 }
-    ensures { IfOk result (λ list. list ≡ record { name = 5; weight = 2; marked = false }
-        ∷ record { name = 8; weight = weight; marked = true }
-        ∷ record { name = 9; weight = 1; marked = true } ∷ []) }
-{
-    let mut list = Deferred::<Line>::empty(alloc)?;
-    list.push(&[
-        Item::new(5, 2, false),
-        Item::new(8, 4, true),
-        Item::new(9, 1, true),
-    ])?;
-    list.renew(Item::new(8, 9, true));
-    list.renew(Item::new(8, weight, true));
-    Ok(list)
-}
-
-fn share(name: u32, rest: u32) -> Option<Share> {
-    Some(Share { name, rest })
-}
-
-#[test]
-fn a_stretch_is_replaced(rt: HostRuntime) -> Result<(), Memory> {
-    let mut list = List::empty(rt.alloc())?;
-    list.push(&[
-        Item::new(5, 2, false),
-        Item::new(8, 4, true),
-        Item::new(9, 1, true),
-    ])?;
-    list.replace(5, Some(9), &[Item::new(8, 3, true)])?;
-    assert_eq!(rt;
-        (list.first(), list.next(8), list.weight()),
-        (Some(8), Some(9), 4)
-    );
-    Ok(())
-}
-
-#[test]
-fn an_item_is_replaced(rt: HostRuntime) -> Result<(), Memory> {
-    let mut list = List::empty(rt.alloc())?;
-    list.push(&[
-        Item::new(5, 2, false),
-        Item::new(8, 4, true),
-        Item::new(9, 1, true),
-    ])?;
-    list.replace_one(
-        8,
-        &[
-            Item::new(3, 1, true),
-            Item::new(8, 1, true),
-            Item::new(4, 2, true),
-        ],
-    )?;
-    list.replace_one(4, &[Item::new(6, 7, true)])?;
-    assert_eq!(rt;
-        (
-            list.next(5),
-            list.next(3),
-            list.next(8),
-            list.next(6),
-            list.weight()
-        ),
-        (Some(3), Some(8), Some(6), Some(9), 12)
-    );
-    Ok(())
-}
-
-#[test]
-fn items_put_at_three_places_by_turns_stand_in_order(rt: HostRuntime) -> Result<(), Memory> {
-    let list = by_turns(rt.alloc(), 600)?;
-    let mut told = Vec::new(rt.alloc());
-    for unit in 0..600 {
-        told.push(list.share_at(unit))?;
-    }
-    let mut expected = Vec::new(rt.alloc());
-    for rest in 0..3 {
-        for turn in 1..200 {
-            expected.push(Some(Share {
-                name: 3 * turn + rest,
-                rest: 0,
-            }))?;
-        }
-        expected.push(Some(Share {
-            name: rest,
-            rest: 0,
-        }))?;
-    }
-    assert_eq!(rt; told, expected);
+fn items_are_put_at_three_places_by_turns(rt: HostRuntime) -> Result<(), Memory> {
+    assert_eq!(rt; by_turns(rt.alloc(), 600)?.weight(), 600);
     Ok(())
 }
 

@@ -8,6 +8,7 @@ mod typing;
 
 use super::*;
 use std::alloc::Global;
+use std::fmt::Debug;
 use std::process::Abort;
 use std::test::Fail;
 use td_base::{Atom, AtomId, Bit, Bytes, Dot, Run, Site};
@@ -18,8 +19,13 @@ use td_path::Slot;
 fn dot(site: u8, seq: u32) -> Result<Dot, Fail>
     ensures { IfOk result (λ dot. dot ≡ record { site = site; seq = seq }) }
 {
-    let site = Site::new(site).ok_or("a site")?;
-    Ok(Dot::new(site, seq).ok_or("a dot")?)
+    let Some(site) = Site::new(site) else {
+        return Err(Fail::from("a site"));
+    };
+    match Dot::new(site, seq) {
+        Some(dot) => Ok(dot),
+        None => Err(Fail::from("a dot")),
+    }
 }
 
 fn at(atom: AtomId, bit: Bit) -> Slot {
@@ -27,5 +33,20 @@ fn at(atom: AtomId, bit: Bit) -> Slot {
 }
 
 fn letter(text: &str) -> Result<Atom, Fail> {
-    Ok(Atom::new(text.as_bytes()).ok().ok_or("an atom")?)
+    match Atom::new(text.as_bytes()) {
+        Ok(atom) => Ok(atom),
+        Err(_) => Err(Fail::from("an atom")),
+    }
+}
+
+// Puts an a in a slot.
+fn put(rt: &impl Abort, doc: &mut Tree, slot: Slot, id: AtomId) -> Result<(), Fail> {
+    let atom = letter("a")?;
+    assert!(rt; doc.find(id).is_none());
+    Ok(doc.insert(slot, id, atom)?)
+}
+
+// What was found is what is expected. An assertion costs the check much, and here it is proved once.
+fn same<T: Copy + Debug + PartialEq>(rt: &impl Abort, found: T, expected: T) {
+    assert_eq!(rt; found, expected);
 }

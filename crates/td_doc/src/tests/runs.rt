@@ -1,9 +1,23 @@
-// "abcd" at the root, and then "xy" on the right of its a.
-ghost use Rattle.std.specs.Prelude.{◌≢◌, ◌≤◌};
+// "abcd" at the root, and then "xy" in another slot.
+ghost use Rattle.std.specs.Prelude.{◌≡◌, ◌≢◌, ◌<◌, ◌^◌, [], length};
 ghost use Rattle.td_base.specs.Value.{DotValue};
 ghost use Rattle.td_doc.specs.Answers.{IsFresh};
 
 use super::*;
+
+// An atom, by its index, the number of its run and its place there, the atom in whose slot it stands, with the side, and
+// its letter. The atom with no such atom stands at the root.
+type Standing = (u32, u32, u8, Option<(u32, u8, Bit)>, u8);
+
+// "xy" is on the right of the a.
+const ATOMS: [Standing; 6] = [
+    (0, 1, 0, Some((1, 1, Bit::Left)), b'a'),
+    (1, 2, 0, Some((2, 1, Bit::Left)), b'x'),
+    (2, 2, 1, Some((1, 0, Bit::Right)), b'y'),
+    (3, 1, 1, Some((1, 2, Bit::Left)), b'b'),
+    (4, 1, 2, None, b'c'),
+    (5, 1, 3, Some((1, 2, Bit::Right)), b'd'),
+];
 
 // Puts a run in a slot. What it adds has its dot.
 #[tactic(auto, using(crate::proofs::FreshDots::fresh_after))]
@@ -14,81 +28,98 @@ fn put_run(doc: &mut Rows, slot: Slot, dot: Dot, run: Run) -> Result<(), DocFaul
     doc.insert_run(slot, dot, run)
 }
 
-fn run_of(atoms: &[Atom; 4], count: usize) -> Result<Run, Fail>
-    requires { count ≤ 4 }
+fn run_of(atoms: &[Atom]) -> Result<Run, Fail>
+    requires { length atoms.now < 2 ^ 32 }
 {
-    Ok(Run::new(&atoms[..count]).ok().ok_or("a run")?)
+    match Run::new(atoms) {
+        Ok(run) => Ok(run),
+        Err(_) => Err(Fail::from("a run")),
+    }
 }
 
-// Puts "ab" in a slot of "abcd".
-fn ab_goes_in(rt: &impl Abort, alloc: Global, slot: Slot) -> Result<(), Fail> {
-    let mut doc = Rows::empty(alloc)?;
+fn abcd() -> Result<Run, Fail> {
+    run_of(&[
+        letter_of(b'a')?,
+        letter_of(b'b')?,
+        letter_of(b'c')?,
+        letter_of(b'd')?,
+    ])
+}
+
+fn xy() -> Result<Run, Fail> {
+    run_of(&[letter_of(b'x')?, letter_of(b'y')?])
+}
+
+fn id_of(seq: u32, offset: u8) -> Result<AtomId, Fail> {
+    let dot = dot(1, seq)?;
+    match AtomId::new(dot, offset) {
+        Some(id) => Ok(id),
+        None => Err(Fail::from("an identity")),
+    }
+}
+
+fn slot_of(beside: Option<(u32, u8, Bit)>) -> Result<Slot, Fail> {
+    Ok(match beside {
+        Some((seq, offset, bit)) => at(id_of(seq, offset)?, bit),
+        None => Slot::Root,
+    })
+}
+
+fn stands(rt: &impl Abort, doc: &Rows, standing: Standing) -> Result<(), Fail> {
+    let (index, seq, offset, beside, letter) = standing;
+    let row = Row {
+        id: id_of(seq, offset)?,
+        slot: slot_of(beside)?,
+        atom: letter_of(letter)?,
+        deletes: 0,
+        index,
+    };
+    same(rt, doc.find(row.id), Some(row));
+    Ok(())
+}
+
+fn all_stand(rt: &impl Abort, doc: &Rows) -> Result<(), Fail> {
+    for atom in ATOMS {
+        stands(rt, doc, atom)?;
+    }
+    Ok(())
+}
+
+// Both runs, "xy" in this slot. A third at an atom of no row is refused.
+fn both_runs(rt: &impl Abort, doc: &mut Rows, slot: Slot) -> Result<(), Fail>
+    requires { doc.old ≡ [] }
+{
     let first = dot(1, 1)?;
     let second = dot(1, 2)?;
-    let letters = [letter("a")?, letter("b")?, letter("c")?, letter("d")?];
-    assert_eq!(rt;
-        put_run(&mut doc, Slot::Root, first, run_of(&letters, 4)?),
-        Ok(())
+    let third = dot(1, 3)?;
+    let abcd = abcd()?;
+    let xy = xy()?;
+    let gone = AtomId::of(dot(2, 7)?);
+    same(rt, put_run(doc, Slot::Root, first, abcd), Ok(()));
+    same(rt, put_run(doc, slot, second, xy), Ok(()));
+    same(
+        rt,
+        put_run(doc, at(gone, Bit::Left), third, xy),
+        Err(DocFault::Gone { id: gone }),
     );
-    assert_eq!(rt;
-        put_run(&mut doc, slot, second, run_of(&letters, 2)?),
-        Ok(())
-    );
-    assert_eq!(rt; (doc.rows(), doc.live()), (6, 6));
+    same(rt, (doc.rows(), doc.live()), (6, 6));
     Ok(())
 }
 
 #[test]
 fn a_run_goes_in_each_slot(rt: HostRuntime) -> Result<(), Fail> {
-    let a = AtomId::of(dot(1, 1)?);
-    for slot in [Slot::Root, at(a, Bit::Left), at(a, Bit::Right)] {
-        ab_goes_in(&rt, rt.alloc(), slot)?;
+    for beside in [None, Some((1, 0, Bit::Left)), Some((1, 0, Bit::Right))] {
+        let slot = slot_of(beside)?;
+        let mut doc = Rows::empty(rt.alloc())?;
+        both_runs(&rt, &mut doc, slot)?;
     }
     Ok(())
 }
 
 #[test]
 fn the_atoms_of_runs_stand_in_the_slots_of_their_arrays(rt: HostRuntime) -> Result<(), Fail> {
+    let right = slot_of(Some((1, 0, Bit::Right)))?;
     let mut doc = Rows::empty(rt.alloc())?;
-    let first = dot(1, 1)?;
-    let second = dot(1, 2)?;
-    let third = dot(1, 3)?;
-    let abcd = [letter("a")?, letter("b")?, letter("c")?, letter("d")?];
-    let xyz = [letter("x")?, letter("y")?, letter("z")?, letter("z")?];
-    let right = at(AtomId::of(first), Bit::Right);
-    let gone = id(2, 7)?;
-    assert_eq!(rt;
-        put_run(&mut doc, Slot::Root, first, run_of(&abcd, 4)?),
-        Ok(())
-    );
-    assert_eq!(rt; put_run(&mut doc, right, second, run_of(&xyz, 2)?), Ok(()));
-    assert_eq!(rt;
-        put_run(&mut doc, at(gone, Bit::Left), third, Run::one(xyz[2])),
-        Err(DocFault::Gone { id: gone })
-    );
-    let [a, b, c, d] = [of(first, 0)?, of(first, 1)?, of(first, 2)?, of(first, 3)?];
-    let [x, y] = [of(second, 0)?, of(second, 1)?];
-    for (index, atom_id, slot, text) in [
-        (0, a, at(b, Bit::Left), "a"),
-        (1, x, at(y, Bit::Left), "x"),
-        (2, y, right, "y"),
-        (3, b, at(c, Bit::Left), "b"),
-        (4, c, Slot::Root, "c"),
-        (5, d, at(c, Bit::Right), "d"),
-    ] {
-        let row = Row {
-            id: atom_id,
-            slot,
-            atom: letter(text)?,
-            deletes: 0,
-            index,
-        };
-        assert_eq!(rt; doc.find(atom_id), Some(row), "at {index}");
-    }
-    assert_eq!(rt; (doc.rows(), doc.live()), (6, 6));
-    Ok(())
-}
-
-fn of(dot: Dot, offset: u8) -> Result<AtomId, Fail> {
-    Ok(AtomId::new(dot, offset).ok_or("an identity")?)
+    both_runs(&rt, &mut doc, right)?;
+    all_stand(&rt, &doc)
 }

@@ -4,29 +4,37 @@ use crate::tests::steps::Ask::{
     DeleteAtom, Insert, InsertAfter, Next, PasteAfter, Propose, ProposeBeside,
 };
 use crate::tests::steps::Told::{Gone, Idle, Made, Position};
-use crate::tests::steps::plays;
+use crate::tests::steps::{Example, all_play};
 use std::test::Fail;
 use td_base::Bit;
 
-#[test]
-fn an_empty_replica_has_no_atom_and_no_index_but_the_start(rt: HostRuntime) -> Result<(), Fail> {
-    let steps = [
-        (1, Insert(1, b'a'), Position(0)),
-        (1, InsertAfter(2, 1, b'a'), Gone(2, 1)),
-        (1, DeleteAtom(1, 1), Gone(1, 1)),
-        (1, ProposeBeside(1, 1, Bit::Left), Gone(1, 1)),
-        (1, Next, Idle),
-        (1, Propose(0, Bit::Left), Position(0)),
-    ];
-    plays(&rt, rt.alloc(), 2, &steps, "")
-}
+const EXAMPLES: [Example; 2] = [
+    Example {
+        name: "an empty replica has no atom and no index but the start",
+        sites: 2,
+        steps: &[
+            (1, Insert(1, b'a'), Position(0)),
+            (1, InsertAfter(2, 1, b'a'), Gone(2, 1)),
+            (1, DeleteAtom(1, 1), Gone(1, 1)),
+            (1, ProposeBeside(1, 1, Bit::Left), Gone(1, 1)),
+            (1, Next, Idle),
+            (1, Propose(0, Bit::Left), Position(0)),
+        ],
+        text: Some(""),
+    },
+    Example {
+        name: "a run is placed after a live atom",
+        sites: 1,
+        steps: &[
+            (1, PasteAfter(None, *b"ab"), Made(1, 1)),
+            (1, PasteAfter(Some((2, 7)), *b"ab"), Gone(2, 7)),
+            (1, PasteAfter(Some((1, 1)), *b"xy"), Made(1, 2)),
+        ],
+        text: Some("axyb"),
+    },
+];
 
 #[test]
-fn a_run_is_placed_after_a_live_atom(rt: HostRuntime) -> Result<(), Fail> {
-    let steps = [
-        (1, PasteAfter(None, *b"ab"), Made(1, 1)),
-        (1, PasteAfter(Some((2, 7)), *b"ab"), Gone(2, 7)),
-        (1, PasteAfter(Some((1, 1)), *b"xy"), Made(1, 2)),
-    ];
-    plays(&rt, rt.alloc(), 1, &steps, "axyb")
+fn what_has_no_place_is_refused(rt: HostRuntime) -> Result<(), Fail> {
+    all_play(&rt, rt.alloc(), &EXAMPLES)
 }

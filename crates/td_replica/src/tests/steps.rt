@@ -70,14 +70,29 @@ pub enum Told {
 // A site is asked this and replies that.
 pub type Step = (u8, Ask, Told);
 
+// What is shown, how many sites there are, what they are asked in turn, and the text that all show then, where it is
+// one.
+pub struct Example {
+    pub name: &'static str,
+    pub sites: u8,
+    pub steps: &'static [Step],
+    pub text: Option<&'static str>,
+}
+
 fn site(number: u8) -> Result<Site, Fail>
     ensures { IfOk result (λ site. site ≡ number) }
 {
-    Ok(Site::new(number).ok_or("a site")?)
+    match Site::new(number) {
+        Some(site) => Ok(site),
+        None => Err(Fail::from("a site")),
+    }
 }
 
 pub fn dot(number: u8, seq: u32) -> Result<Dot, Fail> {
-    Ok(Dot::new(site(number)?, seq).ok_or("a dot")?)
+    match Dot::new(site(number)?, seq) {
+        Some(dot) => Ok(dot),
+        None => Err(Fail::from("a dot")),
+    }
 }
 
 fn id(site: u8, seq: u32) -> Result<AtomId, Fail> {
@@ -85,7 +100,10 @@ fn id(site: u8, seq: u32) -> Result<AtomId, Fail> {
 }
 
 pub fn atom(letter: u8) -> Result<Atom, Fail> {
-    Ok(Atom::new(&[letter]).ok().ok_or("an atom")?)
+    match Atom::new(&[letter]) {
+        Ok(atom) => Ok(atom),
+        Err(_) => Err(Fail::from("an atom")),
+    }
 }
 
 fn slot(site: u8, seq: u32, bit: Bit) -> Result<Slot, Fail> {
@@ -96,8 +114,10 @@ fn slot(site: u8, seq: u32, bit: Bit) -> Result<Slot, Fail> {
 }
 
 pub fn run([first, second]: [u8; 2]) -> Result<Run, Fail> {
-    let run = Run::new(&[atom(first)?, atom(second)?]);
-    Ok(run.ok().ok_or("a run")?)
+    match Run::new(&[atom(first)?, atom(second)?]) {
+        Ok(run) => Ok(run),
+        Err(_) => Err(Fail::from("a run")),
+    }
 }
 
 fn paste(after: Option<(u8, u32)>, letters: [u8; 2]) -> Result<Request, Fail> {
@@ -129,15 +149,21 @@ fn op(dot: Dot, deps: &[u16], content: Content) -> Result<Message, Fail> {
     if deps.is_empty() || deps.len() > usize::from(MAX_SITE) {
         return Err(Fail::from("no vector has so many sites"));
     }
-    let op = Op::new(dot, Vector::of(deps), body(content)?).ok_or("an operation")?;
-    Ok(Message::Op(op))
+    match Op::new(dot, Vector::of(deps), body(content)?) {
+        Some(op) => Ok(Message::Op(op)),
+        None => Err(Fail::from("an operation")),
+    }
 }
 
 fn sent(replicas: &[Replica<Rows>], site: u8, number: u64) -> Result<Message, Fail> {
-    let replica = replicas
-        .get(usize::from(site).wrapping_sub(1))
-        .ok_or("a site")?;
-    Ok(replica.sent_at(number).ok_or("a message")?)
+    let found = match replicas.get(usize::from(site).wrapping_sub(1)) {
+        Some(replica) => replica.sent_at(number),
+        None => return Err(Fail::from("a site")),
+    };
+    match found {
+        Some(message) => Ok(message),
+        None => Err(Fail::from("a message")),
+    }
 }
 
 fn vote(proposal: Dot, voter: u8) -> Result<Message, Fail> {
@@ -226,10 +252,14 @@ fn is_foretold(replica: &Replica<Rows>, entry: &Entry) -> bool {
 }
 
 // The input gives the reply, and stands with it as the last entry.
-fn enter(rt: &impl Abort, replica: &mut Replica<Rows>, entry: &Entry) {
-    assert!(rt; is_foretold(replica, entry));
-    assert_eq!(rt; replica.step(entry.input), Ok(entry.reply));
-    assert_eq!(rt; replica.entry(replica.entries()), Some(*entry));
+fn enter(rt: &impl Abort, name: &str, replica: &mut Replica<Rows>, entry: &Entry) {
+    assert!(rt; is_foretold(replica, entry), "in {name}");
+    let reply = replica.step(entry.input);
+    assert_eq!(rt; reply, Ok(entry.reply), "in {name}");
+    assert!(rt;
+        replica.entry(replica.entries()) == Some(*entry),
+        "in {name}"
+    );
 }
 
 // The new replicas of n sites.
@@ -244,32 +274,62 @@ pub fn replicas(rt: &impl Abort, alloc: Global, n: u8) -> Result<Vec<Replica<Row
 }
 
 // Each step gives its reply, and stands with it in the history of its site.
-pub fn play(rt: &impl Abort, replicas: &mut [Replica<Rows>], steps: &[Step]) -> Result<(), Fail> {
+pub fn play(
+    rt: &impl Abort,
+    name: &str,
+    replicas: &mut [Replica<Rows>],
+    steps: &[Step],
+) -> Result<(), Fail> {
     for (site, ask, told) in steps {
         let entry = Entry {
             input: input(replicas, *ask)?,
             reply: reply(*told)?,
         };
-        let replica = replicas
-            .get_mut(usize::from(*site).wrapping_sub(1))
-            .ok_or("a site")?;
-        enter(rt, replica, &entry);
+        match replicas.get_mut(usize::from(*site).wrapping_sub(1)) {
+            Some(replica) => enter(rt, name, replica, &entry),
+            None => return Err(Fail::from("a site")),
+        }
     }
     Ok(())
 }
 
-// Replicas of n sites begin, play the steps, and all show the text then.
-pub fn plays(
+fn shows(
     rt: &impl Abort,
     alloc: Global,
-    n: u8,
-    steps: &[Step],
+    name: &str,
+    replica: &Replica<Rows>,
     text: &str,
 ) -> Result<(), Fail> {
-    let mut replicas = replicas(rt, alloc, n)?;
-    play(rt, &mut replicas, steps)?;
-    for replica in &replicas {
-        assert_eq!(rt; replica.text(alloc)?.as_slice(), text.as_bytes());
+    let shown = replica.text(alloc)?;
+    assert!(rt; shown.as_slice() == text.as_bytes(), "in {name}");
+    Ok(())
+}
+
+fn all_show(
+    rt: &impl Abort,
+    alloc: Global,
+    name: &str,
+    replicas: &[Replica<Rows>],
+    text: &str,
+) -> Result<(), Fail> {
+    for replica in replicas {
+        shows(rt, alloc, name, replica, text)?;
+    }
+    Ok(())
+}
+
+fn plays(rt: &impl Abort, alloc: Global, example: &Example) -> Result<(), Fail> {
+    let mut replicas = replicas(rt, alloc, example.sites)?;
+    play(rt, example.name, &mut replicas, example.steps)?;
+    match example.text {
+        Some(text) => all_show(rt, alloc, example.name, &replicas, text),
+        None => Ok(()),
+    }
+}
+
+pub fn all_play(rt: &impl Abort, alloc: Global, examples: &[Example]) -> Result<(), Fail> {
+    for example in examples {
+        plays(rt, alloc, example)?;
     }
     Ok(())
 }

@@ -47,7 +47,10 @@ fn run_of(draw: u32) -> Result<Run, Fail> {
         letter("e")?,
     ];
     let count = (draw % 5 + 1) as usize;
-    Ok(Run::new(&atoms[..count]).ok().ok_or("a run")?)
+    match Run::new(&atoms[..count]) {
+        Ok(run) => Ok(run),
+        Err(_) => Err(Fail::from("a run")),
+    }
 }
 
 // The atom at a drawn index, or the first that was typed, which may be gone.
@@ -87,30 +90,29 @@ fn rows_alike(rt: &impl Abort, rows: &Rows, tree: &Tree, atom: AtomId) {
     assert!(rt; rows.find(atom).is_some());
     assert!(rt; tree.find(atom).is_some());
     let expected = rows.find(atom);
-    assert_eq!(rt; tree.find(atom), expected);
+    same(rt, tree.find(atom), expected);
     let expected = rows.delete_at(atom, 0);
-    assert_eq!(rt; tree.delete_at(atom, 0), expected);
+    same(rt, tree.delete_at(atom, 0), expected);
 }
 
 fn sides_alike(rt: &impl Abort, rows: &Rows, tree: &Tree, atom: AtomId, bit: Bit, v: &Vector) {
     let expected = rows.slot_empty(at(atom, bit));
-    assert_eq!(rt; tree.slot_empty(at(atom, bit)), expected);
+    same(rt, tree.slot_empty(at(atom, bit)), expected);
     let expected = rows.known(at(atom, bit), v);
-    assert_eq!(rt; tree.known(at(atom, bit), v), expected);
+    same(rt, tree.known(at(atom, bit), v), expected);
 }
 
 fn within_alike(rt: &impl Abort, rows: &Rows, tree: &Tree, atom: AtomId, other: AtomId) {
     let expected = rows.within(other, at(atom, Bit::Right));
-    assert_eq!(rt; tree.within(other, at(atom, Bit::Right)), expected);
+    same(rt, tree.within(other, at(atom, Bit::Right)), expected);
 }
 
 // What is told of the live rows, in their order.
 fn alike(rt: &impl Abort, rows: &Rows, tree: &Tree, v: &Vector) {
     let middle = rows.live_at(rows.live() / 2);
     for index in 0..rows.live() {
-        let atom = rows.live_at(index);
-        assert_eq!(rt; tree.live_at(index), atom);
-        if let Some(atom) = atom {
+        same(rt, tree.live_at(index), rows.live_at(index));
+        if let Some(atom) = rows.live_at(index) {
             rows_alike(rt, rows, tree, atom);
             sides_alike(rt, rows, tree, atom, Bit::Left, v);
             sides_alike(rt, rows, tree, atom, Bit::Right, v);
@@ -121,36 +123,45 @@ fn alike(rt: &impl Abort, rows: &Rows, tree: &Tree, v: &Vector) {
     }
 }
 
+// What follows a row.
+fn next_alike(rt: &impl Abort, rows: &Rows, tree: &Tree, atom: AtomId) -> Option<AtomId> {
+    assert!(rt; rows.find(atom).is_some());
+    assert!(rt; tree.find(atom).is_some());
+    let expected = rows.after(Some(atom));
+    assert!(rt; tree.after(Some(atom)) == expected);
+    expected
+}
+
 // All rows, one after another.
 fn order_alike(rt: &impl Abort, rows: &Rows, tree: &Tree) {
     let mut at = rows.after(None);
-    assert_eq!(rt; tree.after(None), at);
+    same(rt, tree.after(None), rows.after(None));
     for _ in 0..rows.rows() {
         if let Some(atom) = at {
-            assert!(rt; rows.find(atom).is_some());
-            assert!(rt; tree.find(atom).is_some());
-            at = rows.after(Some(atom));
-            assert_eq!(rt; tree.after(Some(atom)), at);
+            at = next_alike(rt, rows, tree, atom);
         }
     }
-    assert_eq!(rt; tree.rows(), rows.rows());
+    same(rt, tree.rows(), rows.rows());
+}
+
+fn text_of<D: Doc>(alloc: Global, doc: &D) -> Result<Bytes, Fail> {
+    let mut text = Bytes::new(alloc);
+    doc.push_text(&mut text)?;
+    Ok(text)
 }
 
 fn texts_alike(rt: &impl Abort, alloc: Global, rows: &Rows, tree: &Tree) -> Result<(), Fail> {
-    let mut texts = (Bytes::new(alloc), Bytes::new(alloc));
-    tree.push_text(&mut texts.0)?;
-    rows.push_text(&mut texts.1)?;
-    assert_eq!(rt; texts.0.as_slice(), texts.1.as_slice());
+    let expected = text_of(alloc, rows)?;
+    let text = text_of(alloc, tree)?;
+    same(rt, text.as_slice(), expected.as_slice());
     Ok(())
 }
 
 // What is told of a row, and the row at its index.
 fn told_alike(rt: &impl Abort, rows: &Rows, tree: &Tree, atom: AtomId) {
-    let expected = rows.find(atom);
-    assert_eq!(rt; tree.find(atom), expected);
-    if let Some(row) = expected {
-        let expected = rows.live_at(row.index);
-        assert_eq!(rt; tree.live_at(row.index), expected);
+    same(rt, tree.find(atom), rows.find(atom));
+    if let Some(row) = rows.find(atom) {
+        same(rt, tree.live_at(row.index), rows.live_at(row.index));
     }
 }
 
@@ -162,7 +173,7 @@ fn apply_to_both(rt: &impl Abort, rows: &mut Rows, tree: &mut Tree, edit: &Edit)
     ensures tree { (d : DotValue) → d ≢ edit.now.dot → IsFresh (doc_rows tree.old) d → IsFresh (doc_rows tree.new) d }
 {
     let expected = apply(rows, edit);
-    assert_eq!(rt; apply(tree, edit), expected);
+    same(rt, apply(tree, edit), expected);
     told_alike(rt, rows, tree, AtomId::of(edit.dot));
     told_alike(rt, rows, tree, edit.atom);
 }
