@@ -110,21 +110,21 @@ abbrev pub text_after : ℕ → List Move → ℕ → List ℕ
 text_after n moves site = text_found (at_place (site - 1) (moved_all moves (stage n)).machines)
 
 -- a row as it is told: its identity, the slot in which it stands, its atom and its delete dots
-pub record Told : Type 0 where
+pub record ToldRow : Type 0 where
   pub id : AtomIdValue
   pub slot : Slot
   pub atom : List ℕ
   pub deletes : List DotValue
 
-abbrev pub told : DocRow → Told
+abbrev pub told : DocRow → ToldRow
 told r = record { id = row_id r; slot = own_slot r; atom = r.atom; deletes = r.deletes }
 
-abbrev pub rows_found : Option Machine → List Told
+abbrev pub rows_found : Option Machine → List ToldRow
 rows_found None = []
 rows_found (Some m) = map told m.doc
 
 -- the rows of a site after the moves
-abbrev pub rows_after : ℕ → List Move → ℕ → List Told
+abbrev pub rows_after : ℕ → List Move → ℕ → List ToldRow
 rows_after n moves site = rows_found (at_place (site - 1) (moved_all moves (stage n)).machines)
 
 abbrev pub vote_of : Message → Option Vote
@@ -149,10 +149,10 @@ dot site seq = record { site = site; seq = seq }
 abbrev pub atom_id : ℕ → ℕ → ℕ → AtomIdValue
 atom_id site seq offset = record { dot = dot site seq; offset = offset }
 
-abbrev pub live_row : AtomIdValue → Slot → List ℕ → Told
+abbrev pub live_row : AtomIdValue → Slot → List ℕ → ToldRow
 live_row id slot atom = record { id = id; slot = slot; atom = atom; deletes = [] }
 
-abbrev pub tombstone : AtomIdValue → Slot → List ℕ → List DotValue → Told
+abbrev pub tombstone : AtomIdValue → Slot → List ℕ → List DotValue → ToldRow
 tombstone id slot atom deletes = record { id = id; slot = slot; atom = atom; deletes = deletes }
 
 abbrev pub vote_yes : ℕ → DotValue → Vote

@@ -21,8 +21,8 @@ use Rattle.td_op.specs.declared.request.Request.TheVariants.{Insert, InsertAfter
 use Rattle.td_op.specs.declared.request.Request.TheVariants.{DeleteAtom}
 use Rattle.td_op.specs.declared.request.Request.TheVariants.{Propose, ProposeAt, Cancel}
 use Rattle.td_path.specs.declared.slot.Slot.TheVariants.{Root, At}
-use Rattle.td_trace.specs.declared.told.Told.{Told}
-use Rattle.td_trace.specs.declared.told.Told.TheVariants.{Asked, TookOp, TookVote, Went}
+use Rattle.td_trace.specs.declared.told_input.ToldInput.{ToldInput}
+use Rattle.td_trace.specs.declared.told_input.ToldInput.TheVariants.{Asked, TookOp, TookVote, Went}
 use Rattle.td_report.specs.Parts.{identity, line, offset_part, spaced_quoted}
 use Rattle.td_report.specs.Replies.{yes_or_no}
 use Rattle.td_report.specs.Trace.{all_written}
@@ -133,7 +133,7 @@ ballot_lacks : (yes : Bool) → Lacks 10 (yes_or_no yes)
 ballot_lacks true = lacks_by_test 10 (codes " yes") refl
 ballot_lacks false = lacks_by_test 10 (codes " no") refl
 
-told_lacks : (told : Told) → FitsTold told → Lacks 10 (told_part told)
+told_lacks : (told : ToldInput) → FitsTold told → Lacks 10 (told_part told)
 told_lacks (Asked request) h = request_lacks request h
 told_lacks (TookOp dot) h = both (codes " take op ") (dotted dot) (lacks_by_test 10 (codes " take op ") refl)
     (dot_lacks dot h)

@@ -9,7 +9,7 @@ use Rattle.td_base.specs.Value.{IsSite}
 use Rattle.td_base.specs.declared.site.TheConstants.{MAX_SITE}
 use Rattle.td_op.specs.declared.reply.Reply.{Reply}
 use Rattle.td_trace.specs.declared.entry.TraceEntry.{TraceEntry}
-use Rattle.td_trace.specs.declared.told.Told.{Told}
+use Rattle.td_trace.specs.declared.told_input.ToldInput.{ToldInput}
 use Rattle.td_report.specs.Parts.{spaced_quoted}
 use Rattle.td_report.specs.TraceLines.{TraceLine, SitesAre, HistoryOf, EntryIs, EditorAt, CallIs, LookIs, TextIs}
 use Rattle.td_report.specs.TraceLines.{Ended}
@@ -216,7 +216,7 @@ entry_back : (bytes : List ℕ) (line : TraceLine) (rest : List ℕ) → entry_a
 unfolding entry_at
 entry_back bytes line rest e =
     bind_back e (λ (number : ℕ × List ℕ) is_number e. bind_back e
-    (λ (told : Told × List ℕ) is_told e. bind_back e (λ (next : List ℕ) is_arrow e.
+    (λ (told : ToldInput × List ℕ) is_told e. bind_back e (λ (next : List ℕ) is_arrow e.
     bind_back e (λ (reply : Reply × List ℕ) is_reply e. bind_back e (λ (end : List ℕ) is_end e.
     let first = long_back bytes number.0 number.1 is_number in
     let second = told_back number.1 told.0 told.1 is_told in

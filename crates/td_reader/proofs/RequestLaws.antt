@@ -18,8 +18,8 @@ use Rattle.td_op.specs.declared.vote.Vote.{Vote}
 use Rattle.td_path.specs.Slot.{IsSlot}
 use Rattle.td_path.specs.declared.slot.Slot.{Slot}
 use Rattle.td_path.specs.declared.slot.Slot.TheVariants.{Root, At}
-use Rattle.td_trace.specs.declared.told.Told.{Told}
-use Rattle.td_trace.specs.declared.told.Told.TheVariants.{Asked, TookOp, TookVote, Went}
+use Rattle.td_trace.specs.declared.told_input.ToldInput.{ToldInput}
+use Rattle.td_trace.specs.declared.told_input.ToldInput.TheVariants.{Asked, TookOp, TookVote, Went}
 use Rattle.td_report.specs.Parts.{identity, spaced_quoted}
 use Rattle.td_report.specs.Replies.{yes_or_no}
 use Rattle.td_report.specs.TraceLines.{request_part, told_part}
@@ -448,7 +448,7 @@ told_asked (Propose (At id bit)) more = refl
 told_asked (ProposeAt index bit) more = refl
 told_asked (Cancel proposal) more = refl
 
-pub told_there : (told : Told) (more : List ℕ) → FitsTold told → told_at (told_part told ++ arrow more) ≡ Some
+pub told_there : (told : ToldInput) (more : List ℕ) → FitsTold told → told_at (told_part told ++ arrow more) ≡ Some
     (told, arrow more)
 unfolding told_at
 told_there (Asked request) more h = told_asked request more ∙ asked_there request more h
@@ -456,7 +456,7 @@ told_there (TookOp dot) more h = took_op_there dot more h
 told_there (TookVote vote) more h = took_vote_there vote more h
 told_there Went more h = refl
 
-took_op_back : (bytes behind : List ℕ) (told : Told) (rest : List ℕ) → bytes ≡ codes " take op " ++ behind
+took_op_back : (bytes behind : List ℕ) (told : ToldInput) (rest : List ℕ) → bytes ≡ codes " take op " ++ behind
     → took_op_at behind ≡ Some (told, rest) → IsRead told_part FitsTold bytes told rest
 unfolding took_op_at
 took_op_back bytes behind told rest whole e =
@@ -464,7 +464,7 @@ took_op_back bytes behind told rest whole e =
     let first = dot_back behind dot.0 dot.1 is_dot in
     read_as e (record { fits = first.fits; whole = whole ∙ ap (λ (t : List ℕ). codes " take op " ++ t) first.whole }))
 
-took_vote_back : (bytes behind : List ℕ) (told : Told) (rest : List ℕ) → bytes ≡ codes " take vote " ++ behind
+took_vote_back : (bytes behind : List ℕ) (told : ToldInput) (rest : List ℕ) → bytes ≡ codes " take vote " ++ behind
     → took_vote_at behind ≡ Some (told, rest) → IsRead told_part FitsTold bytes told rest
 unfolding took_vote_at
 took_vote_back bytes behind told rest whole e =
@@ -482,7 +482,7 @@ took_vote_back bytes behind told rest whole e =
           (yes_or_no ballot.0) proposal.1 ballot.1 third.whole fourth)));
     })))))
 
-asked_back : (bytes : List ℕ) (told : Told) (rest : List ℕ) → asked_at bytes ≡ Some (told, rest)
+asked_back : (bytes : List ℕ) (told : ToldInput) (rest : List ℕ) → asked_at bytes ≡ Some (told, rest)
     → IsRead told_part FitsTold bytes told rest
 unfolding asked_at
 asked_back bytes told rest e =
@@ -490,7 +490,7 @@ asked_back bytes told rest e =
     let first = request_back bytes request.0 request.1 is_request in
     read_as e (record { fits = first.fits; whole = first.whole }))
 
-pub told_back : (bytes : List ℕ) (told : Told) (rest : List ℕ) → told_at bytes ≡ Some (told, rest)
+pub told_back : (bytes : List ℕ) (told : ToldInput) (rest : List ℕ) → told_at bytes ≡ Some (told, rest)
     → IsRead told_part FitsTold bytes told rest
 unfolding told_at
 told_back bytes told rest e =
@@ -500,7 +500,7 @@ told_back bytes told rest e =
     (λ e. asked_back bytes told rest e)))
 
 -- an input begins with a space
-pub told_ends : (told : Told) (rest : List ℕ) → NoDigit (told_part told ++ rest)
+pub told_ends : (told : ToldInput) (rest : List ℕ) → NoDigit (told_part told ++ rest)
 told_ends (Asked (Insert index atom)) rest = refl
 told_ends (Asked (InsertAfter place atom)) rest = refl
 told_ends (Asked (Paste index run)) rest = refl

@@ -7,8 +7,8 @@ use Rattle.td_op.specs.declared.request.Request.TheVariants.{DeleteAtom}
 use Rattle.td_op.specs.declared.request.Request.TheVariants.{Propose, ProposeAt, Cancel}
 use Rattle.td_path.specs.declared.slot.Slot.{Slot}
 use Rattle.td_path.specs.declared.slot.Slot.TheVariants.{Root, At}
-use Rattle.td_trace.specs.declared.told.Told.{Told}
-use Rattle.td_trace.specs.declared.told.Told.TheVariants.{Asked, TookOp, TookVote, Went}
+use Rattle.td_trace.specs.declared.told_input.ToldInput.{ToldInput}
+use Rattle.td_trace.specs.declared.told_input.ToldInput.TheVariants.{Asked, TookOp, TookVote, Went}
 use Rattle.td_reader.specs.Arguments.{short_at, site_at, dot_at, identity_at, spaced_atom_at, run_at, bit_at}
 use Rattle.td_reader.specs.Reading.{Reading, ◌>>=◌, after, choose}
 
@@ -98,7 +98,7 @@ request_at bytes =
 
 -- ---- inputs
 
-unfoldable pub took_op_at : List ℕ → Reading Told
+unfoldable pub took_op_at : List ℕ → Reading ToldInput
 took_op_at bytes = do
   dot ← dot_at bytes
   Some (TookOp dot.0, dot.1)
@@ -109,7 +109,7 @@ ballot_at bytes =
     choose (codes " yes") bytes (λ rest. Some (true, rest))
     (choose (codes " no") bytes (λ rest. Some (false, rest)) None)
 
-unfoldable pub took_vote_at : List ℕ → Reading Told
+unfoldable pub took_vote_at : List ℕ → Reading ToldInput
 took_vote_at bytes = do
   voter ← site_at bytes
   rest ← after (codes " ") voter.1
@@ -117,12 +117,12 @@ took_vote_at bytes = do
   ballot ← ballot_at proposal.1
   Some (TookVote (record { proposal = proposal.0; voter = voter.0; yes = ballot.0 }), ballot.1)
 
-unfoldable pub asked_at : List ℕ → Reading Told
+unfoldable pub asked_at : List ℕ → Reading ToldInput
 asked_at bytes = do
   request ← request_at bytes
   Some (Asked request.0, request.1)
 
-unfoldable pub told_at : List ℕ → Reading Told
+unfoldable pub told_at : List ℕ → Reading ToldInput
 told_at bytes =
     choose (codes " take op ") bytes took_op_at
     (choose (codes " take vote ") bytes took_vote_at

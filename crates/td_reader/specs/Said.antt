@@ -1,10 +1,10 @@
 -- What a line that was read says.
 use Rattle.td_report.specs.TraceLines.{TraceLine, SitesAre, HistoryOf, EntryIs, EditorAt, CallIs, LookIs, TextIs}
 use Rattle.td_report.specs.TraceLines.{Ended}
-use Rattle.td_reader.specs.declared.line.Line.{Line}
-use Rattle.td_reader.specs.declared.line.Line.TheVariants as read
+use Rattle.td_reader.specs.declared.line.ReadLine.{ReadLine}
+use Rattle.td_reader.specs.declared.line.ReadLine.TheVariants as read
 
-abbrev pub said_by : Line → TraceLine
+abbrev pub said_by : ReadLine → TraceLine
 said_by (read.Sites n) = SitesAre n
 said_by (read.Site site) = HistoryOf site
 said_by (read.Entry number entry) = EntryIs number entry

@@ -17,8 +17,8 @@ use Rattle.td_trace.specs.declared.entry.TraceEntry.{TraceEntry}
 use Rattle.td_trace.specs.declared.log.Did.{Did}
 use Rattle.td_trace.specs.declared.log.Did.TheVariants.{Call, Look}
 use Rattle.td_trace.specs.declared.log.EditorLog.{EditorLog}
-use Rattle.td_trace.specs.declared.told.Told.{Told}
-use Rattle.td_trace.specs.declared.told.Told.TheVariants.{Asked, TookOp, TookVote, Went}
+use Rattle.td_trace.specs.declared.told_input.ToldInput.{ToldInput}
+use Rattle.td_trace.specs.declared.told_input.ToldInput.TheVariants.{Asked, TookOp, TookVote, Went}
 
 -- an index, a length, a number of operations, and the number of an editor
 abbrev pub IsShort : ℕ → Type 0
@@ -43,7 +43,7 @@ IsIndexed (Cancel proposal) = ⊤
 abbrev pub FitsRequest : Request → Type 0
 FitsRequest request = IsRequest request × IsIndexed request
 
-abbrev pub FitsTold : Told → Type 0
+abbrev pub FitsTold : ToldInput → Type 0
 FitsTold (Asked request) = FitsRequest request
 FitsTold (TookOp dot) = IsDot dot
 FitsTold (TookVote vote) = IsVote vote

@@ -25,10 +25,7 @@ mod request;
 mod trace;
 
 pub use laws::{bytes_are_the_trace_of_one_value, written_traces_have_no_fault};
-pub use line::Line;
+pub use line::ReadLine;
 pub use places::ReadTrace;
 pub use quoted::Quoted;
 pub use trace::{MAX_TRACE, ReadTraceFault, read_trace};
-
-#[cfg(test)]
-mod tests;

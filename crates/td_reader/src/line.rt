@@ -4,7 +4,7 @@ use td_trace::TraceEntry;
 
 /// What a line of a trace says.
 #[derive(Debug, Drop)]
-pub enum Line<'a> {
+pub enum ReadLine<'a> {
     /// How many sites there are, at most 64.
     Sites {
         n: u8,

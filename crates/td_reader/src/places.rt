@@ -4,7 +4,7 @@ ghost use Rattle.td_reader.specs.Places.{IsPlaced};
 ghost use Rattle.td_reader.specs.Said.{said_by};
 ghost use Rattle.td_reader.specs.Values.{TraceValue};
 
-use crate::line::Line;
+use crate::line::ReadLine;
 use crate::read_line::line;
 use std::marker::Model;
 
@@ -37,7 +37,7 @@ impl<'a> ReadTrace<'a> {
     }
 
     /// The line with this number, from 0. None from the number of lines on. Takes no memory.
-    pub fn line(&self, k: usize) -> Option<Line<'a>>
+    pub fn line(&self, k: usize) -> Option<ReadLine<'a>>
         ensures { (t : TraceValue) → IsTraceOf self.now t
             → MatchOption result (slice_get (said t) k ≡ None) (λ line. slice_get (said t) k ≡ Some (said_by line)) }
     {

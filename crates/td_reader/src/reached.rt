@@ -3,7 +3,7 @@ ghost use Rattle.td_reader.specs.Reached.{begins, ends, next_did, next_editor, n
 ghost use Rattle.td_reader.specs.Reached.{nothing_read, reached_by};
 ghost use Rattle.td_reader.specs.Said.{said_by};
 
-use crate::line::Line;
+use crate::line::ReadLine;
 
 /// How far the lines of a trace have come.
 #[derive(Clone, Copy, Debug, PartialEq, Eq)]
@@ -43,17 +43,17 @@ impl Reached {
     }
 
     /// With one more line, where it can be the next.
-    pub(crate) fn by(self, line: &Line<'_>) -> Option<Reached>
+    pub(crate) fn by(self, line: &ReadLine<'_>) -> Option<Reached>
         ensures { result ≡ reached_by self (said_by line.now) }
     {
         match line {
-            Line::Sites { n } => self.begins(*n),
-            Line::Site { site } => self.next_history(site.number()),
-            Line::Entry { number, .. } => self.next_entry(*number),
-            Line::Editor { number, home } => self.next_editor(*number, home.number()),
-            Line::Call { .. } | Line::Look { .. } => self.next_did(),
-            Line::Text { site, .. } => self.next_text(site.number()),
-            Line::End => self.ends(),
+            ReadLine::Sites { n } => self.begins(*n),
+            ReadLine::Site { site } => self.next_history(site.number()),
+            ReadLine::Entry { number, .. } => self.next_entry(*number),
+            ReadLine::Editor { number, home } => self.next_editor(*number, home.number()),
+            ReadLine::Call { .. } | ReadLine::Look { .. } => self.next_did(),
+            ReadLine::Text { site, .. } => self.next_text(site.number()),
+            ReadLine::End => self.ends(),
         }
     }
 

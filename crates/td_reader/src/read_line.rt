@@ -5,7 +5,7 @@ ghost use Rattle.td_reader.specs.Lines.{line_at, look_at, sites_at};
 ghost use Rattle.td_reader.specs.Said.{said_by};
 
 use crate::cursor::behind;
-use crate::line::Line;
+use crate::line::ReadLine;
 use crate::names::site;
 use crate::number::{long, number, short};
 use crate::quoted::text;
@@ -16,7 +16,7 @@ use td_trace::TraceEntry;
 
 /// A line with its LF, and what is left behind it. None where what stands at the front is no line of any trace.
 #[tactic(auto, unfolding(crate::specs::Lines::line_at))]
-pub(crate) fn line(bytes: &[u8]) -> Option<(Line<'_>, &[u8])>
+pub(crate) fn line(bytes: &[u8]) -> Option<(ReadLine<'_>, &[u8])>
     ensures { let read = line_at bytes.now in
         MatchOption result (read ≡ None) (λ found. read ≡ Some (said_by found.0, found.1.now)) }
 {
@@ -39,25 +39,25 @@ pub(crate) fn line(bytes: &[u8]) -> Option<(Line<'_>, &[u8])>
         return ending(rest);
     }
     if let Some(rest) = behind(bytes, b"end\n") {
-        return Some((Line::End, rest));
+        return Some((ReadLine::End, rest));
     }
     entry(bytes)
 }
 
 // How many sites there are.
 #[tactic(auto, unfolding(crate::specs::Lines::sites_at))]
-fn sites(bytes: &[u8]) -> Option<(Line<'_>, &[u8])>
+fn sites(bytes: &[u8]) -> Option<(ReadLine<'_>, &[u8])>
     ensures { let read = sites_at bytes.now in
         MatchOption result (read ≡ None) (λ found. read ≡ Some (said_by found.0, found.1.now)) }
 {
     let (n, rest) = number(bytes, u64::from(MAX_SITE))?;
     let rest = behind(rest, b"\n")?;
-    Some((Line::Sites { n: n as u8 }, rest))
+    Some((ReadLine::Sites { n: n as u8 }, rest))
 }
 
 // The site of a history.
 #[tactic(auto, unfolding(crate::specs::Lines::history_at))]
-fn history(bytes: &[u8]) -> Option<(Line<'_>, &[u8])>
+fn history(bytes: &[u8]) -> Option<(ReadLine<'_>, &[u8])>
     ensures { let read = history_at bytes.now in
         MatchOption result (read ≡ None) (λ found. read ≡ Some (said_by found.0, found.1.now)) }
 {
@@ -65,12 +65,12 @@ fn history(bytes: &[u8]) -> Option<(Line<'_>, &[u8])>
         return None;
     };
     let rest = behind(rest, b"\n")?;
-    Some((Line::Site { site }, rest))
+    Some((ReadLine::Site { site }, rest))
 }
 
 // An entry, with its number.
 #[tactic(auto, unfolding(crate::specs::Lines::entry_at))]
-fn entry(bytes: &[u8]) -> Option<(Line<'_>, &[u8])>
+fn entry(bytes: &[u8]) -> Option<(ReadLine<'_>, &[u8])>
     ensures { let read = entry_at bytes.now in
         MatchOption result (read ≡ None) (λ found. read ≡ Some (said_by found.0, found.1.now)) }
 {
@@ -84,12 +84,12 @@ fn entry(bytes: &[u8]) -> Option<(Line<'_>, &[u8])>
     };
     let rest = behind(rest, b"\n")?;
     let entry = TraceEntry { told, reply };
-    Some((Line::Entry { number, entry }, rest))
+    Some((ReadLine::Entry { number, entry }, rest))
 }
 
 // The number of an editor, and its site.
 #[tactic(auto, unfolding(crate::specs::Lines::editor_at))]
-fn editor(bytes: &[u8]) -> Option<(Line<'_>, &[u8])>
+fn editor(bytes: &[u8]) -> Option<(ReadLine<'_>, &[u8])>
     ensures { let read = editor_at bytes.now in
         MatchOption result (read ≡ None) (λ found. read ≡ Some (said_by found.0, found.1.now)) }
 {
@@ -99,12 +99,12 @@ fn editor(bytes: &[u8]) -> Option<(Line<'_>, &[u8])>
         return None;
     };
     let rest = behind(rest, b"\n")?;
-    Some((Line::Editor { number, home }, rest))
+    Some((ReadLine::Editor { number, home }, rest))
 }
 
 // The number of a call, and its entry.
 #[tactic(auto, unfolding(crate::specs::Lines::call_at))]
-fn call(bytes: &[u8]) -> Option<(Line<'_>, &[u8])>
+fn call(bytes: &[u8]) -> Option<(ReadLine<'_>, &[u8])>
     ensures { let read = call_at bytes.now in
         MatchOption result (read ≡ None) (λ found. read ≡ Some (said_by found.0, found.1.now)) }
 {
@@ -112,12 +112,12 @@ fn call(bytes: &[u8]) -> Option<(Line<'_>, &[u8])>
     let rest = behind(rest, b" ")?;
     let (entry, rest) = long(rest)?;
     let rest = behind(rest, b"\n")?;
-    Some((Line::Call { call, entry }, rest))
+    Some((ReadLine::Call { call, entry }, rest))
 }
 
 // The numbers and the text of a look.
 #[tactic(auto, unfolding(crate::specs::Lines::look_at))]
-fn look(bytes: &[u8]) -> Option<(Line<'_>, &[u8])>
+fn look(bytes: &[u8]) -> Option<(ReadLine<'_>, &[u8])>
     ensures { let read = look_at bytes.now in
         MatchOption result (read ≡ None) (λ found. read ≡ Some (said_by found.0, found.1.now)) }
 {
@@ -129,13 +129,13 @@ fn look(bytes: &[u8]) -> Option<(Line<'_>, &[u8])>
         return None;
     };
     let rest = behind(rest, b"\n")?;
-    let look = Line::Look { calls, upto, text };
+    let look = ReadLine::Look { calls, upto, text };
     Some((look, rest))
 }
 
 // A site, and its text at the end.
 #[tactic(auto, unfolding(crate::specs::Lines::ending_at))]
-fn ending(bytes: &[u8]) -> Option<(Line<'_>, &[u8])>
+fn ending(bytes: &[u8]) -> Option<(ReadLine<'_>, &[u8])>
     ensures { let read = ending_at bytes.now in
         MatchOption result (read ≡ None) (λ found. read ≡ Some (said_by found.0, found.1.now)) }
 {
@@ -147,5 +147,5 @@ fn ending(bytes: &[u8]) -> Option<(Line<'_>, &[u8])>
         return None;
     };
     let rest = behind(rest, b"\n")?;
-    Some((Line::Text { site, text }, rest))
+    Some((ReadLine::Text { site, text }, rest))
 }

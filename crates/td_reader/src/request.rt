@@ -12,11 +12,11 @@ use crate::number::short;
 use td_base::AtomId;
 use td_op::{Request, Vote};
 use td_path::Slot;
-use td_trace::Told;
+use td_trace::ToldInput;
 
 /// An input, behind a space, and what is left behind it.
 #[tactic(auto, unfolding(crate::specs::Requests::told_at))]
-pub(crate) fn told(bytes: &[u8]) -> Option<(Told, &[u8])>
+pub(crate) fn told(bytes: &[u8]) -> Option<(ToldInput, &[u8])>
     ensures { let read = told_at bytes.now in
         MatchOption result (read ≡ None) (λ found. read ≡ Some (found.0, found.1.now)) }
 {
@@ -27,26 +27,26 @@ pub(crate) fn told(bytes: &[u8]) -> Option<(Told, &[u8])>
         return took_vote(rest);
     }
     if let Some(rest) = behind(bytes, b" next") {
-        return Some((Told::Went, rest));
+        return Some((ToldInput::Went, rest));
     }
     asked(bytes)
 }
 
 // An operation that was taken.
 #[tactic(auto, unfolding(crate::specs::Requests::took_op_at))]
-fn took_op(bytes: &[u8]) -> Option<(Told, &[u8])>
+fn took_op(bytes: &[u8]) -> Option<(ToldInput, &[u8])>
     ensures { let read = took_op_at bytes.now in
         MatchOption result (read ≡ None) (λ found. read ≡ Some (found.0, found.1.now)) }
 {
     let Some((dot, rest)) = dot(bytes) else {
         return None;
     };
-    Some((Told::TookOp { dot }, rest))
+    Some((ToldInput::TookOp { dot }, rest))
 }
 
 // A vote that was taken.
 #[tactic(auto, unfolding(crate::specs::Requests::took_vote_at))]
-fn took_vote(bytes: &[u8]) -> Option<(Told, &[u8])>
+fn took_vote(bytes: &[u8]) -> Option<(ToldInput, &[u8])>
     ensures { let read = took_vote_at bytes.now in
         MatchOption result (read ≡ None) (λ found. read ≡ Some (found.0, found.1.now)) }
 {
@@ -63,7 +63,7 @@ fn took_vote(bytes: &[u8]) -> Option<(Told, &[u8])>
         voter,
         yes,
     };
-    Some((Told::TookVote(vote), rest))
+    Some((ToldInput::TookVote(vote), rest))
 }
 
 // Yes or no, behind a space.
@@ -81,14 +81,14 @@ fn ballot(bytes: &[u8]) -> Option<(bool, &[u8])>
 
 // A request of an editor.
 #[tactic(auto, unfolding(crate::specs::Requests::asked_at))]
-fn asked(bytes: &[u8]) -> Option<(Told, &[u8])>
+fn asked(bytes: &[u8]) -> Option<(ToldInput, &[u8])>
     ensures { let read = asked_at bytes.now in
         MatchOption result (read ≡ None) (λ found. read ≡ Some (found.0, found.1.now)) }
 {
     let Some((request, rest)) = request(bytes) else {
         return None;
     };
-    Some((Told::Asked(request), rest))
+    Some((ToldInput::Asked(request), rest))
 }
 
 // A request, behind a space.

@@ -12,7 +12,7 @@ use Rattle.td_trace.specs.declared.log.Did.TheVariants.{Call, Look}
 use Rattle.td_trace.specs.declared.log.EditorLog.{EditorLog}
 use Rattle.td_trace.specs.Entries.{traced, traced_history, traced_family, is_request_at}
 use Rattle.td_trace.specs.Editors.{Sofar, further, nothing_yet, IsDid, AreDid}
-use Rattle.td_trace.specs.Family.{text_after, IsLogOf, IsLiveFamily, AreTexts}
+use Rattle.td_trace.specs.Family.{text_past, IsLogOf, IsLiveFamily, AreTexts}
 use Rattle.td_replay.specs.Traced.{site_entries, AreInRange}
 use Rattle.td_replay.specs.Judging.{States, begin}
 use Rattle.td_replay.specs.Replay.{Goes, Reaches, Begun, Then, GoesOnTo, Stays, Further, AllDone}
@@ -88,10 +88,10 @@ did_same entries f g same s (did ∷ rest) d =
 way_of : (family : Family) (all : List (List TraceEntry)) (last : States) → IsReplayOf family all last
     → ((states : States) → Reaches all states → GoesOnTo all states last → (site : ℕ) → 0 < site → site ≤ length all
     → IsBehind family site (states site))
-    → AreTextsOnTheWay all last (text_after family)
+    → AreTextsOnTheWay all last (text_past family)
 way_of family all last of_it follows states r leads site some within =
     text_at family site (states site) (follows states r leads site some within)
-    ∙ ap (λ (n : ℕ). text_after family site (n - length (states site).left))
+    ∙ ap (λ (n : ℕ). text_past family site (n - length (states site).left))
     (sym (length-map (history family site) traced)
     ∙ ap (λ (l : List TraceEntry). length l)
     (sym (entries_there family (site - 1))
@@ -100,7 +100,7 @@ way_of family all last of_it follows states r leads site some within =
 pub texts_there : (all : List (List TraceEntry)) → AreInRange all → (last : States) → Reaches all last
     → AllDone all last → VotesWereSent all last → (told : ℕ → ℕ → List ℕ) × AreTextsOnTheWay all last told
 texts_there all are last r over votes =
-    let s = shows_all all are last r over votes in (text_after s.0, way_of s.0 all last s.1 s.2)
+    let s = shows_all all are last r over votes in (text_past s.0, way_of s.0 all last s.1 s.2)
 
 -- ---- a family of which this is the replay
 
@@ -118,7 +118,7 @@ module _ (family : Family) (all : List (List TraceEntry)) (last : States) (of_it
       ∙ ap (λ (l : List (List TraceEntry)). get_or l (site - 1) []) of_it.is
 
   same_text : (site : ℕ) → 0 < site → site ≤ length all → (k : ℕ) → k ≤ length (site_entries all site)
-      → told site k ≡ text_after family site k
+      → told site k ≡ text_past family site k
   same_text site some within k less =
       let none : length (last site).left ≡ 0 = ap (λ (l : List TraceEntry). length l) (over site some within) in
       let p : Passed all last site k = passed all last last reaches Stays site k (omega (arith, less, none)) in
@@ -131,7 +131,7 @@ module _ (family : Family) (all : List (List TraceEntry)) (last : States) (of_it
       ap (told site) (sym there)
       ∙ sym (way p.states p.reaches p.leads site some within)
       ∙ text_at family site (p.states site) (follows p.states p.reaches p.leads site some within)
-      ∙ ap (text_after family site) here
+      ∙ ap (text_past family site) here
 
   within_all : (site : ℕ) → site ≤ length family → site ≤ length all
   within_all site low = subst (λ (n : ℕ). site ≤ n) sites low
@@ -147,9 +147,9 @@ module _ (family : Family) (all : List (List TraceEntry)) (last : States) (of_it
         some = d.some;
         within = within_family log.home d.within;
         did =
-            subst (λ (l : List TraceEntry). AreDid l (text_after family log.home) nothing_yet log.did)
+            subst (λ (l : List TraceEntry). AreDid l (text_past family log.home) nothing_yet log.did)
             (sym (entries_are log.home))
-            (did_same (site_entries all log.home) (told log.home) (text_after family log.home)
+            (did_same (site_entries all log.home) (told log.home) (text_past family log.home)
             (same_text log.home d.some d.within) nothing_yet log.did d.did);
       }
 
@@ -199,9 +199,9 @@ module _ (family : Family) (all : List (List TraceEntry)) (last : States) (of_it
         some = d.some;
         within = within_all log.home d.within;
         did =
-            did_same (site_entries all log.home) (text_after family log.home) (told log.home)
+            did_same (site_entries all log.home) (text_past family log.home) (told log.home)
             (λ k less. sym (same_text log.home d.some (within_all log.home d.within) k less)) nothing_yet log.did
-            (subst (λ (l : List TraceEntry). AreDid l (text_after family log.home) nothing_yet log.did)
+            (subst (λ (l : List TraceEntry). AreDid l (text_past family log.home) nothing_yet log.did)
             (entries_are log.home) d.did);
       }
 
@@ -279,15 +279,15 @@ accepted_exactly all logs texts = (there, back)
           last = e.states;
           reaches = e.reaches;
           over = e.over;
-          text_at = text_after family;
+          text_at = text_past family;
           on_the_way = way family c e.states e.reaches e.over;
-          accepted = found_at_end family c logs texts l t e.states e.reaches e.over (text_after family)
+          accepted = found_at_end family c logs texts l t e.states e.reaches e.over (text_past family)
               (way family c e.states e.reaches e.over);
         }
       where
         way : (family : Family) → IsConsistent family → (last : States) → Reaches (traced_family family) last
             → AllDone (traced_family family) last
-            → AreTextsOnTheWay (traced_family family) last (text_after family)
+            → AreTextsOnTheWay (traced_family family) last (text_past family)
         way family c last r over =
             way_of family (traced_family family) last (ends_as family c last r over)
             (λ states s leads site some within.

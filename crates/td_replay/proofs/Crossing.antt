@@ -7,8 +7,8 @@ use Rattle.td_op.specs.declared.message.Message.TheVariants.{Vote as AVote}
 use Rattle.td_machine.specs.Stage.{dot, vote_yes}
 use Rattle.td_machine.proofs.Ranges.{dot_fits, atom_from, message_from}
 use Rattle.td_trace.specs.declared.entry.TraceEntry.{TraceEntry}
-use Rattle.td_trace.specs.declared.told.Told.{Told}
-use Rattle.td_trace.specs.declared.told.Told.TheVariants.{TookVote}
+use Rattle.td_trace.specs.declared.told_input.ToldInput.{ToldInput}
+use Rattle.td_trace.specs.declared.told_input.ToldInput.TheVariants.{TookVote}
 use Rattle.td_replay.specs.Traced.{site_entries, IsTold, AreInRange}
 use Rattle.td_replay.specs.Judging.{begin}
 use Rattle.td_replay.specs.Replay.{Reaches, AllDone}
@@ -77,7 +77,7 @@ crossing_entries =
     }
 
 -- no entry takes a vote
-abbrev NoVote : Told → Type 0
+abbrev NoVote : ToldInput → Type 0
 NoVote (TookVote v) = ⊥
 NoVote told = Unit {0}
 
@@ -139,7 +139,7 @@ crossing_over = at_three (λ (site : ℕ). (after_sites crossing crossing_sites 
 pub crossing_votes : VotesWereSent crossing (after_sites crossing crossing_sites)
 crossing_votes site up low e i v k =
     absurd
-    (subst (λ (told : Told). NoVote told) k
+    (subst (λ (told : ToldInput). NoVote told) k
     (all_in (λ (e : TraceEntry). NoVote e.told) (site_entries crossing site) (no_votes site up low) e i))
 
 pub crossing_replayed : IsReplayed crossing

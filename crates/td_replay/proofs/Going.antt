@@ -37,8 +37,8 @@ use Rattle.td_decide.proofs.Traces.{sender_legal}
 use Rattle.td_agree.specs.Unfit.{NothingUnfit}
 use Rattle.td_trace.specs.Entries.{told_of, traced_history, traced_family}
 use Rattle.td_trace.specs.declared.entry.TraceEntry.{TraceEntry}
-use Rattle.td_trace.specs.declared.told.Told.{Told}
-use Rattle.td_trace.specs.declared.told.Told.TheVariants.{TookOp}
+use Rattle.td_trace.specs.declared.told_input.ToldInput.{ToldInput}
+use Rattle.td_trace.specs.declared.told_input.ToldInput.TheVariants.{TookOp}
 use Rattle.td_replay.specs.Counting.{made_deps}
 use Rattle.td_replay.specs.Judging.{States, begin, made_op, Lost, Waits, Steps, take_waiting, use_of, judge_offer, judge_taken, judge_next, judge}
 use Rattle.td_replay.specs.Replies.{is_new, taken_of, NotUnfit}
@@ -287,7 +287,7 @@ module _ (family : Family) (c : IsConsistent family) (unfit : NothingUnfit famil
         ∙ reply_is in
         let judged : judge all states site (outlined m) (told_of e.input) e.reply
         ≡ judge_offer (Some x.deps) (made_op states x.dot) (is_new e.reply) x.dot (outlined m) =
-        ap (λ (d : Told). judge all states site (outlined m) d e.reply) told
+        ap (λ (d : ToldInput). judge all states site (outlined m) d e.reply) told
         ∙ ap
         (λ (b : Bool).
         if b then Lost else judge_offer (made_deps all x.dot) (made_op states x.dot) (is_new e.reply) x.dot
@@ -325,7 +325,7 @@ module _ (family : Family) (c : IsConsistent family) (unfit : NothingUnfit famil
         let w : MayCome family site m (AVote v) = may (AVote v) k in
         let home : nat_eq v.proposal.site site ≡ true = eq-eqb v.proposal.site site w.addressed in
         Ready
-        (ap (λ (d : Told). judge all states site (outlined m) d e.reply) (ap told_of k)
+        (ap (λ (d : ToldInput). judge all states site (outlined m) d e.reply) (ap told_of k)
         ∙ ap
         (λ (b : Bool).
         if b || not (nat_eq v.proposal.site site) then Lost else Steps (step (outlined m) (Take (AVote v))))
@@ -338,7 +338,7 @@ module _ (family : Family) (c : IsConsistent family) (unfit : NothingUnfit famil
         let stepped_is : step m e.input ≡ step m Next = ap (step m) k in
         let replied : (step m Next).reply ≡ e.reply = ap (λ (t : Stepped). t.reply) (sym stepped_is) ∙ reply_is in
         at stepped_is replied
-        (ap (λ (d : Told). judge all states site (outlined m) d e.reply) (ap told_of k)) (taken_of e.reply) refl
+        (ap (λ (d : ToldInput). judge all states site (outlined m) d e.reply) (ap told_of k)) (taken_of e.reply) refl
       where
         at : step m e.input ≡ step m Next → (step m Next).reply ≡ e.reply
             → judge all states site (outlined m) (told_of e.input) e.reply
@@ -380,7 +380,7 @@ module _ (family : Family) (c : IsConsistent family) (unfit : NothingUnfit famil
     look_local : (request : Request) → e.input ≡ Local request → Looked family states site front e
     look_local request k =
         Ready
-        (ap (λ (d : Told). judge all states site (outlined m) d e.reply) (ap told_of k)
+        (ap (λ (d : ToldInput). judge all states site (outlined m) d e.reply) (ap told_of k)
         ∙ ap (λ (t : Stepped). Steps t)
         (local_outlined request m ∙ ap (λ (i : Input). outlined_step (step m i)) (sym k)))
 

@@ -8,15 +8,15 @@ use Rattle.td_op.specs.declared.message.Message.TheVariants.{Op as AnOp, Vote as
 use Rattle.td_op.specs.Op.{OpValue}
 use Rattle.td_machine.specs.History.{History, Family}
 use Rattle.td_trace.specs.declared.entry.TraceEntry.{TraceEntry}
-use Rattle.td_trace.specs.declared.told.Told.{Told}
-use Rattle.td_trace.specs.declared.told.Told.TheVariants.{Asked, TookOp, TookVote, Went}
+use Rattle.td_trace.specs.declared.told_input.ToldInput.{ToldInput}
+use Rattle.td_trace.specs.declared.told_input.ToldInput.TheVariants.{Asked, TookOp, TookVote, Went}
 use Rattle.td_replay.specs.Judging.{outline, States, made_op}
 
 abbrev pub op_for : DotValue → Option OpValue → OpValue
 op_for d None = outline d []
 op_for d (Some x) = x
 
-abbrev pub input_for : States → Told → Input
+abbrev pub input_for : States → ToldInput → Input
 input_for states (Asked request) = Local request
 input_for states (TookOp d) = Take (AnOp (op_for d (made_op states d)))
 input_for states (TookVote v) = Take (AVote v)

@@ -12,7 +12,7 @@ use Rattle.td_machine.specs.Machine.{Machine}
 use Rattle.td_machine.specs.Taking.{Stepped}
 use Rattle.td_machine.specs.Step.{step}
 use Rattle.td_trace.specs.declared.entry.TraceEntry.{TraceEntry}
-use Rattle.td_trace.specs.declared.told.Told.TheVariants.{TookOp, TookVote, Went}
+use Rattle.td_trace.specs.declared.told_input.ToldInput.TheVariants.{TookOp, TookVote, Went}
 use Rattle.td_replay.specs.Counting.{deps_from, no_count, made_deps}
 use Rattle.td_replay.specs.Judging.{outline, States, made_op, Lost, Waits, Steps, take_waiting, judge_offer, judge_taken, judge_next, judge}
 use Rattle.td_replay.specs.Replies.{is_new, taken_of}

@@ -37,8 +37,8 @@ use Rattle.td_machine.proofs.Induction.{IsBuiltSomewhere, built_of}
 use Rattle.td_machine.proofs.Reached.{waits_of_sites, ballots_of}
 use Rattle.td_machine.proofs.Ballots.{find_ballot}
 use Rattle.td_trace.specs.Entries.{told_of}
-use Rattle.td_trace.specs.declared.told.Told.{Told}
-use Rattle.td_trace.specs.declared.told.Told.TheVariants.{Asked, TookOp, TookVote, Went}
+use Rattle.td_trace.specs.declared.told_input.ToldInput.{ToldInput}
+use Rattle.td_trace.specs.declared.told_input.ToldInput.TheVariants.{Asked, TookOp, TookVote, Went}
 use Rattle.td_replay.specs.Counting.{is_proposal, Count, no_count, count_entry, raised, how_often, made_by, with_use}
 use Rattle.td_replay.specs.Replies.{is_new, taken_of}
 use Rattle.td_replay.proofs.Ways.{by_ways, IsBodyOf, IsAimOf, aimed}
@@ -73,7 +73,7 @@ quiet (Dropped dot why) r = absurd r
 quiet Idle r = (refl, refl, refl)
 
 -- what is counted, with what is asked of the reply in its place
-abbrev counted_by : ℕ → Count → Told → ℕ → Bool → Option DotValue → Count
+abbrev counted_by : ℕ → Count → ToldInput → ℕ → Bool → Option DotValue → Count
 counted_by site c (Asked request) k w t = record { have = raised site k c.have; yes = c.yes; no = c.no }
 counted_by site c (TookOp x) k w t =
     record { have = with_use site (if w then Some x else None) (raised site k c.have); yes = c.yes; no = c.no }
@@ -85,7 +85,7 @@ counted_by site c (TookVote v) k w t =
     }
 counted_by site c Went k w t = record { have = with_use site t (raised site k c.have); yes = c.yes; no = c.no }
 
-counted_is : (site n : ℕ) (c : Count) (told : Told) (reply : Reply)
+counted_is : (site n : ℕ) (c : Count) (told : ToldInput) (reply : Reply)
     → count_entry site n c (record { told = told; reply = reply })
     ≡ counted_by site c told (made_by n c told reply) (is_new reply) (taken_of reply)
 counted_is site n c (Asked request) reply = refl
@@ -93,20 +93,20 @@ counted_is site n c (TookOp x) reply = refl
 counted_is site n c (TookVote v) reply = refl
 counted_is site n c Went reply = refl
 
-counted_none : (site : ℕ) (c : Count) (told : Told) → counted_by site c told 0 false None ≡ c
+counted_none : (site : ℕ) (c : Count) (told : ToldInput) → counted_by site c told 0 false None ≡ c
 counted_none site c (Asked request) = refl
 counted_none site c (TookOp x) = refl
 counted_none site c (TookVote v) = refl
 counted_none site c Went = refl
 
-makes_none : (n : ℕ) (c : Count) (told : Told) (reply : Reply) → is_made reply ≡ false → is_new reply ≡ false
+makes_none : (n : ℕ) (c : Count) (told : ToldInput) (reply : Reply) → is_made reply ≡ false → is_new reply ≡ false
     → made_by n c told reply ≡ 0
 makes_none n c told (Made dot) d w = absurd (true≢false d)
 makes_none n c told Cancelled d w = absurd (true≢false d)
 makes_none n c told New d w = absurd (true≢false w)
 makes_none n c told reply d w = refl
 
-pub counted_silent : (site n : ℕ) (c : Count) (told : Told) (reply : Reply) → is_made reply ≡ false
+pub counted_silent : (site n : ℕ) (c : Count) (told : ToldInput) (reply : Reply) → is_made reply ≡ false
     → is_new reply ≡ false → taken_of reply ≡ None → count_entry site n c (record { told = told; reply = reply }) ≡ c
 counted_silent site n c told reply d w t =
     counted_is site n c told reply
@@ -115,7 +115,7 @@ counted_silent site n c told reply d w t =
     ∙ ap (λ (o : Option DotValue). counted_by site c told 0 false o) t
     ∙ counted_none site c told
 
-counted_quiet : (site n : ℕ) (c : Count) (told : Told) (reply : Reply) → IsRefusal reply
+counted_quiet : (site n : ℕ) (c : Count) (told : ToldInput) (reply : Reply) → IsRefusal reply
     → count_entry site n c (record { told = told; reply = reply }) ≡ c
 counted_quiet site n c told reply r =
     let q = quiet reply r in counted_silent site n c told reply q.0 q.1 q.2
@@ -162,7 +162,7 @@ opened voter b e = at b.decision e
 
 -- ---- a step keeps it
 
-abbrev pub StillMatches : ℕ → ℕ → Count → Told → Stepped → Type 0
+abbrev pub StillMatches : ℕ → ℕ → Count → ToldInput → Stepped → Type 0
 StillMatches site n c told s = Matches (count_entry site n c (record { told = told; reply = s.reply })) s.machine
 
 module _ (c : Count) (m : Machine) (r : IsReached m) (h : Matches c m) where

@@ -32,8 +32,8 @@ use Rattle.td_machine.proofs.Reached.{counted_of, of_sites}
 use Rattle.td_machine.proofs.Family.{unique}
 use Rattle.td_trace.specs.Entries.{told_of}
 use Rattle.td_trace.specs.declared.entry.TraceEntry.{TraceEntry}
-use Rattle.td_trace.specs.declared.told.Told.{Told}
-use Rattle.td_trace.specs.declared.told.Told.TheVariants.{Asked, TookOp, TookVote, Went}
+use Rattle.td_trace.specs.declared.told_input.ToldInput.{ToldInput}
+use Rattle.td_trace.specs.declared.told_input.ToldInput.TheVariants.{Asked, TookOp, TookVote, Went}
 use Rattle.td_replay.specs.Counting.{Count, no_count, count_entry, deps_from, made_deps}
 use Rattle.td_replay.specs.Judging.{outline, SiteState, States, begin, made_op, Steps, take_waiting, judge}
 use Rattle.td_replay.specs.Replay.{Goes}
@@ -110,7 +110,7 @@ older_own b input r valid x i here low =
         let p = placed b s.built in (p.0, p.1)
 
 module _ (all : List (List TraceEntry)) (t : AreInRange all) (site : ℕ) (some : 0 < site) (within : site ≤ length all)
-    (state : SiteState) (s : Seen all site state) (told : Told) (reply : Reply) (rest : List TraceEntry)
+    (state : SiteState) (s : Seen all site state) (told : ToldInput) (reply : Reply) (rest : List TraceEntry)
     (left : state.left ≡ record { told = told; reply = reply } ∷ rest) where
   abbrev n : ℕ
   n = length all
@@ -257,7 +257,7 @@ covers_at v w site e =
     (covered_dots v w e (record { site = site; seq = last }) (le-leb last last (omega arith)))
 
 module _ (all : List (List TraceEntry)) (t : AreInRange all) (states : States) (seen : AllSeen all states) where
-  seen_entry : (site : ℕ) (some : 0 < site) (within : site ≤ length all) (told : Told) (reply : Reply)
+  seen_entry : (site : ℕ) (some : 0 < site) (within : site ≤ length all) (told : ToldInput) (reply : Reply)
       (rest : List TraceEntry)
       (to : Stepped) → (states site).left ≡ record { told = told; reply = reply } ∷ rest
       → judge all states site (states site).machine told reply ≡ Steps to → to.reply ≡ reply → NotUnfit reply

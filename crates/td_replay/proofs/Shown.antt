@@ -17,10 +17,10 @@ use Rattle.td_base.proofs.Elements.{CutAt, cut_at, same_tail}
 use Rattle.td_base.proofs.Lists.{map_In}
 use Rattle.td_logs.proofs.Moments.{legal_entry}
 use Rattle.td_decide.proofs.Traces.{sender_legal}
-use Rattle.td_trace.specs.Family.{text_after}
+use Rattle.td_trace.specs.Family.{text_past}
 use Rattle.td_trace.specs.Entries.{told_of, traced, traced_history, traced_family}
 use Rattle.td_trace.specs.declared.entry.TraceEntry.{TraceEntry}
-use Rattle.td_trace.specs.declared.told.Told.TheVariants.{TookVote}
+use Rattle.td_trace.specs.declared.told_input.ToldInput.TheVariants.{TookVote}
 use Rattle.td_replay.proofs.Histories.{entry_for, entries_for, family_for}
 use Rattle.td_replay.specs.Ended.{IsBehind, IsReplayOf, VotesWereSent, outlined}
 use Rattle.td_replay.specs.Judging.{SiteState, States}
@@ -243,7 +243,7 @@ module _ (family : Family) (c : IsConsistent family) (last : States) (reaches : 
 -- where a site is behind a front of its history, its text is that behind so many entries
 pub text_at : (family : Family) (site : ℕ) (state : SiteState) → IsBehind family site state
     → text_of state.machine.doc
-    ≡ text_after family site (length (history family site) - length state.left)
+    ≡ text_past family site (length (history family site) - length state.left)
 text_at family site state a =
     let whole : length (history family site) ≡ length a.front + length a.back =
     ap (λ (h : History). length h) a.splits ∙ length-append a.front a.back in

@@ -36,8 +36,8 @@ use Rattle.td_machine.proofs.Family.{unique}
 use Rattle.td_logs.proofs.Moments.{after_one_more}
 use Rattle.td_trace.specs.Entries.{told_of, traced, traced_history}
 use Rattle.td_trace.specs.declared.entry.TraceEntry.{TraceEntry}
-use Rattle.td_trace.specs.declared.told.Told.{Told}
-use Rattle.td_trace.specs.declared.told.Told.TheVariants.{Asked, TookOp, TookVote, Went}
+use Rattle.td_trace.specs.declared.told_input.ToldInput.{ToldInput}
+use Rattle.td_trace.specs.declared.told_input.ToldInput.TheVariants.{Asked, TookOp, TookVote, Went}
 use Rattle.td_replay.proofs.Histories.{op_for, input_for, entry_for, entries_for}
 use Rattle.td_replay.specs.Counting.{no_count, made_deps}
 use Rattle.td_replay.specs.Ended.{VotesWereSent, outlined}
@@ -179,7 +179,7 @@ found_outline (Some x) z e =
 abbrev pub Within : States → States → Type 0
 Within states last = (site : ℕ) (x : OpValue) → In x (states site).machine.log → In x (last site).machine.log
 
-judged_grows : (all : List (List TraceEntry)) (states : States) (site : ℕ) (m : Machine) (told : Told) (reply : Reply)
+judged_grows : (all : List (List TraceEntry)) (states : States) (site : ℕ) (m : Machine) (told : ToldInput) (reply : Reply)
     (to : Stepped) → judge all states site m told reply ≡ Steps to → (x : OpValue) → In x m.log → In x to.machine.log
 judged_grows all states site m (Asked request) reply to e x i =
     subst (λ (y : Stepped). In x y.machine.log) (sym (same_steps (step m (Local request)) to e))
@@ -388,7 +388,7 @@ module _ (all : List (List TraceEntry)) (t : AreInRange all) (last : States) whe
         no_split (f ∷ front) e back k = cc
 
     module _ (site : ℕ) (some : 0 < site) (within : site ≤ n) (state : SiteState) (r : Resolved site state)
-        (told : Told)
+        (told : ToldInput)
         (reply : Reply) (rest : List TraceEntry) (left : state.left ≡ record { told = told; reply = reply } ∷ rest)
         (to : Stepped) (replied : to.reply ≡ reply) where
       abbrev entry : TraceEntry
@@ -431,7 +431,7 @@ module _ (all : List (List TraceEntry)) (t : AreInRange all) (last : States) whe
             traces =
                 ap traced_history more ∙ map-append traced (entries_for last r.done) (e ∷ [])
                 ∙ ap (λ (l : List TraceEntry). l ++ traced e ∷ []) r.traces
-                ∙ ap (λ (s : Told). r.done ++ (record { told = s; reply = reply }) ∷ []) says;
+                ∙ ap (λ (s : ToldInput). r.done ++ (record { told = s; reply = reply }) ∷ []) says;
             here = ap (λ (x : Machine). x.site) now ∙ (same_site m e.input reached valid).0 ∙ r.here;
             sized = ap (λ (x : Machine). x.size) now ∙ (same_site m e.input reached valid).1 ∙ r.sized;
             facts =
@@ -535,7 +535,7 @@ module _ (all : List (List TraceEntry)) (t : AreInRange all) (last : States) whe
             this f.op (inl f.inside) f.is
 
     resolve : (old : States) → Within old last → (site : ℕ) (some : 0 < site) (within : site ≤ n)
-        (r : Resolved site (old site)) (told : Told) (reply : Reply) (rest : List TraceEntry)
+        (r : Resolved site (old site)) (told : ToldInput) (reply : Reply) (rest : List TraceEntry)
         (left : (old site).left ≡ record { told = told; reply = reply } ∷ rest) (to : Stepped)
         → judge all old site (old site).machine told reply ≡ Steps to → to.reply ≡ reply → NotUnfit reply
         → Resolved site (record { machine = to.machine; left = rest })

@@ -10,8 +10,8 @@ use Rattle.td_op.specs.declared.request.Request.TheVariants.{Propose, ProposeAt}
 use Rattle.td_op.specs.declared.reply.Reply.{Reply}
 use Rattle.td_op.specs.declared.reply.Reply.TheVariants.{Made, Cancelled, New}
 use Rattle.td_trace.specs.declared.entry.TraceEntry.{TraceEntry}
-use Rattle.td_trace.specs.declared.told.Told.{Told}
-use Rattle.td_trace.specs.declared.told.Told.TheVariants.{Asked, TookOp, TookVote, Went}
+use Rattle.td_trace.specs.declared.told_input.ToldInput.{ToldInput}
+use Rattle.td_trace.specs.declared.told_input.ToldInput.TheVariants.{Asked, TookOp, TookVote, Went}
 use Rattle.td_replay.specs.Traced.{site_entries}
 use Rattle.td_replay.specs.Replies.{is_new, taken_of}
 
@@ -29,7 +29,7 @@ no_count n = record { have = replicate n 0; yes = []; no = [] }
 -- ---- operations that are used
 
 -- the operation that the entry uses: it is taken by it
-abbrev pub used_by : Told → Reply → Option DotValue
+abbrev pub used_by : ToldInput → Reply → Option DotValue
 used_by (Asked request) reply = None
 used_by (TookOp d) reply = if is_new reply then Some d else None
 used_by (TookVote v) reply = None
@@ -50,7 +50,7 @@ is_proposal (Propose slot) = true
 is_proposal (ProposeAt index bit) = true
 is_proposal request = false
 
-abbrev pub asks_proposal : Told → Bool
+abbrev pub asks_proposal : ToldInput → Bool
 asks_proposal (Asked request) = is_proposal request
 asks_proposal told = false
 
@@ -58,14 +58,14 @@ abbrev pub how_often : DotValue → List DotValue → ℕ
 how_often p dots = length (filter (λ (d : DotValue). same_dot d p) dots)
 
 -- a vote brings the decision where it is the first No, or with the own Yes and those counted the n-th Yes
-abbrev pub is_decisive : ℕ → Count → Told → Bool
+abbrev pub is_decisive : ℕ → Count → ToldInput → Bool
 is_decisive n c (TookVote v) =
     if v.yes then how_often v.proposal c.yes + 2 == n
     else not (list_any (λ (d : DotValue). same_dot d v.proposal) c.no)
 is_decisive n c told = false
 
 -- how many operations the entry makes. A proposal is decided at once where there is one site
-abbrev pub made_by : ℕ → Count → Told → Reply → ℕ
+abbrev pub made_by : ℕ → Count → ToldInput → Reply → ℕ
 made_by n c told (Made dot) = if asks_proposal told && 1 == n then 2 else 1
 made_by n c told Cancelled = 1
 made_by n c told New = if is_decisive n c told then 1 else 0
@@ -80,11 +80,11 @@ raised site (suc k) have = raised site k (vector_bump have site)
 
 -- ---- entry by entry
 
-abbrev pub more_yes : Told → Reply → List DotValue → List DotValue
+abbrev pub more_yes : ToldInput → Reply → List DotValue → List DotValue
 more_yes (TookVote v) reply dots = if is_new reply && v.yes then v.proposal ∷ dots else dots
 more_yes told reply dots = dots
 
-abbrev pub more_no : Told → Reply → List DotValue → List DotValue
+abbrev pub more_no : ToldInput → Reply → List DotValue → List DotValue
 more_no (TookVote v) reply dots = if is_new reply && not v.yes then v.proposal ∷ dots else dots
 more_no told reply dots = dots
 

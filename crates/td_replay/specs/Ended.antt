@@ -6,7 +6,7 @@ use Rattle.td_op.specs.declared.vote.Vote.{Vote}
 use Rattle.td_machine.specs.Machine.{Machine}
 use Rattle.td_machine.specs.History.{History, Family, IsConsistent, history, machine, machine_after}
 use Rattle.td_trace.specs.declared.entry.TraceEntry.{TraceEntry}
-use Rattle.td_trace.specs.declared.told.Told.TheVariants.{TookVote}
+use Rattle.td_trace.specs.declared.told_input.ToldInput.TheVariants.{TookVote}
 use Rattle.td_trace.specs.Entries.{traced_history, traced_family}
 use Rattle.td_replay.specs.Traced.{site_entries, AreInRange}
 use Rattle.td_replay.specs.Judging.{outline_of, SiteState, States}

@@ -16,8 +16,8 @@ use Rattle.td_machine.specs.Ready.{is_dot_of, next_ready}
 use Rattle.td_machine.specs.Taking.{Stepped, stepped, misfit, forget, waited}
 use Rattle.td_machine.specs.Step.{step}
 use Rattle.td_trace.specs.declared.entry.TraceEntry.{TraceEntry}
-use Rattle.td_trace.specs.declared.told.Told.{Told}
-use Rattle.td_trace.specs.declared.told.Told.TheVariants.{Asked, TookOp, TookVote, Went}
+use Rattle.td_trace.specs.declared.told_input.ToldInput.{ToldInput}
+use Rattle.td_trace.specs.declared.told_input.ToldInput.TheVariants.{Asked, TookOp, TookVote, Went}
 use Rattle.td_replay.specs.Traced.{site_entries}
 use Rattle.td_replay.specs.Replies.{is_new, taken_of}
 use Rattle.td_replay.specs.Counting.{made_deps}
@@ -88,7 +88,7 @@ judge_next (Some d) all states site m =
 
 -- the entry of a site with this machine, where the sites are in these states. Whoever voted is not asked here: a vote
 -- stands whole in its entry, and whether it was sent is looked up at the end
-abbrev pub judge : List (List TraceEntry) → States → ℕ → Machine → Told → Reply → Judgement
+abbrev pub judge : List (List TraceEntry) → States → ℕ → Machine → ToldInput → Reply → Judgement
 judge all states site m (Asked request) reply = Steps (step m (Local request))
 judge all states site m (TookOp d) reply =
     if d.site == site then Lost else judge_offer (made_deps all d) (made_op states d) (is_new reply) d m

@@ -12,7 +12,7 @@ use Rattle.td_machine.specs.Machine.{Machine}
 use Rattle.td_trace.specs.declared.entry.TraceEntry.{TraceEntry}
 use Rattle.td_trace.specs.declared.log.Did.{Did}
 use Rattle.td_trace.specs.declared.log.EditorLog.{EditorLog}
-use Rattle.td_trace.specs.declared.told.Told.TheVariants.{Asked, TookOp, TookVote, Went}
+use Rattle.td_trace.specs.declared.told_input.ToldInput.TheVariants.{Asked, TookOp, TookVote, Went}
 use Rattle.td_replay.specs.Judging.{SiteState, States, begin, Judgement, Lost, Waits, Steps, judge}
 use Rattle.td_replay.specs.Replay.{put}
 

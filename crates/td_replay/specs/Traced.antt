@@ -6,14 +6,14 @@ use Rattle.td_base.specs.declared.site.TheConstants.{MAX_SITE}
 use Rattle.td_op.specs.Input.{IsRequest}
 use Rattle.td_op.specs.Message.{IsVote}
 use Rattle.td_trace.specs.declared.entry.TraceEntry.{TraceEntry}
-use Rattle.td_trace.specs.declared.told.Told.{Told}
-use Rattle.td_trace.specs.declared.told.Told.TheVariants.{Asked, TookOp, TookVote, Went}
+use Rattle.td_trace.specs.declared.told_input.ToldInput.{ToldInput}
+use Rattle.td_trace.specs.declared.told_input.ToldInput.TheVariants.{Asked, TookOp, TookVote, Went}
 
 -- the entries of a site, which stand at place site - 1
 abbrev pub site_entries : List (List TraceEntry) → ℕ → List TraceEntry
 site_entries all site = get_or all (site - 1) []
 
-abbrev pub IsTold : Told → Type 0
+abbrev pub IsTold : ToldInput → Type 0
 IsTold (Asked request) = IsRequest request
 IsTold (TookOp d) = IsDot d
 IsTold (TookVote v) = IsVote v

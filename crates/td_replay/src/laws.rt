@@ -8,7 +8,7 @@ ghost use Rattle.td_machine.specs.Machine.{Machine};
 ghost use Rattle.td_machine.specs.History.{Family, IsReached, IsConsistent, IsOpOf, history};
 ghost use Rattle.td_trace.specs.declared.entry.TraceEntry.{TraceEntry};
 ghost use Rattle.td_trace.specs.Entries.{traced_family};
-ghost use Rattle.td_trace.specs.Family.{text_after};
+ghost use Rattle.td_trace.specs.Family.{text_past};
 ghost use Rattle.td_replay.specs.Traced.{AreInRange};
 ghost use Rattle.td_replay.specs.Counting.{made_deps};
 ghost use Rattle.td_replay.specs.Judging.{SiteState, States};
@@ -86,7 +86,7 @@ pub fn its_replay_ends_with_its_machines()
 pub fn texts_on_the_way()
     ensures { (family : Family) (site : ℕ) (state : SiteState) → IsBehind family site state
         → text_of state.machine.doc
-        ≡ text_after family site (length (history family site) - length state.left) }
+        ≡ text_past family site (length (history family site) - length state.left) }
 {}
 
 /// Whether the replay reaches the end does not depend on the order in which the sites are taken.

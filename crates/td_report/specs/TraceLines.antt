@@ -17,8 +17,8 @@ use Rattle.td_op.specs.declared.request.Request.TheVariants.{Propose, ProposeAt,
 use Rattle.td_script.specs.Characters.{line_feed, space}
 use Rattle.td_script.specs.Spelling.{spaced, spaced_bit, spaced_dot}
 use Rattle.td_trace.specs.declared.entry.TraceEntry.{TraceEntry}
-use Rattle.td_trace.specs.declared.told.Told.{Told}
-use Rattle.td_trace.specs.declared.told.Told.TheVariants.{Asked, TookOp, TookVote, Went}
+use Rattle.td_trace.specs.declared.told_input.ToldInput.{ToldInput}
+use Rattle.td_trace.specs.declared.told_input.ToldInput.TheVariants.{Asked, TookOp, TookVote, Went}
 use Rattle.td_report.specs.Parts.{identity, line, refusal, spaced_quoted, spaced_slot}
 use Rattle.td_report.specs.Replies.{yes_or_no}
 
@@ -46,7 +46,7 @@ request_part (ProposeAt index bit) = codes " proposeat" ++ (spaced index ++ spac
 request_part (Cancel proposal) = codes " cancel" ++ spaced_dot proposal
 
 -- an input, behind a space
-abbrev pub told_part : Told → List ℕ
+abbrev pub told_part : ToldInput → List ℕ
 told_part (Asked request) = request_part request
 told_part (TookOp dot) = codes " take op" ++ spaced_dot dot
 told_part (TookVote vote) =

@@ -15,7 +15,7 @@ use crate::show::push_quoted;
 use std::alloc::Global;
 use td_base::{AtomId, Bytes, Dot, Memory, Run};
 use td_op::{Entry, Reply, Request, Vote, Why};
-use td_trace::{Told, TraceEntry};
+use td_trace::{ToldInput, TraceEntry};
 
 /// `K INPUT -> REPLY`: the entry with this number of a history.
 pub fn entry_line(alloc: Global, number: u64, entry: Entry) -> Result<Bytes, Memory>
@@ -39,19 +39,19 @@ pub(crate) fn push_entry(line: &mut Bytes, number: u64, entry: &Entry) -> Result
 }
 
 // An input, behind a space.
-fn push_told(line: &mut Bytes, told: &Told) -> Result<(), Memory>
+fn push_told(line: &mut Bytes, told: &ToldInput) -> Result<(), Memory>
     ensures { OnOk result (line.new ≡ line.old ++ told_part told.now) }
 {
     match told {
-        Told::Asked(request) => push_request(line, request),
-        Told::TookOp { dot } => push_dotted(line, b" take op", *dot),
-        Told::TookVote(vote) => push_vote(line, vote),
-        Told::Went => line.push(b" next"),
+        ToldInput::Asked(request) => push_request(line, request),
+        ToldInput::TookOp { dot } => push_dotted(line, b" take op", *dot),
+        ToldInput::TookVote(vote) => push_vote(line, vote),
+        ToldInput::Went => line.push(b" next"),
     }
 }
 
 fn push_vote(line: &mut Bytes, vote: &Vote) -> Result<(), Memory>
-    ensures { OnOk result (line.new ≡ line.old ++ told_part (Told.TookVote vote.now)) }
+    ensures { OnOk result (line.new ≡ line.old ++ told_part (ToldInput.TookVote vote.now)) }
 {
     push_indexed(line, b" take vote", u32::from(vote.voter.number()))?;
     push_ballot(line, vote)

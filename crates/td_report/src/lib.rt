@@ -30,6 +30,3 @@ pub use show::show_line;
 pub use summary::summary_lines;
 pub use trace::{trace_editor, trace_end, trace_head, trace_site, trace_text};
 pub use tree::tree_lines;
-
-#[cfg(test)]
-mod tests;

@@ -6,11 +6,11 @@ use Rattle.td_op.specs.declared.input.Input.TheVariants.{Local, Take, Next}
 use Rattle.td_op.specs.declared.message.Message.TheVariants.{Op, Vote}
 use Rattle.td_machine.specs.History.{History, Family}
 use Rattle.td_trace.specs.declared.entry.TraceEntry.{TraceEntry}
-use Rattle.td_trace.specs.declared.told.Told.{Told}
-use Rattle.td_trace.specs.declared.told.Told.TheVariants.{Asked, TookOp, TookVote, Went}
+use Rattle.td_trace.specs.declared.told_input.ToldInput.{ToldInput}
+use Rattle.td_trace.specs.declared.told_input.ToldInput.TheVariants.{Asked, TookOp, TookVote, Went}
 
 -- of an operation that was taken, its dot alone: its content stands where its own site made it
-abbrev pub told_of : Input → Told
+abbrev pub told_of : Input → ToldInput
 told_of (Local request) = Asked request
 told_of (Take (Op op)) = TookOp op.dot
 told_of (Take (Vote vote)) = TookVote vote
@@ -27,7 +27,7 @@ traced_history entries = map traced entries
 abbrev pub traced_family : Family → List (List TraceEntry)
 traced_family family = map traced_history family
 
-abbrev pub is_request : Told → Bool
+abbrev pub is_request : ToldInput → Bool
 is_request (Asked request) = true
 is_request (TookOp dot) = false
 is_request (TookVote vote) = false

@@ -9,8 +9,8 @@ use Rattle.td_trace.specs.Entries.{traced_history, is_request_at}
 use Rattle.td_trace.specs.Editors.{nothing_yet, AreDid, site_calls_at}
 
 -- the text of a site behind the first so many of its entries
-abbrev pub text_after : Family → ℕ → ℕ → List ℕ
-text_after family site k = text_of (machine_after family site (take k (history family site))).doc
+abbrev pub text_past : Family → ℕ → ℕ → List ℕ
+text_past family site k = text_of (machine_after family site (take k (history family site))).doc
 
 -- the family is consistent, all sites have the same operations at its end, and no proposal is undecided
 pub record IsSettledFamily (family : Family) : Type 0 where
@@ -23,7 +23,7 @@ pub record IsSettledFamily (family : Family) : Type 0 where
 pub record IsLogOf (family : Family) (log : EditorLog) : Type 0 where
   pub some : 0 < log.home
   pub within : log.home ≤ length family
-  pub did : AreDid (traced_history (history family log.home)) (text_after family log.home) nothing_yet log.did
+  pub did : AreDid (traced_history (history family log.home)) (text_past family log.home) nothing_yet log.did
 
 -- no other edits: each request of a history is the entry of exactly one call
 abbrev pub AreAllCalls : Family → List EditorLog → Type 0

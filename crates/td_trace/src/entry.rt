@@ -1,13 +1,13 @@
 ghost use Rattle.std.specs.Prelude.{◌≡◌};
 ghost use Rattle.td_trace.specs.Entries.{traced};
 
-use crate::told::Told;
+use crate::told_input::ToldInput;
 use td_op::{Entry, Reply};
 
 /// What a trace tells of an entry.
 #[derive(Clone, Copy, Debug, PartialEq, Eq)]
 pub struct TraceEntry {
-    pub told: Told,
+    pub told: ToldInput,
     pub reply: Reply,
 }
 
@@ -17,7 +17,7 @@ impl TraceEntry {
         ensures { result ≡ traced entry.now }
     {
         TraceEntry {
-            told: Told::of(&entry.input),
+            told: ToldInput::of(&entry.input),
             reply: entry.reply,
         }
     }

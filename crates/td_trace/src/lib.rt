@@ -7,8 +7,8 @@
 
 mod entry;
 mod log;
-mod told;
+mod told_input;
 
 pub use entry::TraceEntry;
 pub use log::{Did, DidList, EditorLog};
-pub use told::Told;
+pub use told_input::ToldInput;

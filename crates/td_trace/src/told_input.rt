@@ -6,7 +6,7 @@ use td_op::{Input, Message, Request, Vote};
 
 /// What a trace tells of an input. The content of an operation that was taken stands in the trace of its own site.
 #[derive(Clone, Copy, Debug, PartialEq, Eq)]
-pub enum Told {
+pub enum ToldInput {
     /// A request of an editor.
     Asked(Request),
     /// An operation of another site was taken.
@@ -17,16 +17,16 @@ pub enum Told {
     Went,
 }
 
-impl Told {
+impl ToldInput {
     /// What is told of the input. Takes no memory.
-    pub fn of(input: &Input) -> Told
+    pub fn of(input: &Input) -> ToldInput
         ensures { result ≡ told_of input.now }
     {
         match input {
-            Input::Local(request) => Told::Asked(*request),
-            Input::Take(Message::Op(op)) => Told::TookOp { dot: op.dot() },
-            Input::Take(Message::Vote(vote)) => Told::TookVote(*vote),
-            Input::Next => Told::Went,
+            Input::Local(request) => ToldInput::Asked(*request),
+            Input::Take(Message::Op(op)) => ToldInput::TookOp { dot: op.dot() },
+            Input::Take(Message::Vote(vote)) => ToldInput::TookVote(*vote),
+            Input::Next => ToldInput::Went,
         }
     }
 }
