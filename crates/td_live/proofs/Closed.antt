@@ -34,14 +34,14 @@ use Rattle.td_trace.specs.declared.log.Did.TheVariants.{Call, Look}
 use Rattle.td_trace.specs.declared.log.EditorLog.{EditorLog}
 use Rattle.td_trace.specs.Entries.{traced, traced_history, told_of, is_request, is_request_at, tells_request}
 use Rattle.td_trace.specs.Editors.{Sofar, further, nothing_yet, AreDid, calls_at, site_calls_at}
-use Rattle.td_trace.specs.Family.{text_after}
+use Rattle.td_trace.specs.Family.{text_past}
 use Rattle.td_live.specs.declared.ask.Ask.{Ask}
 use Rattle.td_live.specs.Asking.{request_of}
 use Rattle.td_live.specs.Following.{Rest, Act, Called, Looked, Leads, AreActs, all_of, replied}
 use Rattle.td_live.specs.Desks.{DeskValue, IsDesk, HasDone, AwaitsNext, AreAnswered, AreSeen, acts_by, acts_of, sofar_of}
 use Rattle.td_live.specs.Books.{BookValue, IsBook, AreBooks, AreCounted, log_of, calls_done, with_call, with_answer, brought_up}
 use Rattle.td_live.specs.Live.{IsLiveFamilyOf}
-use Rattle.td_live.specs.Ending.{GoesOnTo, IsEnded}
+use Rattle.td_live.specs.Ending.{GoesOnTo, IsLiveEnd}
 use Rattle.td_live.specs.Drafts.{CanBringUp, book_of, all_brought_up}
 use Rattle.td_live.proofs.Leading.{leads_call}
 use Rattle.td_live.proofs.Logging.{acts_more, acts_call, answered_call, seen_call}
@@ -269,7 +269,7 @@ module _ (rs : List ReplicaValue) (sites : AreSites rs) where
 
   true_there : (home : ℕ) → 0 < home → home ≤ length rs → (seen : List Publish)
       → AllByRecursion (IsTrueOf (replica_from rs (home - 1))) seen
-      → AreTrue (history (family_of (world_of rs)) home) (text_after (family_of (world_of rs)) home) seen
+      → AreTrue (history (family_of (world_of rs)) home) (text_past (family_of (world_of rs)) home) seen
   true_there home some within seen all p inside =
       let r : ReplicaValue = replica_from rs (home - 1) in
       let t : IsTrueOf r p = all_in (IsTrueOf r) seen all p inside in
@@ -292,15 +292,15 @@ module _ (rs : List ReplicaValue) (sites : AreSites rs) where
       sym (ap (history (family_of (world_of rs))) u.home ∙ history_from rs (d.editor.home - 1)) in
       let r : AreRecorded (history (family_of (world_of rs)) b.home) 0 d.editor.asks.sent answers =
       subst (λ (es : History). AreRecorded es 0 d.editor.asks.sent answers) h recorded in
-      let t : AreTrue (history (family_of (world_of rs)) b.home) (text_after (family_of (world_of rs)) b.home)
+      let t : AreTrue (history (family_of (world_of rs)) b.home) (text_past (family_of (world_of rs)) b.home)
       d.editor.reader.seen =
-      subst (λ (n : ℕ). AreTrue (history (family_of (world_of rs)) n) (text_after (family_of (world_of rs)) n) d.editor.reader.seen)
+      subst (λ (n : ℕ). AreTrue (history (family_of (world_of rs)) n) (text_past (family_of (world_of rs)) n) d.editor.reader.seen)
       (sym u.home) (true_there d.editor.home ready.some ready.within d.editor.reader.seen ready.seen) in
       record {
         logged = record {
           some = subst (λ (n : ℕ). 0 < n) (sym u.home) ready.some;
           within = subst (λ (x : ℕ × ℕ). x.0 ≤ x.1) (λ i. (sym u.home i, sym size_is i)) ready.within;
-          did = did_of_answers (history (family_of (world_of rs)) b.home) (text_after (family_of (world_of rs)) b.home)
+          did = did_of_answers (history (family_of (world_of rs)) b.home) (text_past (family_of (world_of rs)) b.home)
               d.editor.reader.seen t nothing_yet d.editor.asks.sent answers b.did r u.entries u.seen;
         };
         acts = acts_by d.editor.asks.sent answers b.did;
@@ -495,7 +495,7 @@ pub ended : (ws : List WorkerValue) (lines : List (List EditorLine)) (ds : List 
     (bytes : List ℕ) → AreSites rs → length rs ≡ length ws → AllZip GoesOn ws rs → AllByRecursion IsDesk ds
     → AllZip (IsAnsweredAtHome rs) (map (λ (d : DeskValue). d.editor) ds) all
     → GoesOnTo lines (family_of (world_of rs)) (all_brought_up all (map book_of ds)) bytes
-    → IsEnded ws lines ds bytes
+    → IsLiveEnd ws lines ds bytes
 ended ws lines ds rs all bytes sites same on desks answered g =
     let size : length g.family ≡ length rs = g.grown.size ∙ size_is rs sites in
     record {
@@ -560,7 +560,7 @@ module _ (ws : List WorkerValue) (ds : List DeskValue) (rs : List ReplicaValue) 
 
     pub concluded : (bytes : List ℕ) → AllZip GoesOn ws rs
         → ((lines : List (List EditorLine)) → AreBooks (family_of w) lines ups → GoesOnTo lines (family_of w) ups bytes)
-        → (lines : List (List EditorLine)) → AllZip HasDone lines ds → IsEnded ws lines ds bytes
+        → (lines : List (List EditorLine)) → AllZip HasDone lines ds → IsLiveEnd ws lines ds bytes
     concluded bytes on g lines done =
         ended ws lines ds rs all bytes sites same on desks theirs
         (subst (λ (x : WorldValue × List BookValue). GoesOnTo lines (family_of x.0) x.1 bytes)

@@ -15,7 +15,7 @@ use Rattle.td_trace.specs.declared.log.Did.{Did}
 use Rattle.td_trace.specs.declared.log.Did.TheVariants.{Call, Look}
 use Rattle.td_trace.specs.Entries.{traced, traced_history, is_request_at}
 use Rattle.td_trace.specs.Editors.{nothing_yet, calls_at, site_calls_at}
-use Rattle.td_trace.specs.Family.{text_after}
+use Rattle.td_trace.specs.Family.{text_past}
 use Rattle.td_live.specs.declared.ask.Ask.{Ask}
 use Rattle.td_live.specs.declared.next.Next.TheVariants.{Ask as AskNext, Look as LookNext}
 use Rattle.td_live.specs.Agenda.{IsNext}
@@ -94,14 +94,14 @@ module _ (old new : Family) (b : BookValue) (request : Request) (reply : Reply) 
       let long : length (traced_history (history old b.home)) ≡ length (history old b.home) =
       length-map (history old b.home) traced in
       let before : (sofar_of nothing_yet b.did).entry ≤ length (traced_history (history old b.home)) =
-      (sofar_within (traced_history (history old b.home)) (text_after old b.home) nothing_yet b.did i.logged.did
+      (sofar_within (traced_history (history old b.home)) (text_past old b.home) nothing_yet b.did i.logged.did
       (omega arith) (omega arith)).0 in
       let after : (sofar_of nothing_yet b.did).entry < entry = omega (arith, last, long, before) in
       record {
         logged = record {
           some = some;
           within = j.logged.within;
-          did = did_push (traced_history (history new b.home)) (text_after new b.home) nothing_yet b.did
+          did = did_push (traced_history (history new b.home)) (text_past new b.home) nothing_yet b.did
               (Call (calls_done b.did + 1) entry) j.logged.did (refl, after, is_request);
         };
         acts = j.acts ++ Called request reply ∷ [];
@@ -175,13 +175,13 @@ module _ (old new : Family) (b : BookValue) (request : Request) (reply : Reply) 
 -- ---- a look
 
 module _ (family : Family) (b : BookValue) (upto : ℕ) (text : List ℕ) (some : 0 < b.home)
-    (at : upto ≡ length (history family b.home)) (shows : text ≡ text_after family b.home upto)
+    (at : upto ≡ length (history family b.home)) (shows : text ≡ text_past family b.home upto)
     (next : IsNext LookNext b.rest) where
   follows_look : (lines : List EditorLine) → IsBook family lines b → IsBook family lines (with_look upto text b)
   follows_look lines i =
       let long : length (traced_history (history family b.home)) ≡ length (history family b.home) =
       length-map (history family b.home) traced in
-      let w = sofar_within (traced_history (history family b.home)) (text_after family b.home) nothing_yet b.did i.logged.did
+      let w = sofar_within (traced_history (history family b.home)) (text_past family b.home) nothing_yet b.did i.logged.did
       (omega arith) (omega arith) in
       let entry : (sofar_of nothing_yet b.did).entry ≤ length (traced_history (history family b.home)) = w.0 in
       let look : (sofar_of nothing_yet b.did).upto ≤ length (traced_history (history family b.home)) = w.1 in
@@ -189,7 +189,7 @@ module _ (family : Family) (b : BookValue) (upto : ℕ) (text : List ℕ) (some 
         logged = record {
           some = some;
           within = i.logged.within;
-          did = did_push (traced_history (history family b.home)) (text_after family b.home) nothing_yet b.did
+          did = did_push (traced_history (history family b.home)) (text_past family b.home) nothing_yet b.did
               (Look (calls_done b.did) upto text) i.logged.did
               (refl, omega (arith, at, long), omega (arith, at, long, entry), omega (arith, at, long, look), shows);
         };

@@ -11,7 +11,7 @@ use Rattle.td_room.specs.Workers.{WorkerValue}
 use Rattle.td_script.specs.Script.{IsSiteOf}
 use Rattle.td_script.specs.declared.live.editor_line.EditorLine.{EditorLine}
 use Rattle.td_script.specs.declared.live.script.Live.{Live}
-use Rattle.td_live.specs.Live.{IsTraceAmong, IsTraceOf}
+use Rattle.td_live.specs.Live.{IsTraceAmong, IsLiveTraceOf}
 use Rattle.td_live.specs.Seating.{CanSit, homes_of}
 use Rattle.td_live.proofs.Seats.{all_can_sit, count_of, opened_homes}
 

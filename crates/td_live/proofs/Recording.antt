@@ -19,7 +19,7 @@ use Rattle.td_trace.specs.declared.log.Did.TheVariants.{Call, Look}
 use Rattle.td_trace.specs.declared.log.EditorLog.{EditorLog}
 use Rattle.td_trace.specs.Entries.{traced, traced_history, tells_request, is_request_at}
 use Rattle.td_trace.specs.Editors.{Sofar, further, nothing_yet, IsDid, AreDid, calls_at, site_calls_at}
-use Rattle.td_trace.specs.Family.{IsLogOf, text_after}
+use Rattle.td_trace.specs.Family.{IsLogOf, text_past}
 use Rattle.td_live.specs.Following.{Act, Called, Looked, AreActs}
 use Rattle.td_live.specs.Desks.{sofar_of}
 use Rattle.td_live.specs.Books.{BookValue, IsBook, IsGrown, log_of}
@@ -98,21 +98,21 @@ module _ (old new : Family) (g : IsGrown old new) (site : ℕ) (some : 0 < site)
   goes_on = g.histories site some within
 
   -- the text behind so many of the entries that there were
-  pub text_same : (k : ℕ) → k ≤ length before → text_after old site k ≡ text_after new site k
+  pub text_same : (k : ℕ) → k ≤ length before → text_past old site k ≡ text_past new site k
   text_same k few =
       let same : take k (history old site) ≡ take k (history new site) =
       sym (take_more k (history old site) goes_on.0 few) ∙ ap (take k) goes_on.1 in
       ap (λ (x : ℕ × History). text_of (after (start site x.0) x.1).doc) (λ i. (sym g.size i, same i))
 
-  pub did_grown : (s : Sofar) (did : List Did) → AreDid (traced_history (history old site)) (text_after old site) s did
-      → AreDid (traced_history (history new site)) (text_after new site) s did
+  pub did_grown : (s : Sofar) (did : List Did) → AreDid (traced_history (history old site)) (text_past old site) s did
+      → AreDid (traced_history (history new site)) (text_past new site) s did
   did_grown s did h =
       let is : traced_history (history old site) ++ traced_history goes_on.0 ≡ traced_history (history new site) =
       sym (map-append traced (history old site) goes_on.0) ∙ ap traced_history goes_on.1 in
       let long : length (traced_history (history old site)) ≡ length (history old site) =
       length-map (history old site) traced in
-      subst (λ (es : List TraceEntry). AreDid es (text_after new site) s did) is
-      (did_stays (traced_history (history old site)) (traced_history goes_on.0) (text_after old site) (text_after new site)
+      subst (λ (es : List TraceEntry). AreDid es (text_past new site) s did) is
+      (did_stays (traced_history (history old site)) (traced_history goes_on.0) (text_past old site) (text_past new site)
       (λ k few. text_same k (subst (λ (n : ℕ). k ≤ n) long few)) s did h)
 
   pub acts_grown : (did : List Did) (acts : List Act) → AreActs (history old site) did acts

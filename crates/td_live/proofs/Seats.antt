@@ -12,7 +12,7 @@ use Rattle.td_script.specs.LiveScript.{calls}
 use Rattle.td_live.specs.Desks.{DeskValue, HasDone, LaterDesk}
 use Rattle.td_live.specs.Following.{Stays}
 use Rattle.td_live.specs.Live.{IsLiveFamilyOf, IsTraceAmong}
-use Rattle.td_live.specs.Ending.{IsEnded}
+use Rattle.td_live.specs.Ending.{IsLiveEnd}
 use Rattle.td_live.specs.Working.{editors_at}
 use Rattle.td_live.proofs.Each.{stays_in_room}
 use Rattle.td_live.specs.Seating.{CanSit, SatDown, homes_of, seated}
@@ -164,12 +164,12 @@ room_after workers after editors lines desks later room can desks_are worked tur
 pub traced_after : (workers after : List WorkerValue) (editors : List EditorValue) (lines : List (List EditorLine))
     (desks later : List DeskValue) (bytes : List ℕ) → AllZip CanSit editors lines → desks ≡ seated editors lines
     → AllZip LaterWorker workers after → AllZip LaterDesk desks later
-    → ((ls : List (List EditorLine)) → AllZip HasDone ls later → IsEnded after ls later bytes)
+    → ((ls : List (List EditorLine)) → AllZip HasDone ls later → IsLiveEnd after ls later bytes)
     → IsTraceAmong (length workers) (homes_of editors) lines bytes
 traced_after workers after editors lines desks later bytes can desks_are worked turned ended =
     let all : AllZip LaterDesk (seated editors lines) later =
     subst (λ (ds : List DeskValue). AllZip LaterDesk ds later) desks_are turned in
-    let e : IsEnded after lines later bytes = ended lines (done_kept editors lines later can all) in
+    let e : IsLiveEnd after lines later bytes = ended lines (done_kept editors lines later can all) in
     record {
       family = e.family;
       logs = e.logs;

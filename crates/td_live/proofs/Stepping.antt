@@ -12,7 +12,7 @@ use Rattle.td_site.proofs.Lists.{take_all}
 use Rattle.td_script.specs.declared.live.editor_line.EditorLine.{EditorLine}
 use Rattle.td_script.specs.declared.live.editor_line.EditorLine.TheVariants.{Look as LookLine}
 use Rattle.td_script.specs.LiveScript.{calls}
-use Rattle.td_trace.specs.Family.{text_after}
+use Rattle.td_trace.specs.Family.{text_past}
 use Rattle.td_world.specs.World.{WorldValue, IsWorld, size, replica, machine_of, family_of, moved, reply_to}
 use Rattle.td_world.specs.Calls.{ask}
 use Rattle.td_world.proofs.Moves.{size_family}

@@ -23,7 +23,7 @@ pub record GoesOnTo (lines : List (List EditorLine)) (old : Family) (books : Lis
 
 -- the bytes are the trace of a live family of the desks' editors, each at its home with these lines: what the workers and
 -- the desks had done is the beginning of it
-pub record IsEnded (workers : List WorkerValue) (lines : List (List EditorLine)) (desks : List DeskValue)
+pub record IsLiveEnd (workers : List WorkerValue) (lines : List (List EditorLine)) (desks : List DeskValue)
     (bytes : List ℕ) : Type 0 where
   pub family : Family
   pub logs : List EditorLog

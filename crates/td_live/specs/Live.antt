@@ -44,6 +44,6 @@ pub record IsTraceAmong (sites : ℕ) (homes : List ℕ) (lines : List (List Edi
   pub traced : IsTraced family logs bytes
 
 -- the trace of a live family of the script, or of no site where the script has no command
-abbrev pub IsTraceOf : Live → List ℕ → Type 0
-IsTraceOf live bytes =
+abbrev pub IsLiveTraceOf : Live → List ℕ → Type 0
+IsLiveTraceOf live bytes =
     ((live.sites ≡ 0) × (bytes ≡ trace 0 [] [] [])) ⊎ IsTraceAmong live.sites live.homes live.lines bytes

@@ -16,7 +16,7 @@ use td_script::{EditorLine, EditorLines};
 
 /// What an editor has still to do of its lines. Contracts see a `Rest`.
 #[derive(Debug, Drop)]
-pub(crate) struct Agenda {
+pub struct Agenda {
     // the calls that are left of the line at which the editor is
     calls: LineCalls,
     // the operation made last
@@ -36,7 +36,7 @@ impl Model for Agenda {
 
 impl Agenda {
     /// All these lines. Takes no memory.
-    pub(crate) fn new(lines: EditorLines) -> Agenda
+    pub fn new(lines: EditorLines) -> Agenda
         ensures { result ≡ all_of lines }
     {
         let mut lines = lines.into_vec();
@@ -49,7 +49,7 @@ impl Agenda {
     }
 
     /// What is to do next: where no call is left of a line, the next line is begun. Takes no memory.
-    pub(crate) fn next(&mut self) -> Next
+    pub fn next(&mut self) -> Next
         ensures next { IsNext result self.new }
         ensures leads { (first : Rest) (acts : List Act) → Leads first acts self.old → Leads first acts self.new }
         ensures calls { calls_left self.new ≤ calls_left self.old }
@@ -92,7 +92,7 @@ impl Agenda {
     }
 
     /// The call that was next got this reply. Takes no memory.
-    pub(crate) fn replied(&mut self, reply: &Reply)
+    pub fn replied(&mut self, reply: &Reply)
         requires { 0 < length self.old.asks }
         ensures { (ask : Ask) (asks : List Ask) → self.old.asks ≡ ask ∷ asks
             → self.new ≡ replied reply.now self.old asks }
@@ -107,7 +107,7 @@ impl Agenda {
     }
 
     /// The look that was next was done. Takes no memory.
-    pub(crate) fn looked(&mut self)
+    pub fn looked(&mut self)
         requires { IsNext What.Look self.old }
         ensures { (lines : List EditorLine) → self.old.lines ≡ Line.Look ∷ lines
             → self.new ≡ record self.old { lines = lines } }

@@ -9,7 +9,7 @@ ghost use Rattle.td_world.specs.Promises.{NobodyReady};
 ghost use Rattle.td_live.specs.Desks.{DeskValue, HasDone, IsDesk};
 ghost use Rattle.td_live.specs.Books.{BookValue, AreBooks};
 ghost use Rattle.td_live.specs.Drafts.{CanBringUp, TakenApart, all_brought_up, book_of};
-ghost use Rattle.td_live.specs.Ending.{GoesOnTo, IsEnded};
+ghost use Rattle.td_live.specs.Ending.{GoesOnTo, IsLiveEnd};
 
 use crate::book::Book;
 use crate::desk::Desk;
@@ -24,8 +24,8 @@ use td_room::{Answers, Closed, Worker, close};
 use td_world::World;
 
 /// Ends the workers and the desks of a room: what the editors have not done yet of their lines is done, one editor after
-/// the other, and all sites get all that was sent. The trace of what all that comes to, by whatever lines the desks follow. After `Memory` all is gone. It
-/// may wait for readers.
+/// the other, and all sites get all that was sent. The trace of what all that comes to, by whatever lines the desks
+/// follow. After `Memory` all is gone. It may wait for readers.
 pub fn conclude<D: Doc, R: Wait>(
     rt: &R,
     alloc: Global,
@@ -34,7 +34,7 @@ pub fn conclude<D: Doc, R: Wait>(
 ) -> Result<Bytes, Memory>
     requires { AreOfOneRoom workers.items (map (λ (d : DeskValue). d.editor) desks.items) }
     ensures { IfOk result (λ bytes. (lines : List (List EditorLine)) → AllZip HasDone lines desks.items
-        → IsEnded workers.items lines desks.items bytes) }
+        → IsLiveEnd workers.items lines desks.items bytes) }
 {
     let Ok((editors, books)) = take_apart(alloc, desks) else {
         quit_all(rt, workers);

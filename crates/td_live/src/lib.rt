@@ -27,12 +27,11 @@ mod turning;
 mod went;
 mod working;
 
+pub use agenda::Agenda;
 pub use desk::Desk;
 pub use ending::conclude;
 pub use live::live_trace;
+pub use next::Next;
 pub use proposing::proposal;
 pub use went::Went;
 pub use working::{work, work_stays_in_its_room};
-
-#[cfg(test)]
-mod tests;

@@ -5,7 +5,7 @@ ghost use Rattle.td_report.specs.Trace.{trace};
 ghost use Rattle.td_room.specs.Rooms.{AreOfOneRoom};
 ghost use Rattle.td_script.specs.declared.live.editor_line.EditorLine.{EditorLine};
 ghost use Rattle.td_script.specs.LiveScript.{SpellsLive, calls};
-ghost use Rattle.td_live.specs.Live.{IsTraceAmong, IsTraceOf};
+ghost use Rattle.td_live.specs.Live.{IsTraceAmong, IsLiveTraceOf};
 ghost use Rattle.td_live.specs.Seating.{CanSit, SatDown, homes_of, seated};
 
 use crate::alone::conclude_alone;
@@ -33,7 +33,7 @@ pub fn live_trace<R: Threads + Wait + Copy + Send + Sync, G: Gate + Sync>(
     gate: &G,
 ) -> Result<Bytes, Memory>
     requires { (bytes : List ℕ) × SpellsLive bytes script }
-    ensures { IfOk result (IsTraceOf script) }
+    ensures { IfOk result (IsLiveTraceOf script) }
 {
     let Live {
         sites,

@@ -2,7 +2,7 @@ use td_op::Request;
 
 /// What an editor does next.
 #[derive(Clone, Copy, Debug, PartialEq, Eq)]
-pub(crate) enum Next {
+pub enum Next {
     /// The call with this request.
     Ask(Request),
     /// A look.

@@ -12,6 +12,7 @@ use crate::went::Went;
 use std::sync::Wait;
 use std::thread;
 use std::thread::{Threads, join_mut};
+use td_base::Memory;
 use td_line::Gate;
 use td_room::Worker;
 use td_tree::Tree;
@@ -71,22 +72,26 @@ fn run_desks<R: Threads + Wait + Sync>(rt: &R, turns: u32, desks: &mut [Desk])
     );
 }
 
-// The worker makes so many turns. What want of memory stops in one of them is done first in the next.
+// The worker makes so many turns, and lets others go on between them. What want of memory stops in one of them is done
+// first in the next.
 fn run_worker<R: Wait, G: Gate>(rt: &R, gate: &G, turns: u32, worker: &mut Worker<Tree>)
     ensures { LaterWorker worker.old worker.new }
 {
     for _ in 0..turns {
         let _went = worker.turn(rt, gate);
+        thread::yield_now();
     }
 }
 
-// The desk makes at most so many turns, up to `Over`.
+// The desk makes at most so many turns, up to `Over`. Where one found nothing to do yet, it lets others go on.
 fn run_desk<R: Wait>(rt: &R, turns: u32, desk: &mut Desk)
     ensures { LaterDesk desk.old desk.new }
 {
     for _ in 0..turns {
-        if let Ok(Went::Over) = desk.turn(rt) {
-            break;
+        match desk.turn(rt) {
+            Ok(Went::Over) => break,
+            Ok(Went::Again) | Err(Memory) => thread::yield_now(),
+            Ok(_) => {}
         }
     }
 }

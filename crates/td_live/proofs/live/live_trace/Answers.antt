@@ -4,7 +4,7 @@ use Rattle.std.specs.List.{AllByRecursion, AllZip}
 use Rattle.td_script.specs.Script.{IsSiteOf}
 use Rattle.td_script.specs.declared.live.editor_line.EditorLine.{EditorLine}
 use Rattle.td_script.proofs.LiveFits.{editors_fit, lines_fit}
-use Rattle.td_live.specs.Live.{IsTraceAmong, IsTraceOf}
+use Rattle.td_live.specs.Live.{IsTraceAmong, IsLiveTraceOf}
 use Rattle.td_live.specs.Seating.{CanSit, homes_of}
 use Rattle.td_live.proofs.Openings.{all_can, as_many_counts, homes_within, traced_room}
 use Rattle.td_live.proofs.Seats.{count_of}
@@ -41,7 +41,7 @@ returns-in-Ok g c =
     c.deref.ensures.value ∙ c.in_ok-calls.ensures ∙ ap (map count_of) c.as_slice.ensures in
     let same : length c.args.script.lines ≡ length c.as_slice-2.result.now =
     lines_fit c.requires.0 c.args.script c.requires.1 ∙ sym (ap (λ (l : List ℕ). length l) c.as_slice-2.ensures) in
-    if_ok _ (IsTraceOf c.args.script) c.in_room.result
+    if_ok _ (IsLiveTraceOf c.args.script) c.in_room.result
     (λ bytes is.
     inr (subst (λ (homes : List ℕ). IsTraceAmong c.args.script.sites homes c.args.script.lines bytes) c.as_slice-2.ensures
     (traced_room c.args.script.sites c.as_slice-2.result.now c.deref.result.now _ c.in-Ok.workers.items
