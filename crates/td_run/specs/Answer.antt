@@ -3,15 +3,23 @@ use Rattle.std.specs.Prelude.{◌≡◌, ◌⊎◌, ℕ, List, [], ◌∷◌, �
 use Rattle.std.specs.Io.KnownBytes.{Appends}
 use Rattle.td_script.specs.Characters.{line_feed}
 use Rattle.td_script.specs.Faults.{first_fault}
+use Rattle.td_script.specs.LiveFaults.{first_live_fault}
 use Rattle.td_script.specs.Kinds.{kind_name}
+use Rattle.td_script.specs.LiveScript.{SpellsLive}
 use Rattle.td_script.specs.Script.{Spells}
 use Rattle.td_script.specs.Spelling.{spaced}
 use Rattle.td_script.specs.declared.kind.Kind.{Kind}
+use Rattle.td_script.specs.declared.live.script.Live.{Live as LiveScript}
+use Rattle.td_script.specs.declared.live.script.TheConstants.{MAX_LIVE_SCRIPT}
 use Rattle.td_script.specs.declared.script.Script.{Script}
+use Rattle.td_script.specs.declared.script.TheConstants.{MAX_SCRIPT}
+use Rattle.td_live.specs.Live.{IsLiveTraceOf}
 use Rattle.td_run.specs.declared.status.Status.{Status}
 use Rattle.td_run.specs.declared.status.Status.TheVariants.{Done, Memory, Usage, Script as NoScript, Read, Write}
+use Rattle.td_run.specs.declared.words.Language.{Language}
+use Rattle.td_run.specs.declared.words.Language.TheVariants.{Play, Live}
 use Rattle.td_run.specs.Outputs.{IsOutputOf, IsSummary}
-use Rattle.td_run.specs.Words.{IsPlay, IsGen, IsForm}
+use Rattle.td_run.specs.Words.{IsReading, IsGen, IsForm}
 
 abbrev pub usage_line : List ℕ
 usage_line = codes "usage: treedoc play | live | kept | check | gen SIZE NUMBER\n"
@@ -19,26 +27,48 @@ usage_line = codes "usage: treedoc play | live | kept | check | gen SIZE NUMBER\
 abbrev pub fault_line : ℕ → Kind → List ℕ
 fault_line number kind = codes "fault" ++ (spaced number ++ (codes " " ++ (kind_name kind ++ line_feed ∷ [])))
 
--- the bytes are what the script prints that the input spells
-abbrev pub IsPlayed : List ℕ → List ℕ → Type 0
-IsPlayed input bytes = (script : Script) × Spells input script × IsOutputOf script bytes
+-- ---- by the language of an input
+
+-- how many bytes an input can have
+abbrev pub most_bytes : Language → ℕ
+most_bytes Play = MAX_SCRIPT
+most_bytes Live = MAX_LIVE_SCRIPT
+
+-- the input is in the language
+abbrev pub IsInLanguage : Language → List ℕ → Type 0
+IsInLanguage Play input = (script : Script) × Spells input script
+IsInLanguage Live input = (script : LiveScript) × SpellsLive input script
+
+-- the first faulty line with its first fault
+abbrev pub first_fault_in : Language → List ℕ → Option (ℕ × Kind)
+first_fault_in Play input = first_fault input
+first_fault_in Live input = first_live_fault input
+
+-- the bytes are what the script prints that the input spells, or the trace of what the live script came to
+abbrev pub IsPlayed : Language → List ℕ → List ℕ → Type 0
+IsPlayed Play input bytes = (script : Script) × Spells input script × IsOutputOf script bytes
+IsPlayed Live input bytes = (script : LiveScript) × SpellsLive input script × IsLiveTraceOf script bytes
 
 -- the input is no script, and the bytes name its first faulty line with its first fault
-abbrev pub IsRefused : List ℕ → List ℕ → Type 0
-IsRefused input bytes =
-    (number : ℕ) × (kind : Kind) × (first_fault input ≡ Some (number, kind)) × (bytes ≡ fault_line number kind)
+abbrev pub IsRefused : Language → List ℕ → List ℕ → Type 0
+IsRefused language input bytes =
+    (number : ℕ) × (kind : Kind) × (first_fault_in language input ≡ Some (number, kind))
+    × (bytes ≡ fault_line number kind)
+
+-- ---- by the words
 
 -- the whole output for the words, and for the input, where that is told
 abbrev pub IsOutput : List (List ℕ) → Option (List ℕ) → List ℕ → Type 0
 IsOutput words input bytes =
-    (IsPlay words × IfSome input (λ told. IsPlayed told bytes))
+    ((language : Language) × IsReading words language × IfSome input (λ told. IsPlayed language told bytes))
     ⊎ ((size number : ℕ) × IsGen words size number × IsSummary size number bytes)
 
 -- the whole output that goes with a status
 abbrev pub IsWhole : List (List ℕ) → Option (List ℕ) → Status → List ℕ → Type 0
 IsWhole words input Done bytes = IsOutput words input bytes
 IsWhole words input Usage bytes = (¬ IsForm words) × (bytes ≡ usage_line)
-IsWhole words input NoScript bytes = IsPlay words × IfSome input (λ told. IsRefused told bytes)
+IsWhole words input NoScript bytes =
+    (language : Language) × IsReading words language × IfSome input (λ told. IsRefused language told bytes)
 IsWhole words input Memory bytes = ⊥
 IsWhole words input Read bytes = ⊥
 IsWhole words input Write bytes = ⊥

@@ -4,13 +4,12 @@ use Rattle.td_io.specs.declared.source.Source as source
 use Rattle.td_io.specs.declared.sink.Sink as sink
 use Rattle.td_io.specs.Count.{Rose}
 use Rattle.td_io.specs.Reading.{IsReadPast, IsReadToEnd}
-use Rattle.td_script.specs.Script.{Spells}
-use Rattle.td_script.specs.declared.script.Script.{Script as Commands}
 use Rattle.td_script.specs.declared.script.TheConstants.{MAX_SCRIPT}
 use Rattle.td_run.specs.declared.status.Status.{Status}
 use Rattle.td_run.specs.declared.status.Status.TheVariants.{Done, Memory, Usage, Script, Read, Write}
-use Rattle.td_run.specs.Answer.{IsWhole, Puts, PutsFront}
-use Rattle.td_run.specs.Words.{IsPlay, IsGen, IsForm}
+use Rattle.td_run.specs.declared.words.Language.{Language}
+use Rattle.td_run.specs.Answer.{IsInLanguage, IsWhole, Puts, PutsFront, most_bytes}
+use Rattle.td_run.specs.Words.{IsReading, ReadsInput, IsGen, IsForm}
 
 -- by what the source and the sink tell of themselves: of the words, the source before and after, the sink before and
 -- after, and the status
@@ -20,7 +19,7 @@ pub record IsAnswered {S K : Type 0} (s : source.Ghosts S) (k : sink.Ghosts K) (
   pub whole : (status ≡ Done) ⊎ (status ≡ Usage) ⊎ (status ≡ Script)
       → Puts (IsWhole words (s.left old) status) (k.held before) (k.held after)
   -- Read: the source failed, and nothing was put
-  pub read : status ≡ Read → IsPlay words × Rose (s.faults old) (s.faults new) × (k.held after ≡ k.held before)
+  pub read : status ≡ Read → ReadsInput words × Rose (s.faults old) (s.faults new) × (k.held after ≡ k.held before)
   -- Write: the sink failed, and took a front of what goes with the status that the run would have had
   pub write : status ≡ Write → Rose (k.faults before) (k.faults after) × ((whole : Status) × (bytes : List ℕ)
       × IsWhole words (s.left old) whole bytes × PutsFront (k.held before) (k.held after) bytes)
@@ -28,18 +27,18 @@ pub record IsAnswered {S K : Type 0} (s : source.Ghosts S) (k : sink.Ghosts K) (
   pub memory : status ≡ Memory → IsForm words × (k.held after ≡ k.held before)
   -- words that are no command are a usage refusal, or its line could not be put
   pub other_words : ¬ IsForm words → (status ≡ Usage) ⊎ (status ≡ Write)
-  -- other words than `play` read nothing: the source is as before
-  pub unread : ¬ IsPlay words → new ≡ old
+  -- words that ask for no input read nothing: the source is as before
+  pub unread : ¬ ReadsInput words → new ≡ old
   -- a script is played once the input was read to its end
-  pub read_to_end : status ≡ Done → IsPlay words → IsReadToEnd s old new
-  -- before anything is put for `play`, the input was read to its end, or past the bytes that it can have
-  pub read_whole : IsPlay words → (status ≡ Script) ⊎ (status ≡ Write)
-      → IsReadToEnd s old new ⊎ IsReadPast s MAX_SCRIPT old new
+  pub read_to_end : status ≡ Done → ReadsInput words → IsReadToEnd s old new
+  -- before anything is put for an input, it was read to its end, or past the bytes that it can have
+  pub read_whole : (language : Language) → IsReading words language → (status ≡ Script) ⊎ (status ≡ Write)
+      → IsReadToEnd s old new ⊎ IsReadPast s (most_bytes language) old new
   -- the source is called no oftener than this
   pub turns : s.calls new ≤ s.calls old + (MAX_SCRIPT + 1)
   -- a script is played to its end where neither the source nor the sink fails, unless memory runs out
-  pub complete : (input : List ℕ) (script : Commands) → IsPlay words
-      → s.left old ≡ Some input → Spells input script
+  pub complete : (language : Language) (input : List ℕ) → IsReading words language
+      → s.left old ≡ Some input → IsInLanguage language input
       → (¬ Rose (s.faults old) (s.faults new)) → (¬ Rose (k.faults before) (k.faults after))
       → (status ≡ Done) ⊎ (status ≡ Memory)
   -- and so is a generated one

@@ -1,45 +1,66 @@
 -- What a command comes to before anything is written.
-use Rattle.std.specs.Prelude.{◌≡◌, ◌≢◌, ⊤, ◌≤◌, ◌+◌, ◌⊎◌, ℕ, List, Option, Result, IfOk, IfSome, IsErrOf}
+use Rattle.std.specs.Prelude.{◌≡◌, ⊤, ◌≤◌, ◌+◌, ◌⊎◌, ℕ, List, Option, Result, Ok, Err, IfOk, IfSome, IsErrOf}
 use Rattle.td_gen.specs.declared.generator.TheConstants.{MAX_SIZE}
+use Rattle.std.specs.Io.KnownBytes.{Appends}
 use Rattle.td_io.specs.declared.source.Source as source
+use Rattle.td_io.specs.declared.sink.Sink as sink
 use Rattle.td_io.specs.Count.{Rose}
 use Rattle.td_io.specs.Reading.{IsReadPast, IsReadToEnd}
 use Rattle.td_script.specs.declared.script.TheConstants.{MAX_SCRIPT}
 use Rattle.td_run.specs.declared.answer.Answer.{Answer}
 use Rattle.td_run.specs.declared.answer.Stop.{Stop}
-use Rattle.td_run.specs.declared.answer.Stop.TheVariants.{Read as Unread}
+use Rattle.td_run.specs.declared.answer.Stop.TheVariants.{Read as Unread, Memory as NoMemory}
 use Rattle.td_run.specs.declared.status.Status.{Status}
-use Rattle.td_run.specs.declared.status.Status.TheVariants.{Done, Script}
+use Rattle.td_run.specs.declared.status.Status.TheVariants.{Done, Script, Memory, Read, Write}
 use Rattle.td_run.specs.declared.words.Form.{Form}
-use Rattle.td_run.specs.declared.words.Form.TheVariants.{Play, Gen}
-use Rattle.td_run.specs.Answer.{IsPlayed, IsRefused}
+use Rattle.td_run.specs.declared.words.Form.TheVariants.{Reads, Gen}
+use Rattle.td_run.specs.declared.words.Language.{Language}
+use Rattle.td_run.specs.Answer.{IsPlayed, IsRefused, PutsFront, most_bytes}
 use Rattle.td_run.specs.Outputs.{IsSummary}
 
--- what is written for an input, and the status that goes with it
-abbrev pub IsPlayedOr : List ℕ → Status → List ℕ → Type 0
-IsPlayedOr input Done bytes = IsPlayed input bytes
-IsPlayedOr input Script bytes = IsRefused input bytes
-IsPlayedOr input status bytes = ⊥
+-- what is written for an input in the language, and the status that goes with it
+abbrev pub IsPlayedOr : Language → List ℕ → Status → List ℕ → Type 0
+IsPlayedOr language input Done bytes = IsPlayed language input bytes
+IsPlayedOr language input Script bytes = IsRefused language input bytes
+IsPlayedOr language input status bytes = ⊥
 
 -- what is written for a command, where the input may not be told
 abbrev pub IsWholeOf : Form → Option (List ℕ) → Status → List ℕ → Type 0
-IsWholeOf Play input Done bytes = IfSome input (λ told. IsPlayed told bytes)
-IsWholeOf Play input Script bytes = IfSome input (λ told. IsRefused told bytes)
+IsWholeOf (Reads language) input Done bytes = IfSome input (λ told. IsPlayed language told bytes)
+IsWholeOf (Reads language) input Script bytes = IfSome input (λ told. IsRefused language told bytes)
 IsWholeOf (Gen size number) input Done bytes = IsSummary size number bytes
 IsWholeOf form input status bytes = ⊥
 
 -- the generated script is not too large
 abbrev pub IsAskable : Form → Type 0
-IsAskable Play = ⊤
+IsAskable (Reads language) = ⊤
 IsAskable (Gen size number) = size ≤ MAX_SIZE
+
+-- the command reads an input in the language
+abbrev pub IsReads : Form → Language → Type 0
+IsReads form language = form ≡ Reads language
 
 -- by what the source tells of itself: of the command, the source before and after, and what is to be written
 pub record IsAnswerTo {S : Type 0} (s : source.Ghosts S) (form : Form) (old new : S) (result : Result Answer Stop)
     : Type 0 where
   pub whole : IfOk result (λ a. IsWholeOf form (s.left old) a.status a.bytes)
-  pub read : IsErrOf result Unread → (form ≡ Play) × Rose (s.faults old) (s.faults new)
-  -- other commands than `play` read nothing
-  pub unread : form ≢ Play → new ≡ old
-  pub to_end : IfOk result (λ a. a.status ≡ Done → form ≡ Play → IsReadToEnd s old new)
-  pub past : IfOk result (λ a. form ≡ Play → IsReadToEnd s old new ⊎ IsReadPast s MAX_SCRIPT old new)
+  pub read : IsErrOf result Unread → ((language : Language) × IsReads form language) × Rose (s.faults old) (s.faults new)
+  -- a command that has no input reads nothing
+  pub unread : ¬ ((language : Language) × IsReads form language) → new ≡ old
+  pub to_end : IfOk result (λ a. a.status ≡ Done → (language : Language) → IsReads form language → IsReadToEnd s old new)
+  pub past : IfOk result (λ a. (language : Language) → IsReads form language
+      → IsReadToEnd s old new ⊎ IsReadPast s (most_bytes language) old new)
   pub turns : s.calls new ≤ s.calls old + (MAX_SCRIPT + 1)
+
+-- by what the sink tells of itself: the bytes were put, and the status is the one that goes with them; or the sink failed,
+-- and took a front of them
+abbrev pub IsPut : {K : Type 0} → sink.Ghosts K → List ℕ → Status → (before after : K) → Status → Type 0
+IsPut k bytes whole before after status =
+    ((status ≡ whole) × Appends (k.held before) (k.held after) bytes)
+    ⊎ ((status ≡ Write) × Rose (k.faults before) (k.faults after) × PutsFront (k.held before) (k.held after) bytes)
+
+-- what came of a command was put, where it has an output
+abbrev pub IsEnded : {K : Type 0} → sink.Ghosts K → Result Answer Stop → (before after : K) → Status → Type 0
+IsEnded k (Ok answer) before after status = IsPut k answer.bytes answer.status before after status
+IsEnded k (Err Unread) before after status = (status ≡ Read) × (after ≡ before)
+IsEnded k (Err NoMemory) before after status = (status ≡ Memory) × (after ≡ before)

@@ -16,15 +16,14 @@ mod outcome;
 mod play;
 mod player;
 mod program;
+mod reading;
 mod showing;
 mod status;
 mod typing;
 mod words;
 
 pub use limits::the_limits_are_these;
-pub use program::run;
+pub use program::{run, run_live, run_plain};
 pub use status::Status;
 pub use typing::typing_is_typing;
-
-#[cfg(test)]
-mod tests;
+pub use words::{Language, is_live};

@@ -1,107 +1,90 @@
-ghost use Rattle.std.specs.Prelude.{◌≡◌, ◌⊎◌, IfOk, IsErrOf};
-ghost use Rattle.std.specs.Io.KnownBytes.{Appends};
-ghost use Rattle.td_io.specs.Count.{Rose};
-ghost use Rattle.td_run.specs.declared.answer.Stop.TheVariants.{Read as Unread};
-ghost use Rattle.td_run.specs.declared.status.Status.{Status};
-ghost use Rattle.td_run.specs.declared.status.Status.TheVariants.{Script as NoScript};
-ghost use Rattle.td_run.specs.declared.words.Form.TheVariants.{Play};
-ghost use Rattle.td_run.specs.Answer.{PutsFront, fault_line};
-ghost use Rattle.td_run.specs.Answering.{IsAnswerTo, IsAskable, IsPlayedOr};
+ghost use Rattle.std.specs.Prelude.{◌∷◌, [], codes};
+ghost use Rattle.td_run.specs.declared.words.Language.TheVariants.{Live as InLive};
 ghost use Rattle.td_run.specs.Answered.{IsAnswered};
+ghost use Rattle.td_run.specs.Answering.{IsEnded, IsPut};
+ghost use Rattle.td_run.specs.Words.{IsReading};
 
 use crate::answer::{Answer, Stop};
-use crate::fault::fault_line;
-use crate::generated::generated;
-use crate::play::output_of;
+use crate::generated::summary;
+use crate::reading::{played, traced};
 use crate::status::Status;
-use crate::words::{Form, asked_for};
+use crate::words::{Form, Language, asked_for, is_live};
 use std::alloc::Global;
+use std::sync::Wait;
+use std::thread::Threads;
 use td_base::Bytes;
-use td_io::{ReadFault, Sink, Source, put_all, read_all};
-use td_script::{Kind, MAX_SCRIPT, ScriptFault, read_script};
-use td_tree::Tree;
+use td_io::{Sink, Source, put_all};
+use td_line::Gate;
 
 /// Written where the words are no command.
 const USAGE: &[u8] = b"usage: treedoc play | live | kept | check | gen SIZE NUMBER\n";
 
-/// Runs the program: with the one word `play` it reads a script from the source and plays it; with `gen SIZE NUMBER` it
-/// plays a generated script. The sink takes the whole output that goes with the status; where that is `Write` a front
-/// of it, and where it is `Memory` or `Read` nothing.
-pub fn run<S: Source, K: Sink>(
+/// Runs the program: with the one word `play` it reads a script from the source and plays it; with `live` it reads a
+/// live script, whose editors and workers run on threads; with `gen SIZE NUMBER` it plays a generated script. The sink
+/// takes the whole output that goes with the status; where that is `Write` a front of it, and where it is `Memory` or
+/// `Read` nothing. With `live` it may wait, and where its sites are is told to the gate.
+pub fn run<S: Source, K: Sink, G: Gate + Sync, R: Threads + Wait + Copy + Send + Sync>(
+    rt: &R,
+    alloc: Global,
+    words: &[Bytes],
+    source: &mut S,
+    sink: &mut K,
+    gate: &G,
+) -> Status
+    ensures { IsAnswered S.Source K.Sink words.now source.old source.new sink.old sink.new result }
+{
+    if is_live(words) {
+        return run_live(rt, alloc, source, sink, gate);
+    }
+    run_plain(alloc, words, source, sink)
+}
+
+/// The same for all words but the one word `live`. It waits for nobody.
+pub fn run_plain<S: Source, K: Sink>(
     alloc: Global,
     words: &[Bytes],
     source: &mut S,
     sink: &mut K,
 ) -> Status
+    requires { ¬ IsReading words.now InLive }
     ensures { IsAnswered S.Source K.Sink words.now source.old source.new sink.old sink.new result }
 {
-    let Some(form) = asked_for(words) else {
-        return put(sink, USAGE, Status::Usage);
-    };
-    match answer_to(alloc, form, source) {
+    match asked_for(words) {
+        Some(Form::Reads(Language::Play)) => end(sink, played(alloc, source)),
+        Some(Form::Gen { size, number }) => end(sink, summary(alloc, size, number)),
+        // the words are not `live`
+        Some(Form::Reads(Language::Live)) => Status::Usage,
+        None => put(sink, USAGE, Status::Usage),
+    }
+}
+
+/// The same for the one word `live`. Where a worker can be held up is told to the gate. It may wait.
+pub fn run_live<S: Source, K: Sink, G: Gate + Sync, R: Threads + Wait + Copy + Send + Sync>(
+    rt: &R,
+    alloc: Global,
+    source: &mut S,
+    sink: &mut K,
+    gate: &G,
+) -> Status
+    ensures { IsAnswered S.Source K.Sink (codes "live" ∷ []) source.old source.new sink.old sink.new result }
+{
+    end(sink, traced(rt, alloc, source, gate))
+}
+
+// Puts the output of a command, where it has one.
+fn end<K: Sink>(sink: &mut K, answer: Result<Answer, Stop>) -> Status
+    ensures { IsEnded K.Sink answer sink.old sink.new result }
+{
+    match answer {
         Ok(answer) => put(sink, answer.bytes.as_slice(), answer.status),
         Err(Stop::Read) => Status::Read,
         Err(Stop::Memory) => Status::Memory,
     }
 }
 
-// The output of a command.
-fn answer_to<S: Source>(alloc: Global, form: Form, source: &mut S) -> Result<Answer, Stop>
-    requires { IsAskable form }
-    ensures { IsAnswerTo S.Source form source.old source.new result }
-{
-    match form {
-        Form::Play => played(alloc, source),
-        Form::Gen { size, number } => Ok(Answer {
-            status: Status::Done,
-            bytes: generated::<Tree>(alloc, size, number)?,
-        }),
-    }
-}
-
-// Reads a script and plays it.
-fn played<S: Source>(alloc: Global, source: &mut S) -> Result<Answer, Stop>
-    ensures { IsAnswerTo S.Source Play source.old source.new result }
-{
-    match read_all(alloc, source, MAX_SCRIPT as u32) {
-        Ok(input) => played_or_refused(alloc, input.as_slice()),
-        Err(ReadFault::Failed) => Err(Stop::Read),
-        Err(ReadFault::TooLong) => refused(alloc, 0, Kind::Size),
-        Err(ReadFault::Memory) => Err(Stop::Memory),
-    }
-}
-
-// What an input comes to that was read to its end.
-fn played_or_refused(alloc: Global, input: &[u8]) -> Result<Answer, Stop>
-    ensures answer { IfOk result (λ a. IsPlayedOr input.now a.status a.bytes) }
-    ensures read { IsErrOf result Unread → ⊥ }
-{
-    match read_script(alloc, input) {
-        Ok(script) => Ok(Answer {
-            status: Status::Done,
-            bytes: output_of::<Tree>(alloc, &script)?,
-        }),
-        Err(ScriptFault::Fault { line, kind }) => refused(alloc, line, kind),
-        Err(ScriptFault::Memory) => Err(Stop::Memory),
-    }
-}
-
-// The line of a fault.
-fn refused(alloc: Global, line: u32, kind: Kind) -> Result<Answer, Stop>
-    ensures answer { IfOk result (λ a. (a.status ≡ NoScript) × (a.bytes ≡ fault_line line kind)) }
-    ensures read { IsErrOf result Unread → ⊥ }
-{
-    Ok(Answer {
-        status: Status::Script,
-        bytes: fault_line(alloc, line, kind)?,
-    })
-}
-
 // Puts the whole output that goes with the status.
 fn put<K: Sink>(sink: &mut K, output: &[u8], status: Status) -> Status
-    ensures { ((result ≡ status) × Appends (K.held sink.old) (K.held sink.new) output.now)
-        ⊎ ((result ≡ Status.Write) × Rose (K.faults sink.old) (K.faults sink.new)
-        × PutsFront (K.held sink.old) (K.held sink.new) output.now) }
+    ensures { IsPut K.Sink output.now status sink.old sink.new result }
 {
     match put_all(sink, output) {
         Ok(()) => status,

@@ -1,15 +1,24 @@
 ghost use Rattle.std.specs.Prelude.{◌≡◌, ◌↔◌, ◌∷◌, [], ℕ, IfNone, IfSome, IsTrue};
-ghost use Rattle.td_run.specs.Words.{IsForm, IsFormOf, IsGen};
+ghost use Rattle.td_run.specs.Words.{IsForm, IsFormOf, IsGen, IsReading};
 
 use td_base::Bytes;
 use td_gen::MAX_SIZE;
 use td_script::number_of;
 
+/// A language in which an input is written.
+#[derive(Clone, Copy, Debug, PartialEq, Eq)]
+pub enum Language {
+    /// `play`: a script.
+    Play,
+    /// `live`: a live script.
+    Live,
+}
+
 /// What the words of the command line ask for.
 #[derive(Clone, Copy, Debug, PartialEq, Eq)]
 pub(crate) enum Form {
-    /// `play`: to play the script of the input.
-    Play,
+    /// To play the script of the input.
+    Reads(Language),
     /// `gen SIZE NUMBER`: to play a generated script.
     Gen { size: u32, number: u32 },
 }
@@ -20,10 +29,31 @@ pub(crate) fn asked_for(words: &[Bytes]) -> Option<Form>
     ensures none { IfNone result (¬ IsForm words.now) }
 {
     match words {
-        [word] => is_word(word, b"play").then_some(Form::Play),
+        [word] => Some(Form::Reads(language_of(word)?)),
         [word, size, number] => generated(word, size, number),
         _ => None,
     }
+}
+
+/// Whether the words ask for a live script.
+pub fn is_live(words: &[Bytes]) -> bool
+    ensures { IsTrue result ↔ IsReading words.now Language.Live }
+{
+    matches!(asked_for(words), Some(Form::Reads(Language::Live)))
+}
+
+// The language that the word names.
+fn language_of(word: &Bytes) -> Option<Language>
+    ensures some { IfSome result (IsReading (word.now ∷ [])) }
+    ensures none { IfNone result ((language : Language) → ¬ IsReading (word.now ∷ []) language) }
+{
+    if is_word(word, b"play") {
+        return Some(Language::Play);
+    }
+    if is_word(word, b"live") {
+        return Some(Language::Live);
+    }
+    None
 }
 
 // The size and the number of the generated script that the words ask for.

@@ -10,20 +10,34 @@ ghost use Rattle.std.specs.Process.{exit_status};
 ghost use Rattle.td_run.specs.Answered.{IsAnswered};
 ghost use Rattle.td_run.specs.Number.{status_number};
 
+mod progress;
+
+use progress::Progress;
 use std::alloc::Global;
 use std::env::FillError;
 use std::io;
 use std::process::ExitCode;
 use std::rt::Env;
+use std::sync::Wait;
+use std::thread::Threads;
 use td_base::{Bytes, Memory};
 use td_io::{ReadSource, Sink, Source, WriteSink};
+use td_line::Gate;
 use td_run::{Status, run};
 
 fn main(rt: HostRuntime) -> ExitCode {
     let mut source = ReadSource::new(rt.reader());
     let mut sink = WriteSink::new(io::writer(&rt));
+    let progress = Progress::new(&rt, &rt.stderr());
     let status = match arguments(&rt, rt.alloc()) {
-        Ok(arguments) => run_behind_name(rt.alloc(), &arguments, &mut source, &mut sink),
+        Ok(arguments) => run_behind_name(
+            &rt,
+            rt.alloc(),
+            &arguments,
+            &mut source,
+            &mut sink,
+            &progress,
+        ),
         Err(Memory) => Status::Memory,
     };
     // what standard error does not take is let go
@@ -42,17 +56,19 @@ fn exit_code(status: Status) -> ExitCode
 }
 
 // Runs the program on all of its arguments but the first, which is its own name.
-fn run_behind_name<S: Source, K: Sink>(
+fn run_behind_name<S: Source, K: Sink, G: Gate + Sync, R: Threads + Wait + Copy + Send + Sync>(
+    rt: &R,
     alloc: Global,
     arguments: &[Bytes],
     source: &mut S,
     sink: &mut K,
+    gate: &G,
 ) -> Status
     ensures { IsAnswered S.Source K.Sink (drop 1 arguments.now) source.old source.new sink.old sink.new result }
 {
     match arguments {
-        [_name, words @ ..] => run(alloc, words, source, sink),
-        [] => run(alloc, &[], source, sink),
+        [_name, words @ ..] => run(rt, alloc, words, source, sink, gate),
+        [] => run(rt, alloc, &[], source, sink, gate),
     }
 }
 
