@@ -30,6 +30,3 @@ pub use named_atom::NamedAtom;
 pub use order::{bits_are_ordered, dots_are_ordered, identities_are_ordered};
 pub use run::{MAX_RUN_LEN, Run, RunFault};
 pub use site::{MAX_SITE, Site};
-
-#[cfg(test)]
-mod tests;

@@ -16,6 +16,3 @@ pub use buffer::Buffer;
 pub use laws::what_waits_is_as_in_the_machine;
 pub use offer::Offer;
 pub use waiting::Waiting;
-
-#[cfg(test)]
-mod tests;

@@ -12,6 +12,3 @@ pub use laws::{
     join_is_the_least_cover, sums_grow, vectors_are_compared_by_their_numbers,
 };
 pub use vector::Vector;
-
-#[cfg(test)]
-mod tests;

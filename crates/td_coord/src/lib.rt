@@ -12,6 +12,3 @@ mod voters;
 
 pub use counted::Counted;
 pub use tally::Tally;
-
-#[cfg(test)]
-mod tests;

@@ -35,6 +35,3 @@ pub use laws::{
     the_allocated_slot_is_empty, what_is_placed_stands_there, what_is_typed_stands_at_its_index,
 };
 pub use rows::Rows;
-
-#[cfg(test)]
-mod tests;

@@ -14,6 +14,3 @@ mod progress;
 
 pub use generator::{MAX_SIZE, script_of};
 pub use laws::generated_scripts_edit_and_flatten;
-
-#[cfg(test)]
-mod tests;

@@ -13,6 +13,7 @@ use crate::input::{CompactInput, keep_input, put_input};
 use crate::log::Log;
 use crate::put::CompactPut;
 use crate::reply::CompactReply;
+use std::mem::size_of;
 use td_base::Dot;
 use td_op::{Entry, Input, Message, Op, Reply, Request};
 use td_store::Runs;
@@ -41,6 +42,10 @@ pub struct WholeEntry {
     input: CompactInput,
     reply: CompactReply,
 }
+
+const _: () = prove!(size_of::<CompactEntry>() == 12);
+
+const _: () = prove!(size_of::<WholeEntry>() == 28);
 
 impl CompactEntry {
     /// The entry that it stands for.

@@ -3,6 +3,7 @@ ghost use Rattle.td_history.specs.Index.{list_of, logged_at, last_of, with_logge
 
 use std::alloc::Global;
 use std::marker::Model;
+use std::mem::size_of;
 use td_base::{Dot, Memory, Site};
 
 /// An operation of the log: its number, and if it is a proposal that was decided, whether it was committed.
@@ -11,6 +12,8 @@ pub struct Logged {
     pub number: u32,
     pub decided: Option<bool>,
 }
+
+const _: () = prove!(size_of::<Logged>() == 8);
 
 /// The operations of the log by their site, in the order of their dots: those of a site are numbered without gaps, so
 /// that a dot is a place. There is room for so many more operations of one site.

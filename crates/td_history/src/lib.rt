@@ -19,6 +19,3 @@ mod reply;
 mod vote;
 
 pub use history::History;
-
-#[cfg(test)]
-mod tests;

@@ -1,4 +1,5 @@
 use crate::vote::CompactVote;
+use std::mem::size_of;
 
 /// A message in 8 bytes. Among the operations of a log it stands for `message_of` it.
 #[derive(Clone, Copy, Debug, PartialEq, Eq)]
@@ -7,3 +8,5 @@ pub enum CompactMessage {
     Op { number: u32 },
     Vote { vote: CompactVote },
 }
+
+const _: () = prove!(size_of::<CompactMessage>() == 8);

@@ -13,6 +13,3 @@ mod seen;
 pub use identities::Identities;
 pub use numbers::{Numbers, Operations, Stray};
 pub use seen::Seen;
-
-#[cfg(test)]
-mod tests;

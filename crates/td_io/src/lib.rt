@@ -27,6 +27,3 @@ pub use read_whole::read_all;
 pub use sink::Sink;
 pub use source::Source;
 pub use write_sink::WriteSink;
-
-#[cfg(test)]
-mod tests;

@@ -25,6 +25,3 @@ pub use opening::link;
 pub use rx::Rx;
 pub use settling::settle;
 pub use tx::Tx;
-
-#[cfg(test)]
-mod tests;

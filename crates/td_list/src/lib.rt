@@ -27,6 +27,3 @@ pub use edit::put_each;
 pub use item::{Item, Share};
 pub use line::Line;
 pub use sequence::Sequence;
-
-#[cfg(test)]
-mod tests;

@@ -34,6 +34,3 @@ pub use op::Op;
 pub use reply::{Reply, Why};
 pub use request::Request;
 pub use vote::Vote;
-
-#[cfg(test)]
-mod tests;

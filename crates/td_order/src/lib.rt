@@ -35,6 +35,3 @@ pub use part::{
 pub use show::show_of;
 pub use standing::{order_is_fixed_by_rules, under_goes_by_slots};
 pub use together::what_hangs_together_stands_together;
-
-#[cfg(test)]
-mod tests;

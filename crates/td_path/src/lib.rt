@@ -21,6 +21,3 @@ pub use path::Path;
 pub use shape::{shape_index, shape_path};
 pub use slot::Slot;
 pub use slot_path::{SlotPath, contains, goes_on, overlap};
-
-#[cfg(test)]
-mod tests;

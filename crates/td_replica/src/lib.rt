@@ -22,6 +22,3 @@ mod votes;
 
 pub use given::Given;
 pub use replica::Replica;
-
-#[cfg(test)]
-mod tests;

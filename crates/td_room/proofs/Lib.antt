@@ -15,4 +15,3 @@ pub mod Gathers
 pub mod Closeds
 pub mod Transport
 pub mod Opens
-pub mod Staging

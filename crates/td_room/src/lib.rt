@@ -29,6 +29,3 @@ pub use laws::{a_room_stays_one, later_workers_compose};
 pub use opening::room;
 pub use room_fault::RoomFault;
 pub use worker::Worker;
-
-#[cfg(test)]
-mod tests;

@@ -11,6 +11,7 @@ use td_base::{Memory, Site as Number};
 use td_doc::Doc;
 use td_line::Line;
 use td_peer::Peer;
+use td_replica::Replica;
 use td_site::Site;
 use td_view::Reader;
 
@@ -65,6 +66,13 @@ impl<D: Doc> Worker<D> {
         ensures { result ≡ self.now.site.replica.machine.site }
     {
         self.site.replica().site()
+    }
+
+    /// The replica of its site, as it is now. It takes no memory.
+    pub fn replica(&self) -> &Replica<D>
+        ensures { result.now ≡ self.now.site.replica }
+    {
+        self.site.replica()
     }
 
     /// Ends it alone, and loses what it has. It may wait for readers.

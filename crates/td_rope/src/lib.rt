@@ -17,6 +17,3 @@ mod seat;
 mod stretch;
 
 pub use rope::Rope;
-
-#[cfg(test)]
-mod tests;

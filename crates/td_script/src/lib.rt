@@ -47,6 +47,3 @@ pub use script::{
     MAX_LINE, MAX_MIDDLE_REQUESTS, MAX_SCRIPT, MAX_WIDE_REQUESTS, MAX_WIDE_SCRIPT, Script,
     read_script,
 };
-
-#[cfg(test)]
-mod tests;

@@ -37,6 +37,3 @@ mod tree_row;
 mod way;
 
 pub use tree::Tree;
-
-#[cfg(test)]
-mod tests;

@@ -37,6 +37,3 @@ pub use told::Told;
 pub use view_mark::ViewMark;
 pub use views_fault::ViewsFault;
 pub use writer::Writer;
-
-#[cfg(test)]
-mod tests;

@@ -16,6 +16,3 @@ mod slots;
 
 pub use holds::Holds;
 pub use laws::the_vote_is_that_of_the_log;
-
-#[cfg(test)]
-mod tests;

@@ -23,6 +23,3 @@ pub use length::MAX_PACKET_LEN;
 pub use packet::Packet;
 pub use reading::{Malformed, decode};
 pub use writing::encode;
-
-#[cfg(test)]
-mod tests;

@@ -23,6 +23,3 @@ pub use laws::{
     settled_worlds_are_one, worlds_go_on, worlds_keep_the_promises,
 };
 pub use world::World;
-
-#[cfg(test)]
-mod tests;

@@ -89,8 +89,8 @@ impl<D: Doc> World<D> {
         Some(self.at(number as usize - 1))
     }
 
-    // How many sites there are.
-    pub(crate) fn size(&self) -> u8
+    /// How many sites there are. It takes no memory.
+    pub fn size(&self) -> u8
         ensures size { result ≡ size self.now }
         ensures some { 1 ≤ result }
         ensures few { result ≤ MAX_SITE }

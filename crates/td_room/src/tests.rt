@@ -1,4 +1,0 @@
-mod calls;
-mod many;
-mod side_by_side;
-mod stage;

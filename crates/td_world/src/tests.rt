@@ -1,2 +1,0 @@
-mod examples;
-mod moves;

@@ -1,0 +1,13 @@
+//! Scripts as bytes in and bytes out.
+mod faults;
+mod flattens;
+mod generated;
+mod large;
+mod live;
+mod merges;
+mod pastes;
+mod plays;
+mod replaying;
+mod streams;
+mod stress;
+mod words;

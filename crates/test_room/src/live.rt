@@ -1,0 +1,3 @@
+mod agenda;
+mod desk;
+mod fixed;

@@ -1,0 +1,140 @@
+ghost use Rattle.std.specs.Prelude.{◌≡◌, ◌≤◌, false, IfOk};
+ghost use Rattle.td_replica.specs.Replica.{new_replica};
+
+use std::alloc::Global;
+use std::process::Abort;
+use std::sync::Wait;
+use std::test::Fail;
+use td_base::{Atom, Dot};
+use td_doc::Rows;
+use td_op::{Input, Reply, Request};
+use td_replica::Replica;
+use td_site::*;
+use td_view::{Opener, Reader, Shown, views};
+
+fn number(site: u8) -> Result<td_base::Site, Fail>
+    ensures { IfOk result (λ number. number ≡ site) }
+{
+    Ok(td_base::Site::new(site).ok_or("a site")?)
+}
+
+fn made(seq: u32) -> Result<Reply, Fail> {
+    let dot = Dot::new(number(1)?, seq).ok_or("a dot")?;
+    Ok(Reply::Made { dot })
+}
+
+fn put(index: u32, letter: u8) -> Result<Request, Fail> {
+    let atom = Atom::new(&[letter]).map_err(|_| "an atom")?;
+    Ok(Request::Insert { index, atom })
+}
+
+// The replica of a site of two, which has done nothing.
+fn replica(alloc: Global, site: u8) -> Result<Replica<Rows>, Fail>
+    requires { site ≤ 2 }
+    ensures { IfOk result (λ replica. replica ≡ new_replica site 2) }
+{
+    Ok(Replica::new(alloc, number(site)?, 2)?)
+}
+
+// The first site of two, and a reader of its text.
+fn open<R: Wait>(rt: &R, alloc: Global) -> Result<(Site<Rows>, Reader), Fail>
+    ensures late { IfOk result (λ opened. opened.0.late ≡ false) }
+    ensures views { IfOk result (λ opened. opened.1.views ≡ opened.0.writer.views) }
+{
+    let replica = replica(alloc, 1)?;
+    let mut opener = Opener::new();
+    let (writer, mut readers) = views(rt, alloc, &mut opener, 1).map_err(|_| "views")?;
+    let reader = readers.remove(0);
+    Ok((Site::new(replica, writer), reader))
+}
+
+// Whether the atoms of the text are these letters.
+fn spells(shown: &Shown, letters: &str) -> bool {
+    let letters = letters.as_bytes();
+    for i in 0..shown.len() {
+        let letter = letters.get(i as usize);
+        if shown.atom(i).map(|atom| atom.bytes()[0]) != letter.copied() {
+            return false;
+        }
+    }
+    shown.len() as usize == letters.len()
+}
+
+// The reader is shown these letters, after so many entries.
+fn reads<R: Abort>(rt: &R, reader: &mut Reader, upto: u64, letters: &str)
+    ensures { reader.new.views ≡ reader.old.views }
+{
+    assert_eq!(rt;
+        reader.look(|shown| (shown.upto(), spells(shown, letters))),
+        Some((upto, true))
+    );
+}
+
+// The site gives this reply, and shows the step.
+fn act<R: Wait + Abort>(rt: &R, site: &mut Site<Rows>, input: &Input, reply: Reply)
+    requires { site.old.late ≡ false }
+    ensures late { site.new.late ≡ false }
+    ensures views { site.new.writer.views ≡ site.old.writer.views }
+{
+    assert_eq!(rt; site.step(input), Ok(reply));
+    assert_eq!(rt; site.show(rt), Ok(()));
+}
+
+#[test]
+fn each_step_is_shown_and_a_refused_request_too(rt: HostRuntime) -> Result<(), Fail> {
+    let first = (Input::Local(put(0, b'a')?), made(1)?);
+    let second = (Input::Local(put(1, b'b')?), made(2)?);
+    let third = (Input::Local(put(0, b'c')?), made(3)?);
+    let refused = Input::Local(Request::Delete { index: 3 });
+    let (mut site, mut reader) = open(&rt, rt.alloc())?;
+    reads(&rt, &mut reader, 0, "");
+    act(&rt, &mut site, &first.0, first.1);
+    reads(&rt, &mut reader, 1, "a");
+    act(&rt, &mut site, &second.0, second.1);
+    reads(&rt, &mut reader, 2, "ab");
+    act(&rt, &mut site, &third.0, third.1);
+    act(&rt, &mut site, &refused, Reply::Position { len: 3 });
+    reader.learn(site.told());
+    reads(&rt, &mut reader, 4, "cab");
+    let (replica, writer) = site.parts();
+    assert_eq!(rt; replica.entries(), 4);
+    writer.quit(&rt);
+    Ok(())
+}
+
+fn write(replica: &mut Replica<Rows>, index: u32, letter: u8) -> Result<(), Fail> {
+    replica.step_on(&Input::Local(put(index, letter)?))?;
+    Ok(())
+}
+
+// The site takes this message of the replica with this reply, and then what it may take and shows it all.
+fn take<R: Wait + Abort>(
+    rt: &R,
+    site: &mut Site<Rows>,
+    from: &Replica<Rows>,
+    message: u64,
+    reply: Reply,
+)
+    requires { site.old.late ≡ false }
+    ensures { site.new.late ≡ false }
+{
+    let message = from.sent_at(message).expect(rt, "a message");
+    assert_eq!(rt; site.step(&Input::Take(message)), Ok(reply));
+    assert_eq!(rt; site.catch_up(rt), Ok(()));
+}
+
+#[test]
+fn what_waited_is_taken_and_shown(rt: HostRuntime) -> Result<(), Fail> {
+    let mut other = replica(rt.alloc(), 2)?;
+    write(&mut other, 0, b'x')?;
+    write(&mut other, 1, b'y')?;
+    write(&mut other, 2, b'z')?;
+    let (mut site, mut reader) = open(&rt, rt.alloc())?;
+    take(&rt, &mut site, &other, 3, Reply::Later);
+    take(&rt, &mut site, &other, 2, Reply::Later);
+    reads(&rt, &mut reader, 2, "");
+    take(&rt, &mut site, &other, 1, Reply::New);
+    reads(&rt, &mut reader, 5, "xyz");
+    site.quit(&rt);
+    Ok(())
+}
