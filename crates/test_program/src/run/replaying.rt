@@ -5,7 +5,7 @@ use td_base::{Dot, Memory, Site};
 use td_op::{Input, Message, Vote};
 use td_reader::{MAX_TRACE, ReadLine, ReadTrace, read_trace};
 use td_replica::Replica;
-use td_trace::ToldInput;
+use td_trace::{ToldInput, TraceEntry};
 use td_tree::Tree;
 
 // A site that plays its history.
@@ -42,25 +42,49 @@ impl Player {
     }
 }
 
-// The sites of a trace, each at the line of its first entry.
+// What the line says, where it is of that kind.
+fn size_at(trace: &ReadTrace<'_>, k: usize) -> Option<u8> {
+    match trace.line(k) {
+        Some(ReadLine::Sites { n }) => Some(n),
+        _ => None,
+    }
+}
+
+fn is_site(trace: &ReadTrace<'_>, k: usize) -> bool {
+    matches!(trace.line(k), Some(ReadLine::Site { .. }))
+}
+
+fn entry_at(trace: &ReadTrace<'_>, k: usize) -> Option<TraceEntry> {
+    match trace.line(k) {
+        Some(ReadLine::Entry { entry, .. }) => Some(entry),
+        _ => None,
+    }
+}
+
+// The sites of a trace, in order, each at the line of its first entry.
 fn players(alloc: Global, trace: &ReadTrace<'_>) -> Result<Vec<Player>, Fail> {
-    let Some(ReadLine::Sites { n }) = trace.line(0) else {
-        return Err("no number of sites".into());
-    };
+    let n = size_at(trace, 0).ok_or("no number of sites")?;
     let mut players = Vec::new(alloc);
     for k in 1..usize::MAX {
-        match trace.line(k) {
-            Some(ReadLine::Site { site }) => players.push(Player {
-                replica: replica(alloc, site, n)?,
-                next: k.saturating_add(1),
-                made: Vec::new(alloc),
-                known: 0,
-            })?,
-            Some(ReadLine::Entry { .. }) => {}
-            _ => break,
+        if is_site(trace, k) {
+            let number = players.len().saturating_add(1).min(255) as u8;
+            let site = Site::new(number).ok_or("a site of the trace")?;
+            players.push(begun(alloc, site, n, k)?)?;
+        } else if entry_at(trace, k).is_none() {
+            break;
         }
     }
     Ok(players)
+}
+
+// The site whose history begins behind the line.
+fn begun(alloc: Global, site: Site, n: u8, line: usize) -> Result<Player, Fail> {
+    Ok(Player {
+        replica: replica(alloc, site, n)?,
+        next: line.saturating_add(1),
+        made: Vec::new(alloc),
+        known: 0,
+    })
 }
 
 fn replica(alloc: Global, site: Site, n: u8) -> Result<Replica<Tree>, Fail> {
@@ -99,7 +123,7 @@ fn goes_on(trace: &ReadTrace<'_>, players: &mut [Player], place: usize) -> Resul
         return Ok(false);
     };
     let next = player.next;
-    let Some(ReadLine::Entry { entry, .. }) = trace.line(next) else {
+    let Some(entry) = entry_at(trace, next) else {
         return Ok(false);
     };
     let Some(input) = input_of(players, &entry.told) else {
@@ -135,7 +159,44 @@ fn all_go_on(trace: &ReadTrace<'_>, players: &mut [Player]) -> Result<(), Fail> 
     Ok(())
 }
 
-// Whether all entries are done and the texts at the end are those of the trace. The entries that were done.
+// How many entries were done, which must be all.
+fn all_done(trace: &ReadTrace<'_>, players: &[Player]) -> Result<u64, Fail> {
+    let mut done: u64 = 0;
+    for player in players {
+        if entry_at(trace, player.next).is_some() {
+            return Err("an entry that cannot be done".into());
+        }
+        done = done.wrapping_add(player.replica.entries());
+    }
+    Ok(done)
+}
+
+// Whether a line that tells the text of a site tells the one that it shows.
+fn is_right(alloc: Global, line: ReadLine<'_>, players: &[Player]) -> Result<bool, Fail> {
+    let ReadLine::Text { site, text } = line else {
+        return Ok(true);
+    };
+    let Some(player) = player_of(players, site) else {
+        return Ok(false);
+    };
+    let shown = player.replica.text(alloc)?;
+    let told = text.text(alloc)?;
+    Ok(shown.as_slice() == told.as_slice())
+}
+
+fn texts_are_right(alloc: Global, trace: &ReadTrace<'_>, players: &[Player]) -> Result<bool, Fail> {
+    for k in 0..usize::MAX {
+        let Some(line) = trace.line(k) else {
+            break;
+        };
+        if !is_right(alloc, line, players)? {
+            return Ok(false);
+        }
+    }
+    Ok(true)
+}
+
+// Plays the trace to its end and its texts. How many entries it has.
 pub fn entries_replayed(alloc: Global, bytes: &[u8]) -> Result<u64, Fail> {
     if bytes.len() > MAX_TRACE {
         return Err("a trace that is too long".into());
@@ -143,26 +204,9 @@ pub fn entries_replayed(alloc: Global, bytes: &[u8]) -> Result<u64, Fail> {
     let trace = read_trace(alloc, bytes)?;
     let mut players = players(alloc, &trace)?;
     all_go_on(&trace, &mut players)?;
-    let mut done: u64 = 0;
-    for player in &players {
-        if let Some(ReadLine::Entry { .. }) = trace.line(player.next) {
-            return Err("an entry that cannot be done".into());
-        }
-        done = done.wrapping_add(player.replica.entries());
-    }
-    for k in 1..usize::MAX {
-        match trace.line(k) {
-            Some(ReadLine::Text { site, text }) => {
-                let Some(player) = player_of(&players, site) else {
-                    return Err("a text of no site".into());
-                };
-                if player.replica.text(alloc)?.as_slice() != text.text(alloc)?.as_slice() {
-                    return Err("another text".into());
-                }
-            }
-            Some(_) => {}
-            None => break,
-        }
+    let done = all_done(&trace, &players)?;
+    if !texts_are_right(alloc, &trace, &players)? {
+        return Err("another text".into());
     }
     Ok(done)
 }

@@ -1,70 +1,102 @@
-// Each call by its own name, where there is nothing to be done and where there is.
+// Each call by its own name, where it finds nothing and where it makes an operation.
+use crate::replica::steps::Ask::{
+    Cancel, Delete, DeleteAtom, Insert, InsertAfter, Next, PasteAfter, Propose, ProposeBeside,
+    ProposeRoot,
+};
+use crate::replica::steps::Told::{Cancelled, Gone, Idle, Made, NotOpen, Position};
+use crate::replica::steps::{Ask, Told, atom, dot, id, replicas, reply, run, slot};
+use std::alloc::Global;
+use std::process::Abort;
 use std::test::Fail;
-use td_base::{Atom, AtomId, Bit, Dot, Run, Site};
+use td_base::Bit::Left;
 use td_doc::Rows;
 use td_op::Reply;
 use td_path::Slot;
 use td_replica::Replica;
 
-fn site(number: u8) -> Result<Site, Fail> {
-    Ok(Site::new(number).ok_or("a site")?)
+fn put(replica: &mut Replica<Rows>, ask: Ask) -> Result<Option<Reply>, Fail> {
+    Ok(match ask {
+        Insert(index, letter) => Some(replica.insert(index, atom(letter)?)?),
+        InsertAfter(site, seq, letter) => {
+            let after = Some(id(site, seq)?);
+            Some(replica.insert_after(after, atom(letter)?)?)
+        }
+        PasteAfter(None, letters) => Some(replica.paste(0, run(letters)?)?),
+        PasteAfter(Some((site, seq)), letters) => {
+            let after = Some(id(site, seq)?);
+            Some(replica.paste_after(after, run(letters)?)?)
+        }
+        _ => None,
+    })
 }
 
-fn dot(number: u8, seq: u32) -> Result<Dot, Fail> {
-    Ok(Dot::new(site(number)?, seq).ok_or("a dot")?)
+fn propose(replica: &mut Replica<Rows>, ask: Ask) -> Result<Option<Reply>, Fail> {
+    Ok(match ask {
+        ProposeRoot => Some(replica.propose(Slot::Root)?),
+        ProposeBeside(site, seq, bit) => Some(replica.propose(slot(site, seq, bit)?)?),
+        Propose(index, bit) => Some(replica.propose_at(index, bit)?),
+        Cancel(site, seq) => Some(replica.cancel(dot(site, seq)?)?),
+        _ => None,
+    })
 }
 
-fn id(number: u8, seq: u32) -> Result<AtomId, Fail> {
-    Ok(AtomId::of(dot(number, seq)?))
+// The reply to the call. What is pasted with nothing before it is pasted at index 0.
+fn call(replica: &mut Replica<Rows>, ask: Ask) -> Result<Reply, Fail> {
+    if let Some(reply) = put(replica, ask)? {
+        return Ok(reply);
+    }
+    if let Some(reply) = propose(replica, ask)? {
+        return Ok(reply);
+    }
+    Ok(match ask {
+        Delete(index) => replica.delete(index)?,
+        DeleteAtom(site, seq) => replica.delete_atom(id(site, seq)?)?,
+        _ => replica.next()?,
+    })
 }
 
-fn atom(letter: u8) -> Result<Atom, Fail> {
-    Ok(Atom::new(&[letter]).ok().ok_or("an atom")?)
-}
-
-fn made(seq: u32) -> Result<Reply, Fail> {
-    Ok(Reply::Made { dot: dot(1, seq)? })
+// Site 1 of two is called so, and replies that. The text that it shows then.
+fn calls(rt: &impl Abort, alloc: Global, table: &[(Ask, Told)], text: &str) -> Result<(), Fail> {
+    let mut replicas = replicas(rt, alloc, 2)?;
+    let Some(replica) = replicas.first_mut() else {
+        return Err(Fail::from("a site"));
+    };
+    for (ask, told) in table {
+        let wanted = reply(*told)?;
+        assert!(rt; call(replica, *ask)? == wanted);
+    }
+    assert!(rt; replica.text(alloc)?.as_slice() == text.as_bytes());
+    Ok(())
 }
 
 #[test]
 fn on_an_empty_text_each_call_finds_nothing(rt: HostRuntime) -> Result<(), Fail> {
-    let mut replica: Replica<Rows> = Replica::new(rt.alloc(), site(1)?, 2)?;
-    let gone = Reply::Gone { id: id(1, 1)? };
-    let left = Slot::At {
-        atom: id(1, 1)?,
-        bit: Bit::Left,
-    };
-    assert_eq!(rt; replica.insert(1, atom(b'a')?)?, Reply::Position { len: 0 });
-    let behind = replica.insert_after(Some(id(2, 1)?), atom(b'a')?)?;
-    assert_eq!(rt; behind, Reply::Gone { id: id(2, 1)? });
-    assert_eq!(rt; replica.delete(0)?, Reply::Position { len: 0 });
-    assert_eq!(rt; replica.delete_atom(id(1, 1)?)?, gone);
-    assert_eq!(rt; replica.propose(left)?, gone);
-    assert_eq!(rt;
-        replica.propose_at(0, Bit::Left)?,
-        Reply::Position { len: 0 }
-    );
-    let proposal = dot(1, 1)?;
-    assert_eq!(rt; replica.cancel(proposal)?, Reply::NotOpen { proposal });
-    assert_eq!(rt; replica.next()?, Reply::Idle);
-    assert_eq!(rt; replica.text(rt.alloc())?.as_slice(), b"".as_slice());
-    Ok(())
+    let table = [
+        (Insert(1, b'a'), Position(0)),
+        (InsertAfter(2, 1, b'a'), Gone(2, 1)),
+        (PasteAfter(Some((2, 1)), *b"ab"), Gone(2, 1)),
+        (Delete(0), Position(0)),
+        (DeleteAtom(1, 1), Gone(1, 1)),
+        (ProposeBeside(1, 1, Left), Gone(1, 1)),
+        (Propose(0, Left), Position(0)),
+        (Cancel(1, 1), NotOpen(1, 1)),
+        (Next, Idle),
+    ];
+    calls(&rt, rt.alloc(), &table, "")
 }
 
 #[test]
 fn on_a_text_each_call_makes_an_operation(rt: HostRuntime) -> Result<(), Fail> {
-    let mut replica: Replica<Rows> = Replica::new(rt.alloc(), site(1)?, 2)?;
-    let run = Run::new(&[atom(b'b')?, atom(b'c')?]).ok().ok_or("a run")?;
-    assert_eq!(rt; replica.insert(0, atom(b'x')?)?, made(1)?);
-    assert_eq!(rt; replica.insert_after(None, atom(b'a')?)?, made(2)?);
-    assert_eq!(rt; replica.paste(2, run)?, made(3)?);
-    assert_eq!(rt; replica.paste_after(Some(id(1, 2)?), run)?, made(4)?);
-    assert_eq!(rt; replica.text(rt.alloc())?.as_slice(), b"abcxbc".as_slice());
-    assert_eq!(rt; replica.delete(0)?, made(5)?);
-    assert_eq!(rt; replica.delete_atom(id(1, 1)?)?, made(6)?);
-    assert_eq!(rt; replica.propose_at(0, Bit::Left)?, made(7)?);
-    let proposal = dot(1, 7)?;
-    assert_eq!(rt; replica.cancel(proposal)?, Reply::Cancelled);
-    assert_eq!(rt; replica.text(rt.alloc())?.as_slice(), b"bcbc".as_slice());
-    Ok(())
+    let table = [
+        (Insert(0, b'x'), Made(1, 1)),
+        (InsertAfter(1, 1, b'y'), Made(1, 2)),
+        (PasteAfter(None, *b"ab"), Made(1, 3)),
+        (PasteAfter(Some((1, 2)), *b"cd"), Made(1, 4)),
+        (Delete(0), Made(1, 5)),
+        (DeleteAtom(1, 1), Made(1, 6)),
+        (ProposeRoot, Made(1, 7)),
+        (Cancel(1, 7), Cancelled),
+        (Propose(0, Left), Made(1, 9)),
+    ];
+    calls(&rt, rt.alloc(), &table, "bycd")
 }

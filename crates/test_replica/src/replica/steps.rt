@@ -95,7 +95,7 @@ pub fn dot(number: u8, seq: u32) -> Result<Dot, Fail> {
     }
 }
 
-fn id(site: u8, seq: u32) -> Result<AtomId, Fail> {
+pub fn id(site: u8, seq: u32) -> Result<AtomId, Fail> {
     Ok(AtomId::of(dot(site, seq)?))
 }
 
@@ -106,7 +106,7 @@ pub fn atom(letter: u8) -> Result<Atom, Fail> {
     }
 }
 
-fn slot(site: u8, seq: u32, bit: Bit) -> Result<Slot, Fail> {
+pub fn slot(site: u8, seq: u32, bit: Bit) -> Result<Slot, Fail> {
     Ok(Slot::At {
         atom: id(site, seq)?,
         bit,
@@ -212,7 +212,7 @@ fn input(replicas: &[Replica<Rows>], ask: Ask) -> Result<Input, Fail> {
     })
 }
 
-fn reply(told: Told) -> Result<Reply, Fail> {
+pub fn reply(told: Told) -> Result<Reply, Fail> {
     Ok(match told {
         Told::Made(site, seq) => Reply::Made {
             dot: dot(site, seq)?,

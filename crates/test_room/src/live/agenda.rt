@@ -8,7 +8,7 @@ use td_op::{Reply, Request};
 use td_script::{EditorLine, EditorLines, cut};
 
 // A line of an editor.
-enum Line {
+pub enum Line {
     Ins(u32, &'static str),
     Paste(u32, &'static str),
     Del(u32, u32),
@@ -105,7 +105,8 @@ fn all_done(rt: &impl Abort, alloc: Global, row: &Row) -> Result<String, Fail> {
     Err("more than 8 things to do")?
 }
 
-fn lines_of(rt: &impl Abort, alloc: Global, lines: &[Line]) -> Result<EditorLines, Fail> {
+// The lines of one editor.
+pub fn lines_of(rt: &impl Abort, alloc: Global, lines: &[Line]) -> Result<EditorLines, Fail> {
     let mut all = EditorLines::new(alloc);
     for line in lines {
         let line = line_of(alloc, line)?;

@@ -1,7 +1,5 @@
 // A desk, turn by turn.
-ghost use Rattle.std.specs.Prelude.{◌≤◌, sum_by};
-ghost use Rattle.td_script.specs.LiveScript.{calls};
-
+use crate::live::agenda::{Line, lines_of};
 use std::alloc::Global;
 use std::process::Abort;
 use std::sync::Wait;
@@ -10,18 +8,13 @@ use td_base::{Bytes, Memory, Site};
 use td_line::Always;
 use td_live::{Desk, Went, conclude};
 use td_room::{Worker, room};
-use td_script::{EditorLine, EditorLines, cut};
+use td_script::EditorLines;
 use td_tree::Tree;
 use td_view::Opener;
 
 // The line of an editor that types a letter.
-fn a_letter(alloc: Global) -> Result<EditorLines, Fail> {
-    let mut lines = EditorLines::new(alloc);
-    lines.push(EditorLine::Ins {
-        index: 0,
-        atoms: cut(alloc, "a")?,
-    })?;
-    Ok(lines)
+fn a_letter(rt: &impl Abort, alloc: Global) -> Result<EditorLines, Fail> {
+    lines_of(rt, alloc, &[Line::Ins(0, "a")])
 }
 
 // The worker of a new room of one site, and the desk of its one editor with these lines.
@@ -49,7 +42,7 @@ fn open<R: Wait + Abort>(rt: &R, alloc: Global, lines: EditorLines) -> (Worker<T
 
 #[test]
 fn a_desk_sends_its_call_and_goes_on_when_the_answer_came(rt: HostRuntime) -> Result<(), Fail> {
-    let lines = a_letter(rt.alloc())?;
+    let lines = a_letter(&rt, rt.alloc())?;
     let (mut worker, mut desk) = open(&rt, rt.alloc(), lines);
     let sent = [desk.turn(&rt), desk.turn(&rt)];
     let turned = worker.turn(&rt, &Always);
@@ -87,7 +80,7 @@ fn concluded<R: Wait + Abort>(rt: &R, alloc: Global, lines: EditorLines) -> Resu
 
 #[test]
 fn what_a_desk_has_not_done_is_done_at_the_end(rt: HostRuntime) -> Result<(), Fail> {
-    let lines = a_letter(rt.alloc())?;
+    let lines = a_letter(&rt, rt.alloc())?;
     let trace = concluded(&rt, rt.alloc(), lines)?;
     let told =
         "sites 1\nsite 1\n1 insert 0 \"a\" -> made 1.1\neditor 1 1\ncall 1 1\ntext 1 \"a\"\nend\n";
