@@ -6,40 +6,13 @@ use Rattle.td_trace.specs.declared.log.Did.{Did}
 use Rattle.td_trace.specs.declared.log.Did.TheVariants.{Call, Look}
 use Rattle.td_trace.specs.declared.log.EditorLog.{EditorLog}
 use Rattle.td_report.specs.Trace.{did_said, entry_said, history_said, log_said, numbered, text_said}
-use Rattle.td_report.specs.TraceLines.{TraceLine, SitesAre, HistoryOf, EntryIs, EditorAt, CallIs, LookIs, TextIs}
+use Rattle.td_report.specs.TraceLines.{TraceLine, HistoryOf, EditorAt}
 use Rattle.td_report.specs.TraceLines.{Ended}
+use Rattle.td_reader.specs.Collected.{Collected, collect, told_by}
 use Rattle.td_reader.specs.Form.{IsBeginning, IsFaultyForm, IsTraceOf, IsUnended, cut_lines, said}
 use Rattle.td_reader.specs.Form.{trace_lines}
 use Rattle.td_reader.specs.Values.{TraceValue, IsTraceValue}
 use Rattle.td_reader.proofs.Faults.{same_said, trace_cut}
-
-record Collected : Type 0 where
-  sites : ℕ
-  entries : List TraceEntry
-  histories : List (List TraceEntry)
-  dids : List Did
-  logs : List EditorLog
-  texts : List (List ℕ)
-
-abbrev collect : List TraceLine → Collected
-collect [] = record { sites = 0; entries = []; histories = []; dids = []; logs = []; texts = [] }
-collect (SitesAre n ∷ lines) = record (collect lines) { sites = n }
-collect (HistoryOf site ∷ lines) =
-    record (collect lines) { entries = []; histories = (collect lines).entries ∷ (collect lines).histories }
-collect (EntryIs number entry ∷ lines) = record (collect lines) { entries = entry ∷ (collect lines).entries }
-collect (EditorAt number home ∷ lines) =
-    record (collect lines) {
-      dids = [];
-      logs = record { home = home; did = (collect lines).dids } ∷
-          (collect lines).logs;
-    }
-collect (CallIs call entry ∷ lines) = record (collect lines) { dids = Call call entry ∷ (collect lines).dids }
-collect (LookIs calls upto text ∷ lines) = record (collect lines) {
-  dids = Look calls upto text ∷
-      (collect lines).dids;
-}
-collect (TextIs site text ∷ lines) = record (collect lines) { texts = text ∷ (collect lines).texts }
-collect (Ended ∷ lines) = collect lines
 
 entries_collected : (n : ℕ) (xs : List TraceEntry) (rest : List TraceLine)
     → collect (numbered entry_said n xs ++ rest) ≡ record (collect rest) { entries = xs ++ (collect rest).entries }
@@ -96,11 +69,8 @@ texts_collected n [] rest = refl
 texts_collected n (x ∷ xs) rest = ap (λ (c : Collected). record c { texts = x ∷ c.texts })
     (texts_collected (n + 1) xs rest)
 
-value_of : Collected → TraceValue
-value_of c = record { sites = c.sites; histories = c.histories; logs = c.logs; texts = c.texts }
-
-value_again : (t : TraceValue) → value_of (collect (said t)) ≡ t
-unfolding value_of
+pub value_again : (t : TraceValue) → told_by (said t) ≡ t
+unfolding told_by
 value_again t =
     let last : List TraceLine = Ended ∷ [] in
     let back : List TraceLine = numbered text_said 1 t.texts ++ last in
@@ -122,7 +92,7 @@ value_again t =
 -- no bytes are the traces of two values
 pub one_value : (bytes : List ℕ) (t u : TraceValue) → IsTraceOf bytes t → IsTraceOf bytes u → t ≡ u
 one_value bytes t u h k =
-    sym (value_again t) ∙ ap (λ (lines : List TraceLine). value_of (collect lines))
+    sym (value_again t) ∙ ap (λ (lines : List TraceLine). told_by lines)
     (same_said t u h.0 k.0 (sym h.1 ∙ k.1)) ∙ value_again u
 
 -- ---- no line of a trace is faulty

@@ -23,7 +23,7 @@ use Rattle.td_reader.proofs.Fitting.{trace_fits}
 use Rattle.td_reader.proofs.Lasts.{all_behind, nil_of}
 use Rattle.td_reader.proofs.LineLaws.{FitsLine, line_back, line_there}
 use Rattle.td_reader.proofs.Reaching.{IsAt, at_first, at_line, run, run_behind}
-use Rattle.td_reader.proofs.Running.{can_end, nothing_begins, trace_run, whole_lines}
+use Rattle.td_reader.proofs.Running.{AreWhole, can_end, nothing_begins, trace_run, whole_lines}
 
 -- nothing was read, or lines that can follow each other
 abbrev pub Opened : Reached → List TraceLine → Type 0
@@ -36,9 +36,6 @@ pub record HasRead (bytes rest starts : List ℕ) (r : Reached) : Type 0 where
   pub fit : AllByRecursion FitsLine lines
   pub placed : starts ≡ starts_of 0 lines
   pub whole : bytes ≡ all_written lines ++ rest
-
-pub read_none : (bytes : List ℕ) → HasRead bytes bytes [] nothing_read
-read_none bytes = record { lines = []; opened = inl (refl, refl); fit = tt; placed = refl; whole = refl }
 
 opened_by : (r s : Reached) (lines : List TraceLine) (line : TraceLine) → Opened r lines → FitsLine line
     → reached_by r line ≡ Some s
@@ -66,23 +63,25 @@ starts_more at (l ∷ lines) line =
     ∙ ap (λ (n : ℕ). starts_of (at + length (written l)) lines ++ n ∷ []) same)
 
 pub read_more : (bytes rest starts behind : List ℕ) (r s : Reached) (line : TraceLine) (start : ℕ)
-    → HasRead bytes rest starts r
+    (h : HasRead bytes rest starts r)
     → line_at rest ≡ Some (line, behind) → reached_by r line ≡ Some s → start ≡ length bytes - length rest
-    → HasRead bytes behind (starts ++ start ∷ []) s
+    → (next : HasRead bytes behind (starts ++ start ∷ []) s) × (next.lines ≡ h.lines ++ line ∷ [])
 read_more bytes rest starts behind r s line start h e step is =
     let back = line_back rest line behind e in
     let place : start ≡ 0 + length (all_written h.lines) = omega
-    (arith, ap length h.whole, length-append (all_written h.lines) rest) in
-    record {
-      lines = h.lines ++ line ∷ [];
-      opened = inr (opened_by r s h.lines line h.opened back.fits step);
-      fit = all_behind FitsLine h.lines (line ∷ []) h.fit (back.fits, tt);
-      placed = (λ i. h.placed i ++ place i ∷ []) ∙ sym (starts_more 0 h.lines line);
-      whole = h.whole ∙ ap (λ (t : List ℕ). all_written h.lines ++ t) back.whole
-          ∙ sym (append_assoc (all_written h.lines) (written line) behind)
-          ∙ ap (λ (t : List ℕ). t ++ behind) (sym (flat_map-append written h.lines (line ∷ [])
-          ∙ ap (λ (t : List ℕ). all_written h.lines ++ t) (append-nil (written line))));
-    }
+    (arith, ap length h.whole, length-append (all_written h.lines) rest) in (
+      record {
+        lines = h.lines ++ line ∷ [];
+        opened = inr (opened_by r s h.lines line h.opened back.fits step);
+        fit = all_behind FitsLine h.lines (line ∷ []) h.fit (back.fits, tt);
+        placed = (λ i. h.placed i ++ place i ∷ []) ∙ sym (starts_more 0 h.lines line);
+        whole = h.whole ∙ ap (λ (t : List ℕ). all_written h.lines ++ t) back.whole
+            ∙ sym (append_assoc (all_written h.lines) (written line) behind)
+            ∙ ap (λ (t : List ℕ). t ++ behind) (sym (flat_map-append written h.lines (line ∷ [])
+            ∙ ap (λ (t : List ℕ). all_written h.lines ++ t) (append-nil (written line))));
+      },
+      refl,
+    )
 
 -- ---- no bytes are two lines
 
@@ -157,7 +156,7 @@ take_front (x ∷ xs) ys (suc n) e = ap (λ t. x ∷ t) (take_front xs ys n (ome
 split_one : {X : Type 0} (xs : List X) (y : X) (ys : List X) → xs ++ y ∷ ys ≡ (xs ++ y ∷ []) ++ ys
 split_one xs y ys = sym (append_assoc xs (y ∷ []) ys)
 
-count_of : (lines : List TraceLine) (starts : List ℕ) (at : ℕ) → starts ≡ starts_of at lines
+pub count_of : (lines : List TraceLine) (starts : List ℕ) (at : ℕ) → starts ≡ starts_of at lines
     → length starts ≡ length lines
 count_of lines starts at e = ap length e ∙ counted lines at
   where
@@ -262,21 +261,13 @@ missing_end bytes rest starts r h none open_end =
         at_more (l ∷ more) splits none = no_cons (written l) (map written more) (sym none)
 
 -- all was read
-pub all_read : (bytes rest starts : List ℕ) (r : Reached) → HasRead bytes rest starts r → rest ≡ []
-    → r.is_ended ≡ true → IsPlaced bytes starts
-all_read bytes rest starts r h none ended = at_opened h.opened
+pub whole_read : (bytes rest starts : List ℕ) (r : Reached) (h : HasRead bytes rest starts r) → r.is_ended ≡ true
+    → AreWhole r h.lines
+whole_read bytes rest starts r h ended = at_opened h.opened
   where
-    at_opened : Opened r h.lines → IsPlaced bytes starts
+    at_opened : Opened r h.lines → AreWhole r h.lines
     at_opened (inl o) = absurd (true≢false (sym ended ∙ ap (λ (f : Reached). f.is_ended) o.0))
-    at_opened (inr at) =
-        let lines = whole_lines r h.lines at ended in
-        record {
-          value = lines.value;
-          is = lines.is;
-          whole = h.whole ∙ ap (λ (t : List ℕ). all_written h.lines ++ t) none ∙ append-nil (all_written h.lines)
-              ∙ ap all_written lines.lines_are;
-          placed = h.placed ∙ ap (starts_of 0) lines.lines_are;
-        }
+    at_opened (inr at) = whole_lines r h.lines at ended
 
 -- ---- how many lines there are
 
@@ -408,14 +399,6 @@ pub missing_rest : (bytes rest starts : List ℕ) (r : Reached) (number : ℕ) �
 missing_rest bytes rest starts r number h none open_end e =
     subst (IsFaultyForm (cut_lines bytes)) (sym e) (missing_end bytes rest starts r h
     (nil_of rest (eqb-true (length rest) 0 none)) open_end)
-
-pub placed_rest : (bytes rest starts : List ℕ) (r : Reached) → HasRead bytes rest starts r → eqb
-    (length rest) 0 ≡ true → r.is_ended ≡ true → IsPlaced bytes starts
-placed_rest bytes rest starts r h none ended = all_read bytes rest starts r h
-    (nil_of rest (eqb-true (length rest) 0 none)) ended
-
-pub trace_of_placed : (bytes starts : List ℕ) → IsPlaced bytes starts → (t : TraceValue) × IsTraceOf bytes t
-trace_of_placed bytes starts h = (h.value, (h.is, h.whole))
 
 pub line_is : (bytes starts rest : List ℕ) (h : IsPlaced bytes starts) (k start : ℕ) (line : TraceLine)
     (more : List ℕ) → slice_get starts k ≡ Some start

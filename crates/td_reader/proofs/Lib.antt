@@ -15,3 +15,5 @@ pub mod Feeds
 pub mod Fitting
 pub mod Faults
 pub mod Collecting
+pub mod PartLines
+pub mod Kept

@@ -257,12 +257,13 @@ begins_late r lines h still late =
     ∙ ap (λ (s : List TraceLine). s ++ (d ++ Ended ∷ [])) (sym (h.said ∙ ap (opening v) still)))
 
 -- lines that were all read are those of a trace
-pub record AreWhole (lines : List TraceLine) : Type 0 where
+pub record AreWhole (r : Reached) (lines : List TraceLine) : Type 0 where
   pub value : TraceValue
   pub is : IsTraceValue value
+  pub sites_are : r.sites ≡ value.sites
   pub lines_are : lines ≡ said value
 
-pub whole_lines : (r : Reached) (lines : List TraceLine) → IsAt r lines → r.is_ended ≡ true → AreWhole lines
+pub whole_lines : (r : Reached) (lines : List TraceLine) → IsAt r lines → r.is_ended ≡ true → AreWhole r lines
 whole_lines r lines h ended = record {
   value = h.value;
   is = record {
@@ -274,6 +275,7 @@ whole_lines r lines h ended = record {
     each_text = (h.ended ended).1;
     texts = h.utf8;
   };
+  sites_are = h.sites;
   lines_are = h.said ∙ ap (opening h.value) ended;
 }
 

@@ -1,10 +1,10 @@
 -- Texts in their quotes: what is written is read, and what is read is what is written of its value.
-use Rattle.std.proofs.Common.{◌≡◌, ◌≢◌, ◌<◌, ℕ, zero, suc, Bool, true, false, not, cond, eqb, ◌&&◌}
+use Rattle.std.proofs.Common.{◌≡◌, ◌≢◌, ◌<◌, ◌+◌, ℕ, zero, suc, Bool, true, false, not, cond, eqb, ◌&&◌}
 use Rattle.std.proofs.Common.{◌||◌, List, [], ◌∷◌, ◌++◌, length, get_or, take, drop, Option, Some, None, refl, sym}
 use Rattle.std.proofs.Common.{ap, subst, ◌∙◌, append_assoc, length-append, arith, true≢false}
 use Rattle.std.specs.List.{flat_map}
 use Rattle.std.specs.Str.{IsUtf8, is_utf8}
-use Rattle.std.proofs.lemmas.Bool.{cond-true, cond-false, eqb-true, ne_eqb, false≢true}
+use Rattle.std.proofs.lemmas.Bool.{cond-true, cond-false, eq-eqb, eqb-true, ne_eqb, false≢true}
 use Rattle.std.proofs.lemmas.Bool.{false_from_ne_true}
 use Rattle.std.proofs.lemmas.List.{length-take-le}
 use Rattle.std.proofs.lemmas.Option.{none-some, same_Some, some_pair_parts, cond_some}
@@ -242,3 +242,32 @@ pub too_long : (bytes raw rest : List ℕ) (len : ℕ) → len ≡ 64 → length
 too_long bytes raw rest len full size some whole =
     let front : length (take len bytes) ≡ len = length-take-le len bytes (omega arith) in
     omega (arith, ap length whole, length-append (take len bytes) rest)
+
+-- ---- how long a text is, a byte further
+
+pub start_escape : (raw : List ℕ) (i : ℕ) → i < length raw → get_or raw i 0 ≡ 92
+    → length (plain false (drop i raw)) ≡ length (plain true (drop (i + 1) raw))
+start_escape [] i inside is = absurd (omega arith)
+start_escape (b ∷ raw) zero inside is = ap length (cond-true (eqb b 92) (plain true raw) (b ∷ plain false raw)
+    (eq-eqb b 92 is))
+start_escape (b ∷ raw) (suc i) inside is =
+    let same : suc (i + 1) ≡ suc i + 1 = omega arith in
+    start_escape raw i (omega arith) is ∙ ap (λ (n : ℕ). length (plain true (drop n (b ∷ raw)))) same
+
+pub one_plain : (raw : List ℕ) (i : ℕ) → i < length raw → get_or raw i 0 ≢ 92
+    → length (plain false (drop i raw)) ≡ 1 + length (plain false (drop (i + 1) raw))
+one_plain [] i inside other = absurd (omega arith)
+one_plain (b ∷ raw) zero inside other =
+    let is = ap length (cond-false (eqb b 92) (plain true raw) (b ∷ plain false raw) (ne_eqb b 92 other)) in
+    omega (arith, is)
+one_plain (b ∷ raw) (suc i) inside other =
+    let same : suc (i + 1) ≡ suc i + 1 = omega arith in
+    one_plain raw i (omega arith) other ∙ ap (λ (n : ℕ). 1 + length (plain false (drop n (b ∷ raw)))) same
+
+pub one_escaped : (raw : List ℕ) (i : ℕ) → i < length raw
+    → length (plain true (drop i raw)) ≡ 1 + length (plain false (drop (i + 1) raw))
+one_escaped [] i inside = absurd (omega arith)
+one_escaped (b ∷ raw) zero inside = omega arith
+one_escaped (b ∷ raw) (suc i) inside =
+    let same : suc (i + 1) ≡ suc i + 1 = omega arith in
+    one_escaped raw i (omega arith) ∙ ap (λ (n : ℕ). 1 + length (plain false (drop n (b ∷ raw)))) same

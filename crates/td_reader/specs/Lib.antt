@@ -6,6 +6,9 @@ pub mod Requests
 pub mod Replies
 pub mod Lines
 pub mod Said
+pub mod Collected
+pub mod LineNumbers
+pub mod Parts
 pub mod Reached
 pub mod Places
 pub mod Answers

@@ -1,5 +1,6 @@
 // What the form of a trace comes to: a trace has no faulty line, and no bytes are the traces of two values.
 ghost use Rattle.std.specs.Prelude.{◌≡◌, ℕ, List};
+ghost use Rattle.td_reader.specs.LineNumbers.{LinesAreNumbered};
 ghost use Rattle.td_reader.specs.Form.{IsFaultyForm, IsTraceOf, cut_lines};
 ghost use Rattle.td_reader.specs.Values.{TraceValue};
 
@@ -14,4 +15,10 @@ pub fn written_traces_have_no_fault()
 #[tactic(auto, using(crate::proofs::Collecting::one_value))]
 pub fn bytes_are_the_trace_of_one_value()
     ensures { (bytes : List ℕ) (t u : TraceValue) → IsTraceOf bytes t → IsTraceOf bytes u → t ≡ u }
+{}
+
+/// The line of each entry, of what each editor did, of each text and of the end is the one that its number says.
+#[tactic(auto, using(crate::proofs::PartLines::numbered_lines))]
+pub fn lines_are_where_their_numbers_say()
+    ensures { (t : TraceValue) → LinesAreNumbered t }
 {}

@@ -1,4 +1,4 @@
-ghost use Rattle.std.specs.Prelude.{◌≡◌, ◌≤◌, ◌<◌, false, length, take, ◌++◌, IfOk};
+ghost use Rattle.std.specs.Prelude.{◌≡◌, ◌≤◌, ◌<◌, ◌↔◌, IsTrue, false, length, take, ◌++◌, IfOk};
 ghost use Rattle.std.specs.Prelude.{OnOk, IfSome, IfNone, MatchOption, None, Some, if◌then◌else◌};
 ghost use Rattle.td_reader.specs.Arguments.{is_atom_len, is_escape, plain, raw_at, text_at, turned, unescaped};
 
@@ -24,6 +24,20 @@ impl<'a> Model for Quoted<'a> {
 }
 
 impl Quoted<'_> {
+    /// The length of the text in bytes. Takes no memory.
+    pub fn len(&self) -> usize
+        ensures { result ≡ length self.now }
+    {
+        plain_len(self.raw)
+    }
+
+    /// Whether it is this text. Takes no memory.
+    pub fn is(&self, text: &[u8]) -> bool
+        ensures { IsTrue result ↔ (self.now ≡ text.now) }
+    {
+        is_plain(self.raw, text)
+    }
+
     /// The text.
     pub fn text(&self, alloc: Global) -> Result<Bytes, Memory>
         ensures { IfOk result (λ text. text ≡ self.now) }
@@ -99,6 +113,44 @@ fn unescaped(byte: u8) -> u8
     ensures { result ≡ unescaped byte }
 {
     if byte == b'n' { b'\n' } else { byte }
+}
+
+// The length of the text that stands so.
+fn plain_len(raw: &[u8]) -> usize
+    ensures { result ≡ length (plain false raw.now) }
+{
+    let mut len = 0;
+    let mut is_escaped = false;
+    for byte in raw {
+        if !is_escaped && *byte == b'\\' {
+            is_escaped = true;
+        } else {
+            len += 1;
+            is_escaped = false;
+        }
+    }
+    len
+}
+
+// Whether the text that stands so is this one.
+fn is_plain(raw: &[u8], text: &[u8]) -> bool
+    ensures { IsTrue result ↔ (plain false raw.now ≡ text.now) }
+{
+    let mut at = 0;
+    let mut is_escaped = false;
+    for byte in raw {
+        if !is_escaped && *byte == b'\\' {
+            is_escaped = true;
+        } else {
+            let byte = if is_escaped { unescaped(*byte) } else { *byte };
+            if at == text.len() || text[at] != byte {
+                return false;
+            }
+            at += 1;
+            is_escaped = false;
+        }
+    }
+    at == text.len()
 }
 
 // The text that stands so, at the end.

@@ -42,6 +42,13 @@ impl Reached {
         self.is_ended
     }
 
+    /// How many sites there are.
+    pub(crate) fn sites(self) -> u8
+        ensures { result ≡ self.sites }
+    {
+        self.sites
+    }
+
     /// With one more line, where it can be the next.
     pub(crate) fn by(self, line: &ReadLine<'_>) -> Option<Reached>
         ensures { result ≡ reached_by self (said_by line.now) }

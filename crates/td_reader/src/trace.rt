@@ -1,8 +1,8 @@
 ghost use Rattle.std.specs.Prelude.{◌≡◌, ◌≤◌, length, IfErr, IfOk};
 ghost use Rattle.td_reader.specs.Answers.{IsReadTraceFault};
 ghost use Rattle.td_reader.specs.Form.{IsTraceOf};
-ghost use Rattle.td_reader.specs.Values.{TraceValue};
 
+use crate::parts::Parts;
 use crate::places::ReadTrace;
 use crate::reached::Reached;
 use crate::read_line::line;
@@ -21,13 +21,15 @@ pub enum ReadTraceFault {
     Memory,
 }
 
-/// Reads a trace, of at most `MAX_TRACE` bytes. Takes 4 bytes of memory for each line.
+/// Reads a trace, of at most `MAX_TRACE` bytes. Takes 4 bytes of memory for each line, and 4 more for each site and for
+/// each editor.
 pub fn read_trace(alloc: Global, bytes: &[u8]) -> Result<ReadTrace<'_>, ReadTraceFault>
     requires { length bytes.now ≤ MAX_TRACE }
-    ensures ok { IfOk result (λ trace. (trace ≡ bytes.now) × (t : TraceValue) × IsTraceOf bytes.now t) }
+    ensures ok { IfOk result (λ trace. IsTraceOf bytes.now trace) }
     ensures fault { IfErr result (IsReadTraceFault bytes.now) }
 {
     let mut starts = Vec::new(alloc);
+    let mut parts = Parts::new(alloc);
     let mut reached = Reached::nothing();
     let mut rest = bytes;
     while !rest.is_empty() {
@@ -37,6 +39,9 @@ pub fn read_trace(alloc: Global, bytes: &[u8]) -> Result<ReadTrace<'_>, ReadTrac
         };
         let Some(next) = reached.by(&read) else {
             return Err(ReadTraceFault::Form { line: number });
+        };
+        let Ok(()) = parts.note(&read, number - 1) else {
+            return Err(ReadTraceFault::Memory);
         };
         let start = bytes.len() - rest.len();
         let Ok(()) = starts.push(start as u32) else {
@@ -49,5 +54,10 @@ pub fn read_trace(alloc: Global, bytes: &[u8]) -> Result<ReadTrace<'_>, ReadTrac
         let number = starts.len() as u32 + 1;
         return Err(ReadTraceFault::Form { line: number });
     }
-    Ok(ReadTrace::of(bytes, starts))
+    let sites = reached.sites();
+    let texts = starts.len() - usize::from(sites) - 1;
+    let Ok(()) = parts.push(texts as u32) else {
+        return Err(ReadTraceFault::Memory);
+    };
+    Ok(ReadTrace::of(bytes, starts, parts, sites))
 }

@@ -1,10 +1,16 @@
 -- Counting along the entries of a site.
-use Rattle.std.proofs.Common.{◌≡◌, ◌<◌, ◌≤◌, ◌+◌, ◌-◌, ◌++◌, List, [], ◌∷◌, ℕ, zero, suc, Bool, true, false, if◌then◌else◌, nat_eq, nat_le, get_or, set, Option, Some, None, refl, ap, ◌∙◌, arith}
-use Rattle.std.proofs.lemmas.Bool.{leb-true, false_from_ne_true}
+use Rattle.std.proofs.Common.{◌≡◌, ◌<◌, ◌≤◌, ◌+◌, ◌-◌, ◌++◌, List, [], ◌∷◌, ℕ, zero, suc, Bool, true, false, if◌then◌else◌, nat_eq, nat_le, get_or, set, length, Option, Some, None, option_and_then, All, refl, ap, ◌∙◌, arith}
+use Rattle.std.specs.List.{list_all}
+use Rattle.std.proofs.lemmas.Bool.{leb-true, le-leb, false_from_ne_true}
+use Rattle.std.proofs.lemmas.Option.{same_Some}
+use Rattle.std.proofs.lemmas.List.Elements.{All-weaker}
+use Rattle.std.proofs.lemmas.List.Sums.{list_all-from_AllPass}
 use Rattle.td_base.specs.Value.{DotValue}
-use Rattle.td_clock.specs.Vector.{vector_get, vector_set, vector_bump}
+use Rattle.td_base.specs.declared.dot.TheConstants.{MAX_SEQ}
+use Rattle.td_clock.specs.Vector.{IsVector, vector_get, vector_set, vector_bump}
 use Rattle.td_trace.specs.declared.entry.TraceEntry.{TraceEntry}
-use Rattle.td_replay.specs.Counting.{Count, count_entry, makes, raised, with_use, used, deps_from}
+use Rattle.td_replay.specs.Counting.{Count, count_entry, makes, raised, with_use, used, no_count, deps_from, in_vector, made_deps}
+use Rattle.td_replay.specs.Traced.{site_entries}
 use Rattle.td_op.specs.declared.reply.Reply.{Reply}
 use Rattle.td_op.specs.declared.reply.Reply.TheVariants.{Made, Cancelled}
 
@@ -109,3 +115,33 @@ deps_counted site n q c (l ∷ rest) deps e =
         ≤ vector_get (count_entries site n (count_entry site n c l) rest).have site =
         count_up site n site (count_entry site n c l) rest in omega (arith, low, up)
     at false f k ih = ih k
+
+-- ---- numbers in a vector
+
+pub in_vector_is : (v : List ℕ) → All (λ (k : ℕ). k ≤ MAX_SEQ) v → in_vector v ≡ Some v
+in_vector_is v small =
+    ap (λ (b : Bool). if b then Some v else None)
+    (list_all-from_AllPass (λ (k : ℕ). nat_le k MAX_SEQ) v
+    (All-weaker (λ (k : ℕ). k ≤ MAX_SEQ) (λ (k : ℕ). nat_le k MAX_SEQ ≡ true) (λ k h. le-leb k MAX_SEQ h) v small))
+
+pub vector_in : (v w : List ℕ) → in_vector v ≡ Some w → v ≡ w
+vector_in v w e = at (list_all (λ (k : ℕ). nat_le k MAX_SEQ) v) e
+  where
+    at : (b : Bool) → (if b then Some v else None) ≡ Some w → v ≡ w
+    at true k = same_Some v w k
+    at false k = absurd cc
+
+pub made_deps_is : (all : List (List TraceEntry)) (d : DotValue) (deps : List ℕ) → IsVector deps
+    → deps_from d.site (length all) d.seq (no_count (length all)) (site_entries all d.site) ≡ Some deps
+    → made_deps all d ≡ Some deps
+made_deps_is all d deps vector told =
+    ap (λ (found : Option (List ℕ)). option_and_then in_vector found) told ∙ in_vector_is deps vector.small
+
+pub deps_made : (all : List (List TraceEntry)) (d : DotValue) (deps : List ℕ) → made_deps all d ≡ Some deps
+    → deps_from d.site (length all) d.seq (no_count (length all)) (site_entries all d.site) ≡ Some deps
+deps_made all d deps e =
+    at (deps_from d.site (length all) d.seq (no_count (length all)) (site_entries all d.site)) e
+  where
+    at : (found : Option (List ℕ)) → option_and_then in_vector found ≡ Some deps → found ≡ Some deps
+    at None k = absurd cc
+    at (Some v) k = ap (λ (w : List ℕ). Some w) (vector_in v deps k)

@@ -44,7 +44,8 @@ use Rattle.td_replay.specs.Judging.{States, begin, made_op, Lost, Waits, Steps, 
 use Rattle.td_replay.specs.Replies.{is_new, taken_of, NotUnfit}
 use Rattle.td_replay.proofs.Outlined.{outlined_step, local_outlined, vote_outlined, new_outlined, known_outlined, IsResumed, resumed_here, resumed_outlined, idle_outlined}
 use Rattle.td_replay.proofs.Matching.{take_parts}
-use Rattle.td_replay.proofs.Telling.{entries_there, made_deps_of}
+use Rattle.td_replay.proofs.Made.{made_deps_of}
+use Rattle.td_replay.proofs.Telling.{entries_there}
 use Rattle.td_replay.specs.Ended.{IsBehind, outlined}
 
 -- ---- replies

@@ -1,5 +1,5 @@
 -- What an entry that is done came to.
-use Rattle.std.proofs.Common.{◌≡◌, ◌≢◌, ◌<◌, ◌≤◌, ◌-◌, ◌||◌, List, [], ◌∷◌, ℕ, Bool, true, false, not, if◌then◌else◌, nat_eq, nat_le, length, Option, Some, None, refl, sym, ap, ◌∙◌, arith}
+use Rattle.std.proofs.Common.{◌≡◌, ◌≢◌, ◌<◌, ◌≤◌, ◌-◌, ◌||◌, List, [], ◌∷◌, ℕ, Bool, true, false, not, if◌then◌else◌, nat_eq, nat_le, length, Option, Some, None, option_and_then, refl, sym, ap, ◌∙◌, arith}
 use Rattle.std.proofs.lemmas.List.{get_or_past}
 use Rattle.std.proofs.lemmas.Bool.{eqb-true, eqb-false, leb-true, leb-false}
 use Rattle.td_base.specs.Value.{DotValue}
@@ -13,7 +13,7 @@ use Rattle.td_machine.specs.Taking.{Stepped}
 use Rattle.td_machine.specs.Step.{step}
 use Rattle.td_trace.specs.declared.entry.TraceEntry.{TraceEntry}
 use Rattle.td_trace.specs.declared.told_input.ToldInput.TheVariants.{TookOp, TookVote, Went}
-use Rattle.td_replay.specs.Counting.{deps_from, no_count, made_deps}
+use Rattle.td_replay.specs.Counting.{deps_from, no_count, in_vector, made_deps}
 use Rattle.td_replay.specs.Judging.{outline, States, made_op, Lost, Waits, Steps, take_waiting, judge_offer, judge_taken, judge_next, judge}
 use Rattle.td_replay.specs.Replies.{is_new, taken_of}
 use Rattle.td_replay.specs.Traced.{site_entries}
@@ -126,8 +126,8 @@ made_deps_within all d deps e = at (nat_le d.site (length all)) refl
     at false f =
         let past : length all < d.site = leb-false d.site (length all) f in
         let none : site_entries all d.site ≡ [] = get_or_past all (d.site - 1) [] (omega (arith, past)) in
-        absurd (never (sym (ap (λ (l : List TraceEntry). deps_from d.site (length all) d.seq
-        (no_count (length all)) l) none) ∙ e))
+        absurd (never (sym (ap (λ (l : List TraceEntry). option_and_then in_vector
+        (deps_from d.site (length all) d.seq (no_count (length all)) l)) none) ∙ e))
       where
         never : None ≡ Some deps → ⊥
         never k = cc

@@ -10,6 +10,7 @@ pub mod Bare
 pub mod Posted
 pub mod Judging
 pub mod Values
+pub mod Made
 pub mod Seen
 pub mod Origins
 pub mod Sound

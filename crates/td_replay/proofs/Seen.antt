@@ -44,7 +44,7 @@ use Rattle.td_replay.proofs.Matching.{Matches, StillMatches, matches_step, match
 use Rattle.td_replay.proofs.Values.{values_of}
 use Rattle.td_replay.proofs.Telling.{More, more, same_site, own_had, made_in_step}
 use Rattle.td_replay.proofs.Going.{new_is, taken_is, new_takes}
-use Rattle.td_replay.proofs.Counts.{is_made, count_entries, count_snoc, deps_skip}
+use Rattle.td_replay.proofs.Counts.{is_made, count_entries, count_snoc, deps_skip, made_deps_is}
 use Rattle.td_replay.proofs.Bare.{bare, new_bare, IsKept, known_kept, IsTakenUp, taken_up, resumed_bare, idle_kept}
 use Rattle.td_replay.proofs.Judging.{same_steps, VoteJudged, vote_judged, Offer, Used, Known, offer_judged, Onward, Idles, TakesUp, onward_judged, made_deps_within}
 
@@ -200,6 +200,7 @@ module _ (all : List (List TraceEntry)) (t : AreInRange all) (site : ℕ) (some 
               let skip : deps_from site n x.dot.seq (no_count n) (s.done ++ entry ∷ rest)
               ≡ deps_from site n x.dot.seq c (entry ∷ rest) =
               deps_skip site n x.dot.seq (no_count n) s.done (entry ∷ rest) (omega (arith, before, new)) in
+              let told : deps_from x.dot.site n x.dot.seq (no_count n) (site_entries all x.dot.site) ≡ Some x.deps =
               ap (λ (k : ℕ). deps_from k n x.dot.seq (no_count n) (site_entries all k)) e
               ∙ ap (λ (l : List TraceEntry). deps_from site n x.dot.seq (no_count n) l) splits_on
               ∙ skip
@@ -210,7 +211,8 @@ module _ (all : List (List TraceEntry)) (t : AreInRange all) (site : ℕ) (some 
               (le-leb x.dot.seq (vector_get (count_entry site n c entry).have site) (omega (arith, after_, low)))
               ∙ ap (λ (v : List ℕ). Some (vector_set v site (x.dot.seq - 1))) s.matches.have
               ∙ ap (λ (k : ℕ). Some (vector_set m.have k (x.dot.seq - 1))) (sym s.here)
-              ∙ ap (λ (v : List ℕ). Some v) (sym deps)
+              ∙ ap (λ (v : List ℕ). Some v) (sym deps) in
+              made_deps_is all x.dot x.deps (values_of (bare to.machine) now_reached x i).deps told
 
   -- nothing is made or taken
   stay_on : (to : Stepped) → bare to.machine ≡ bare m

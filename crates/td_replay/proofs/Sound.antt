@@ -48,7 +48,7 @@ use Rattle.td_replay.specs.Traced.{site_entries, IsTold, AreInRange}
 use Rattle.td_replay.proofs.Outlined.{with, outlined_step, local_outlined, vote_outlined, new_outlined, waits_outlines, next_outlines, misfit_with, offered_to, put_outlines, IsResumed, resumed_outlined, idle_outlined}
 use Rattle.td_replay.proofs.Telling.{reached_after, same_site}
 use Rattle.td_replay.proofs.Going.{new_is, taken_is}
-use Rattle.td_replay.proofs.Counts.{count_entries, deps_counted}
+use Rattle.td_replay.proofs.Counts.{count_entries, deps_counted, deps_made}
 use Rattle.td_replay.proofs.Bare.{bare, IsTakenUp, taken_up, idle_kept}
 use Rattle.td_replay.proofs.Posted.{posts}
 use Rattle.td_replay.proofs.Judging.{same_steps, VoteJudged, vote_judged, Offer, Used, Known, offer_judged, Onward, Idles, TakesUp, onward_judged, made_deps_within}
@@ -266,7 +266,7 @@ module _ (all : List (List TraceEntry)) (t : AreInRange all) (last : States) whe
         let whole : site_entries all d.site ≡ s.done =
         s.splits ∙ ap (λ (l : List TraceEntry). s.done ++ l) (over d.site some within) ∙ append-nil s.done in
         let low : d.seq ≤ vector_get (count_entries d.site n (no_count n) (site_entries all d.site)).have d.site =
-        deps_counted d.site n d.seq (no_count n) (site_entries all d.site) deps e in
+        deps_counted d.site n d.seq (no_count n) (site_entries all d.site) deps (deps_made all d deps e) in
         let count : vector_get (count_entries d.site n (no_count n) (site_entries all d.site)).have d.site
         ≡ vector_get m.have d.site =
         ap (λ (l : List TraceEntry). vector_get (count_entries d.site n (no_count n) l).have d.site) whole

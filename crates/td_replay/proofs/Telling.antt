@@ -347,19 +347,3 @@ pub entries_there : (family : Family) (k : ℕ)
 entries_there [] k = refl
 entries_there (h ∷ family) zero = refl
 entries_there (h ∷ family) (suc k) = entries_there family k
-
-pub made_deps_of : (family : Family) (c : IsConsistent family) (x : OpValue) → IsOpOf family x
-    → made_deps (traced_family family) x.dot ≡ Some x.deps
-made_deps_of family c x o =
-    let n : ℕ = length family in
-    let site : ℕ = x.dot.site in
-    let p = made_at family c x o in
-    let seq : vector_get x.deps x.dot.site + 1 ≡ x.dot.seq = (valid_of family c x o).next in
-    let some : 0 < site = p.0 in
-    let within : site ≤ n = p.1 in
-    let zero_made : made (start site n) ≡ 0 = get_or-replicate n (site - 1) 0 0 (omega (arith, some, within)) in
-    let many : length (traced_family family) ≡ n = length-map family traced_history in
-    ap (λ (k : ℕ). deps_from site k x.dot.seq (no_count k) (site_entries (traced_family family) site)) many
-    ∙ ap (λ (l : List TraceEntry). deps_from site n x.dot.seq (no_count n) l) (entries_there family (site - 1))
-    ∙ tells (history family site) (start site n) (reached_start site n some within c.legal.few) (no_count n)
-    (matches_start site n) (c.legal.legal site some within) x p.2 refl (omega (arith, seq, zero_made))

@@ -1,9 +1,10 @@
 -- Which operations a site made, with what they depend on, read from its entries alone. Its k-th operation is the one
 -- after which k are counted, whatever dot its entry prints.
-use Rattle.std.specs.Prelude.{List, [], ◌∷◌, ℕ, zero, suc, ◌+◌, ◌-◌, Bool, true, false, ◌&&◌, not, length, filter, replicate, Option, Some, None, if◌then◌else◌, ◌==◌, nat_le}
-use Rattle.std.specs.List.{list_any}
+use Rattle.std.specs.Prelude.{List, [], ◌∷◌, ℕ, zero, suc, ◌+◌, ◌-◌, Bool, true, false, ◌&&◌, not, length, filter, replicate, Option, Some, None, option_and_then, if◌then◌else◌, ◌==◌, nat_le}
+use Rattle.std.specs.List.{list_any, list_all}
 use Rattle.td_base.specs.Value.{DotValue}
 use Rattle.td_base.specs.Equality.{same_dot}
+use Rattle.td_base.specs.declared.dot.TheConstants.{MAX_SEQ}
 use Rattle.td_clock.specs.Vector.{vector_get, vector_set, vector_bump}
 use Rattle.td_op.specs.declared.request.Request.{Request}
 use Rattle.td_op.specs.declared.request.Request.TheVariants.{Propose, ProposeAt}
@@ -104,6 +105,12 @@ deps_from site n q c (e ∷ rest) =
     if nat_le q (vector_get (count_entry site n c e).have site) then Some (vector_set c.have site (q - 1))
     else deps_from site n q (count_entry site n c e) rest
 
+-- the numbers of a vector are at most MAX_SEQ: what counts more depends on no operations that can be
+abbrev pub in_vector : List ℕ → Option (List ℕ)
+in_vector deps = if list_all (λ (k : ℕ). nat_le k MAX_SEQ) deps then Some deps else None
+
 -- the dependencies of the operation with this dot, where an entry of its site made it
 abbrev pub made_deps : List (List TraceEntry) → DotValue → Option (List ℕ)
-made_deps all d = deps_from d.site (length all) d.seq (no_count (length all)) (site_entries all d.site)
+made_deps all d =
+    option_and_then in_vector
+    (deps_from d.site (length all) d.seq (no_count (length all)) (site_entries all d.site))

@@ -98,7 +98,7 @@ pub fn the_order_of_sites_makes_no_difference()
 
 /// What the entries of a site say that it made, it made: of each operation of a consistent family they tell what it
 /// depends on, whatever dots they print.
-#[tactic(auto, using(crate::proofs::Telling::made_deps_of))]
+#[tactic(auto, using(crate::proofs::Made::made_deps_of))]
 pub fn entries_tell_what_was_made()
     ensures { (family : Family) → IsConsistent family → (x : OpValue) → IsOpOf family x
         → made_deps (traced_family family) x.dot ≡ Some x.deps }

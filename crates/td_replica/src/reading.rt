@@ -1,11 +1,13 @@
 // What a replica tells of itself. Of these calls only `text` takes memory.
 ghost use Rattle.std.specs.Prelude.{◌≡◌, ◌≤◌, length, not, slice_get, IfOk};
+ghost use Rattle.std.specs.List.{find};
 ghost use Rattle.td_op.specs.declared.input.Input.TheVariants.{Take, Next};
 ghost use Rattle.td_doc.specs.Document.{text_of};
 ghost use Rattle.td_machine.specs.Counts.{ops_of};
 ghost use Rattle.td_machine.specs.Hold.{held_over};
 ghost use Rattle.td_machine.specs.Log.{decision};
 ghost use Rattle.td_machine.specs.Machine.{made, undecided};
+ghost use Rattle.td_machine.specs.Ready.{is_dot_of};
 ghost use Rattle.td_machine.specs.Step.{step};
 ghost use Rattle.td_history.specs.Past.{kth};
 ghost use Rattle.td_replica.specs.Replica.{IsReplica, is_repeat, is_idle};
@@ -140,6 +142,14 @@ impl<D: Doc> Replica<D> {
         ensures { result ≡ slice_get (ops_of site self.now.machine.log) 0 }
     {
         self.state.past.last_of(site)
+    }
+
+    /// The operation with this dot that was made or taken here.
+    pub fn op(&self, dot: Dot) -> Option<Op>
+        ensures { result ≡ find (is_dot_of dot) self.now.machine.log }
+    {
+        let number = self.state.past.find(dot)?;
+        self.state.past.op(number)
     }
 
     /// The least proposal whose held slot overlaps the slot, which is the root or has a row as its atom.
