@@ -1,4 +1,5 @@
-// What the form of a trace comes to: a trace has no faulty line, and no bytes are the traces of two values.
+// What the form of a trace comes to: a trace has no faulty line, no bytes are the traces of two values, and each line
+// has its number.
 ghost use Rattle.std.specs.Prelude.{◌≡◌, ℕ, List};
 ghost use Rattle.td_reader.specs.LineNumbers.{LinesAreNumbered};
 ghost use Rattle.td_reader.specs.Form.{IsFaultyForm, IsTraceOf, cut_lines};
