@@ -1,5 +1,6 @@
 -- What a run promises, by what came of the command and by what the sink took.
-use Rattle.std.proofs.Common.{◌≡◌, ◌<◌, ◌≤◌, ◌+◌, ◌⊎◌, ℕ, List, [], ◌∷◌, Bool, length, Option, Some, None, Result, Ok, Err}
+use Rattle.std.proofs.Common.{◌≡◌, ◌<◌, ◌≤◌, ◌+◌, ◌⊎◌, ℕ, List, [], ◌∷◌, Bool, length, Option, Some, None, Result, Ok}
+use Rattle.std.proofs.Common.{Err}
 use Rattle.std.proofs.Common.{codes, if◌then◌else◌, refl, sym, ap, ◌∙◌, subst, ⊎_elim, inl, inr, arith}
 use Rattle.std.specs.Prelude.{IfOk, IfSome, IsErrOf}
 use Rattle.std.proofs.lemmas.Bool.{lt-ltb}
@@ -9,8 +10,11 @@ use Rattle.td_io.specs.declared.source.Source as source
 use Rattle.td_io.specs.declared.sink.Sink as sink
 use Rattle.td_io.specs.Count.{Rose}
 use Rattle.td_io.specs.Reading.{IsReadPast, IsReadToEnd}
-use Rattle.td_script.specs.Faults.{fault_of, first_fault, judged_lines}
-use Rattle.td_script.specs.Judging.{Judged, fault_in, judged_each}
+use Rattle.td_check.specs.Verdict.{TooLong}
+use Rattle.td_check.specs.declared.verdict.Fault.TheVariants.{Size as TooBig}
+use Rattle.td_check.specs.declared.verdict.Verdict.TheVariants.{No}
+use Rattle.td_script.specs.Faults.{fault_of, judged_lines}
+use Rattle.td_script.specs.Judging.{fault_in, judged_each}
 use Rattle.td_script.specs.Lines.{lines_of}
 use Rattle.td_script.specs.LiveFaults.{live_after, live_judged, live_start}
 use Rattle.td_script.specs.declared.kind.Kind.{Kind}
@@ -27,12 +31,13 @@ use Rattle.td_run.specs.declared.status.Status.TheVariants.{Done, Memory, Usage,
 use Rattle.td_run.specs.declared.words.Form.{Form}
 use Rattle.td_run.specs.declared.words.Form.TheVariants.{Reads, Gen}
 use Rattle.td_run.specs.declared.words.Language.{Language}
-use Rattle.td_run.specs.declared.words.Language.TheVariants.{Play, Live}
+use Rattle.td_run.specs.declared.words.Language.TheVariants.{Play, Live, Trace}
 use Rattle.td_run.specs.Answer.{IsInLanguage, IsOutput, IsPlayed, IsRefused, IsWhole, PutsFront, fault_line}
 use Rattle.td_run.specs.Answer.{first_fault_in, most_bytes, usage_line}
 use Rattle.td_run.specs.Answered.{IsAnswered}
-use Rattle.td_run.specs.Answering.{IsAnswerTo, IsEnded, IsPlayedOr, IsPut, IsReads, IsWholeOf}
+use Rattle.td_run.specs.Answering.{IsAnswerTo, IsEnded, IsPlayedOr, IsPut, IsReadFor, IsReads, IsWholeOf}
 use Rattle.td_run.specs.Outputs.{IsSummary}
+use Rattle.td_run.specs.VerdictLine.{verdict_line}
 use Rattle.td_run.specs.Words.{IsForm, IsFormOf, IsGen, IsReading, ReadsInput, word_of}
 
 -- ---- inputs
@@ -51,28 +56,40 @@ whole_of language left input Read bytes told is = absurd is
 whole_of language left input Write bytes told is = absurd is
 
 -- an input that is too long is refused as a whole
-long_is : (language : Language) (input : List ℕ) → most_bytes language < length input
-    → first_fault_in language input ≡ Some (0, Size)
-long_is Play input long =
+abbrev pub RefusesLong : Language → Type 0
+RefusesLong language =
+    (input : List ℕ) → most_bytes language < length input → first_fault_in language input ≡ Some (0, Size)
+
+pub long_script : RefusesLong Play
+long_script input long =
     ap (λ (b : Bool). fault_of (if b then Err (0, Size)
     else judged_lines (length input) 1 (lines_of input) (record { sites = 0; requests = 0 })))
     (lt-ltb MAX_SCRIPT (length input) long)
-long_is Live input long =
+
+pub long_live_script : RefusesLong Live
+long_live_script input long =
     ap (λ (b : Bool). fault_in (if b then Err (0, Size)
     else judged_each (live_judged (length input)) live_after 1 (lines_of input) live_start))
     (lt-ltb MAX_LIVE_SCRIPT (length input) long)
 
-long_refused : (language : Language) (left : Option (List ℕ)) (bytes : List ℕ)
+long_refused : (language : Language) (left : Option (List ℕ)) (bytes : List ℕ) → RefusesLong language
     → IfSome left (λ told. most_bytes language < length told)
     → bytes ≡ fault_line 0 Size → IfSome left (λ told. IsRefused language told bytes)
-long_refused language None bytes long is = tt
-long_refused language (Some input) bytes long is = (0, Size, long_is language input long, is)
+long_refused language None bytes refuses long is = tt
+long_refused language (Some input) bytes refuses long is = (0, Size, refuses input long, is)
+
+-- the verdict on an input that is too long for a trace
+long_judged : (left : Option (List ℕ)) (bytes : List ℕ) → IfSome left (λ told. most_bytes Trace < length told)
+    → bytes ≡ verdict_line (No 0 TooBig) → IfSome left (λ told. IsPlayed Trace told bytes)
+long_judged None bytes long is = tt
+long_judged (Some input) bytes long is = (No 0 TooBig, TooLong long, is)
 
 -- an input in the language has no fault
 no_fault_in : (language : Language) (input : List ℕ) → IsInLanguage language input
     → first_fault_in language input ≡ None
 no_fault_in Play input is = no_fault input is.0 is.1
 no_fault_in Live input is = no_live_fault input is.0 is.1
+no_fault_in Trace input is = refl
 
 -- two languages are one where they are read by one word
 same_language : (language other : Language) → Reads language ≡ Reads other → language ≡ other
@@ -81,33 +98,62 @@ same_language language other e = cc
 script_is_not_done : Script ≡ Done → ⊥
 script_is_not_done e = cc
 
-module _ {S : Type 0} (s : source.Ghosts S) (language : Language) (old new : S) where
-  reads_this : (language : Language) × IsReads (Reads language) language
-  reads_this = (language, refl)
+abbrev pub IsUnread : Result Answer Stop → Type 0
+IsUnread result = IsErrOf result Unread
 
-  -- what was read past what an input can have
-  pub long_answered : (result : Result Answer Stop) → IsReadPast s (most_bytes language) old new
-      → s.calls new ≤ s.calls old + (MAX_SCRIPT + 1)
-      → IfOk result (λ a. (a.status ≡ Script) × (a.bytes ≡ fault_line 0 Size)) → (IsErrOf result Unread → ⊥)
-      → IsAnswerTo s (Reads language) old new result
-  long_answered (Ok a) past turns is read = record {
-    whole = subst (λ (status : Status). IsWholeOf (Reads language) (s.left old) status a.bytes) (sym is.0)
-        (long_refused language (s.left old) a.bytes past.long is.1);
-    read = λ e. absurd (read e);
-    unread = λ other. absurd (other (language, refl));
-    to_end = λ done. absurd (script_is_not_done (sym is.0 ∙ done));
-    past = λ l reads. inr (subst (λ (x : Language). IsReadPast s (most_bytes x) old new)
-        (same_language language l reads) past);
-    turns = turns;
-  }
-  long_answered (Err stop) past turns is read = record {
+-- what was read past what an input can have
+module _ {S : Type 0} (s : source.Ghosts S) (language : Language) (old new : S)
+    (past : IsReadPast s (most_bytes language) old new)
+    (turns : s.calls new ≤ s.calls old + (most_bytes language + 1)) where
+  reads_past : (l : Language) → IsReads (Reads language) l → IsReadToEnd s old new ⊎ IsReadPast s (most_bytes l) old new
+  reads_past l reads =
+      inr (subst (λ (x : Language). IsReadPast s (most_bytes x) old new) (same_language language l reads) past)
+
+  few_turns : (l : Language) → IsReads (Reads language) l → s.calls new ≤ s.calls old + (most_bytes l + 1)
+  few_turns l reads =
+      subst (λ (x : Language). s.calls new ≤ s.calls old + (most_bytes x + 1)) (same_language language l reads) turns
+
+  stopped_answered : (stop : Stop) → (IsUnread (Err stop) → ⊥)
+      → IsAnswerTo s (Reads language) old new (Err stop)
+  stopped_answered stop read = record {
     whole = tt;
     read = λ e. absurd (read e);
     unread = λ other. absurd (other (language, refl));
     to_end = tt;
     past = tt;
-    turns = turns;
+    turns = few_turns;
   }
+
+  -- a script
+  pub long_answered : (result : Result Answer Stop) → RefusesLong language
+      → IfOk result (λ a. (a.status ≡ Script) × (a.bytes ≡ fault_line 0 Size)) → (IsErrOf result Unread → ⊥)
+      → IsAnswerTo s (Reads language) old new result
+  long_answered (Ok a) refuses is read = record {
+    whole = subst (λ (status : Status). IsWholeOf (Reads language) (s.left old) status a.bytes) (sym is.0)
+        (long_refused language (s.left old) a.bytes refuses past.long is.1);
+    read = λ e. absurd (read e);
+    unread = λ other. absurd (other (language, refl));
+    to_end = λ done. absurd (script_is_not_done (sym is.0 ∙ done));
+    past = reads_past;
+    turns = few_turns;
+  }
+  long_answered (Err stop) refuses is read = stopped_answered stop read
+
+-- a trace
+pub long_trace_answered : {S : Type 0} (s : source.Ghosts S) (old new : S) (result : Result Answer Stop)
+    → IsReadPast s (most_bytes Trace) old new → s.calls new ≤ s.calls old + (most_bytes Trace + 1)
+    → IfOk result (λ a. (a.status ≡ Done) × (a.bytes ≡ verdict_line (No 0 TooBig))) → (IsErrOf result Unread → ⊥)
+    → IsAnswerTo s (Reads Trace) old new result
+long_trace_answered s old new (Ok a) past turns is read = record {
+  whole = subst (λ (status : Status). IsWholeOf (Reads Trace) (s.left old) status a.bytes) (sym is.0)
+      (long_judged (s.left old) a.bytes past.long is.1);
+  read = λ e. absurd (read e);
+  unread = λ other. absurd (other (Trace, refl));
+  to_end = λ done l reads. subst (λ (x : Language). IsReadFor s x old new) (same_language Trace l reads) (inr past);
+  past = reads_past s Trace old new past turns;
+  turns = few_turns s Trace old new past turns;
+}
+long_trace_answered s old new (Err stop) past turns is read = stopped_answered s Trace old new past turns stop read
 
 -- ---- words
 
@@ -139,37 +185,60 @@ reading_is_no_gen : (words : List (List ℕ)) (language : Language) (size number
 reading_is_no_gen words language size number reading gen =
     words_differ (word_of language) size number (sym reading ∙ gen.are)
 
-words_of_two : codes "play" ∷ [] ≡ codes "live" ∷ [] → ⊥
-words_of_two e =
+-- the three words begin with letters of their own
+play_is_not_live : codes "play" ∷ [] ≡ codes "live" ∷ [] → ⊥
+play_is_not_live e =
     let first : ◌≡◌ {A = ℕ} 112 108 = cc in
+    omega (arith, first)
+
+play_is_not_check : codes "play" ∷ [] ≡ codes "check" ∷ [] → ⊥
+play_is_not_check e =
+    let first : ◌≡◌ {A = ℕ} 112 99 = cc in
+    omega (arith, first)
+
+live_is_not_check : codes "live" ∷ [] ≡ codes "check" ∷ [] → ⊥
+live_is_not_check e =
+    let first : ◌≡◌ {A = ℕ} 108 99 = cc in
     omega (arith, first)
 
 -- the words tell the language
 pub language_is : (words : List (List ℕ)) (language other : Language) → IsReading words language
     → IsReading words other → language ≡ other
 language_is words Play Play is also = refl
-language_is words Play Live is also = absurd (words_of_two (sym is ∙ also))
-language_is words Live Play is also = absurd (words_of_two (sym also ∙ is))
+language_is words Play Live is also = absurd (play_is_not_live (sym is ∙ also))
+language_is words Play Trace is also = absurd (play_is_not_check (sym is ∙ also))
+language_is words Live Play is also = absurd (play_is_not_live (sym also ∙ is))
 language_is words Live Live is also = refl
+language_is words Live Trace is also = absurd (live_is_not_check (sym is ∙ also))
+language_is words Trace Play is also = absurd (play_is_not_check (sym also ∙ is))
+language_is words Trace Live is also = absurd (live_is_not_check (sym also ∙ is))
+language_is words Trace Trace is also = refl
 
 pub form_of_reading : (words : List (List ℕ)) (form : Form) (language : Language) → IsFormOf words form
     → IsReading words language → IsReads form language
-form_of_reading words (Reads own) language is reading = ap (λ (l : Language). Reads l) (language_is words own language is reading)
+form_of_reading words (Reads own) language is reading = ap (λ (l : Language). Reads l)
+    (language_is words own language is reading)
 form_of_reading words (Gen size number) language is reading =
     absurd (reading_is_no_gen words language size number reading is)
+
+-- the source was called no oftener than for an input in the language of the words
+abbrev pub AreFewTurns : {S : Type 0} → source.Ghosts S → List (List ℕ) → (old new : S) → Type 0
+AreFewTurns s words old new =
+    (language : Language) → IsReading words language → s.calls new ≤ s.calls old + (most_bytes language + 1)
 
 -- what was read, by the words
 pub record IsRead {S : Type 0} (s : source.Ghosts S) (words : List (List ℕ)) (old new : S) : Type 0 where
   pub unread : ¬ ReadsInput words → new ≡ old
   pub past : (language : Language) → IsReading words language
       → IsReadToEnd s old new ⊎ IsReadPast s (most_bytes language) old new
-  pub turns : s.calls new ≤ s.calls old + (MAX_SCRIPT + 1)
+  pub turns : AreFewTurns s words old new
 
-module _ {S K : Type 0} (s : source.Ghosts S) (k : sink.Ghosts K) (words : List (List ℕ)) (old new : S) (before after : K)
+module _ {S K : Type 0} (s : source.Ghosts S) (k : sink.Ghosts K) (words : List (List ℕ)) (old new : S)
+    (before after : K)
   where
-    usage_answered : ¬ IsForm words → new ≡ old → s.calls new ≤ s.calls old + (MAX_SCRIPT + 1)
-        → Appends (k.held before) (k.held after) usage_line → IsAnswered s k words old new before after Usage
-    usage_answered unknown same turns put = record {
+    usage_answered : ¬ IsForm words → new ≡ old → Appends (k.held before) (k.held after) usage_line
+        → IsAnswered s k words old new before after Usage
+    usage_answered unknown same put = record {
       whole = λ ends. (usage_line, (unknown, refl), put);
       read = λ e. absurd cc;
       write = λ e. absurd cc;
@@ -178,7 +247,7 @@ module _ {S K : Type 0} (s : source.Ghosts S) (k : sink.Ghosts K) (words : List 
       unread = λ other. same;
       read_to_end = λ e. absurd cc;
       read_whole = λ language reading. absurd (unknown (inl (language, reading)));
-      turns = turns;
+      turns = λ language reading. absurd (unknown (inl (language, reading)));
       complete = λ language input reading. absurd (unknown (inl (language, reading)));
       generated = λ size number gen. absurd (unknown (inr (size, number, gen)));
     }
@@ -187,7 +256,8 @@ module _ {S K : Type 0} (s : source.Ghosts S) (k : sink.Ghosts K) (words : List 
     form_of_output bytes output = ⊎_elim (λ p. inl (p.0, p.1)) (λ g. inr (g.0, g.1, g.2)) output
 
     done_answered : (bytes : List ℕ) → IsOutput words (s.left old) bytes → IsRead s words old new
-        → (ReadsInput words → IsReadToEnd s old new) → Appends (k.held before) (k.held after) bytes
+        → ((language : Language) → IsReading words language → IsReadFor s language old new)
+        → Appends (k.held before) (k.held after) bytes
         → IsAnswered s k words old new before after Done
     done_answered bytes output read to_end put = record {
       whole = λ ends. (bytes, output, put);
@@ -196,8 +266,8 @@ module _ {S K : Type 0} (s : source.Ghosts S) (k : sink.Ghosts K) (words : List 
       memory = λ e. absurd cc;
       other_words = λ other. absurd (other (form_of_output bytes output));
       unread = read.unread;
-      read_to_end = λ e reading. to_end reading;
-      read_whole = λ language reading ends. inl (to_end (language, reading));
+      read_to_end = λ e. to_end;
+      read_whole = λ language reading ends. read.past language reading;
       turns = read.turns;
       complete = λ language input reading told spelled reads writes. inl refl;
       generated = λ size number gen writes. inl refl;
@@ -258,7 +328,7 @@ module _ {S K : Type 0} (s : source.Ghosts S) (k : sink.Ghosts K) (words : List 
     }
 
     read_answered : ReadsInput words → Rose (s.faults old) (s.faults new) → k.held after ≡ k.held before
-        → s.calls new ≤ s.calls old + (MAX_SCRIPT + 1) → IsAnswered s k words old new before after Read
+        → AreFewTurns s words old new → IsAnswered s k words old new before after Read
     read_answered reading rose held turns = record {
       whole = ⊎_elim (λ (e : Read ≡ Done). absurd cc)
           (⊎_elim (λ (e : Read ≡ Usage). absurd cc) (λ (e : Read ≡ Script). absurd cc));
@@ -275,7 +345,7 @@ module _ {S K : Type 0} (s : source.Ghosts S) (k : sink.Ghosts K) (words : List 
     }
 
     memory_answered : IsForm words → (¬ ReadsInput words → new ≡ old) → k.held after ≡ k.held before
-        → s.calls new ≤ s.calls old + (MAX_SCRIPT + 1) → IsAnswered s k words old new before after Memory
+        → AreFewTurns s words old new → IsAnswered s k words old new before after Memory
     memory_answered form unread held turns = record {
       whole = ⊎_elim (λ (e : Memory ≡ Done). absurd cc)
           (⊎_elim (λ (e : Memory ≡ Usage). absurd cc) (λ (e : Memory ≡ Script). absurd cc));
@@ -296,12 +366,16 @@ module _ {S K : Type 0} (s : source.Ghosts S) (k : sink.Ghosts K) (words : List 
     reads_of : (form : Form) → IsFormOf words form → ((language : Language) × IsReads form language) → ReadsInput words
     reads_of form is reads = (reads.0, subst (IsFormOf words) reads.1 is)
 
+    turns_of : (form : Form) (result : Result Answer Stop) → IsFormOf words form → IsAnswerTo s form old new result
+        → AreFewTurns s words old new
+    turns_of form result is a = λ language reading. a.turns language (form_of_reading words form language is reading)
+
     read_of : (form : Form) (answer : Answer) → IsFormOf words form → IsAnswerTo s form old new (Ok answer)
         → IsRead s words old new
     read_of form answer is a = record {
       unread = λ other. a.unread (λ reads. other (reads_of form is reads));
       past = λ language reading. a.past language (form_of_reading words form language is reading);
-      turns = a.turns;
+      turns = turns_of form (Ok answer) is a;
     }
 
     taken_answered : (form : Form) (answer : Answer) → IsFormOf words form → IsAnswerTo s form old new (Ok answer)
@@ -309,7 +383,7 @@ module _ {S K : Type 0} (s : source.Ghosts S) (k : sink.Ghosts K) (words : List 
         → IsWhole words (s.left old) status answer.bytes → IsAnswered s k words old new before after status
     taken_answered form answer is a put Done e whole =
         done_answered answer.bytes whole (read_of form answer is a)
-        (λ reading. a.to_end e reading.0 (form_of_reading words form reading.0 is reading.1)) put
+        (λ language reading. a.to_end e language (form_of_reading words form language is reading)) put
     taken_answered form answer is a put Script e whole =
         script_answered answer.bytes whole.0 whole.1 whole.2 (read_of form answer is a) put
     taken_answered form answer is a put Usage e whole = absurd (whole.0 (form_is words form is))
@@ -342,33 +416,31 @@ module _ {S K : Type 0} (s : source.Ghosts S) (k : sink.Ghosts K) (words : List 
     ended_answered form (Err Unread) status is a ended =
         let r = a.read refl in
         subst (IsAnswered s k words old new before after) (sym ended.0)
-        (read_answered (reads_of form is r.0) r.1 (ap (λ (x : K). k.held x) ended.1) a.turns)
+        (read_answered (reads_of form is r.0) r.1 (ap (λ (x : K). k.held x) ended.1)
+        (turns_of form (Err Unread) is a))
     ended_answered form (Err NoMemory) status is a ended =
         subst (IsAnswered s k words old new before after) (sym ended.0)
         (memory_answered (form_is words form is) (λ other. a.unread (λ reads. other (reads_of form is reads)))
-        (ap (λ (x : K). k.held x) ended.1) a.turns)
+        (ap (λ (x : K). k.held x) ended.1) (turns_of form (Err NoMemory) is a))
 
     -- the words are no command
-    pub other_answered : (status : Status) → ¬ IsForm words → new ≡ old → s.calls new ≤ s.calls old
+    pub other_answered : (status : Status) → ¬ IsForm words → new ≡ old
         → IsPut k usage_line Usage before after status → IsAnswered s k words old new before after status
-    other_answered status unknown same calls put =
+    other_answered status unknown same put =
         ⊎_elim
         (λ (p : (status ≡ Usage) × Appends (k.held before) (k.held after) usage_line).
-        subst (IsAnswered s k words old new before after) (sym p.0) (usage_answered unknown same turns p.1))
+        subst (IsAnswered s k words old new before after) (sym p.0) (usage_answered unknown same p.1))
         (λ (p : (status ≡ Write) × Rose (k.faults before) (k.faults after)
         × PutsFront (k.held before) (k.held after) usage_line).
         subst (IsAnswered s k words old new before after) (sym p.0)
         (write_answered Usage usage_line (unknown, refl) read p.1 p.2))
         put
       where
-        turns : s.calls new ≤ s.calls old + (MAX_SCRIPT + 1)
-        turns = omega (arith, calls)
-
         read : IsRead s words old new
         read = record {
           unread = λ other. same;
           past = λ language reading. absurd (unknown (inl (language, reading)));
-          turns = turns;
+          turns = λ language reading. absurd (unknown (inl (language, reading)));
         }
 
 -- a generated script reads nothing
@@ -381,7 +453,7 @@ generated_answers s old size number result is read = record {
   unread = λ other. refl;
   to_end = to_end result;
   past = past result;
-  turns = omega arith;
+  turns = λ language reads. absurd (no_language language reads);
 }
   where
     no_language : (language : Language) → IsReads (Gen size number) language → ⊥
@@ -389,12 +461,13 @@ generated_answers s old size number result is read = record {
 
     whole : (r : Result Answer Stop) → IfOk r (λ a. (a.status ≡ Done) × IsSummary size number a.bytes)
         → IfOk r (λ a. IsWholeOf (Gen size number) (s.left old) a.status a.bytes)
-    whole (Ok a) is = subst (λ (status : Status). IsWholeOf (Gen size number) (s.left old) status a.bytes) (sym is.0) is.1
+    whole (Ok a) is = subst (λ (status : Status). IsWholeOf (Gen size number) (s.left old) status a.bytes)
+        (sym is.0) is.1
     whole (Err stop) is = tt
 
     to_end : (r : Result Answer Stop)
         → IfOk r (λ a. a.status ≡ Done → (language : Language) → IsReads (Gen size number) language
-        → IsReadToEnd s old old)
+        → IsReadFor s language old old)
     to_end (Ok a) = λ done language reads. absurd (no_language language reads)
     to_end (Err stop) = tt
 

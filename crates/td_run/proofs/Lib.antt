@@ -7,5 +7,13 @@ pub mod Commands
 pub mod Played
 pub mod GenWords
 pub mod Answering
+pub mod Kept
+pub mod ShownAtoms
+pub mod ReplyRanges
+pub mod RequestRanges
+pub mod TraceCounts
+pub mod LiveTraces
+pub mod YesFound
+pub mod LivePasses
 pub mod EditsShown
 pub mod QuietEdits

@@ -1,6 +1,9 @@
 -- What the program writes, and which status goes with it.
-use Rattle.std.specs.Prelude.{◌≡◌, ◌⊎◌, ℕ, List, [], ◌∷◌, ◌++◌, Option, Some, IfSome, codes, take}
+use Rattle.std.specs.Prelude.{◌≡◌, ◌⊎◌, ⊤, ℕ, List, [], ◌∷◌, ◌++◌, Option, Some, None, IfSome, codes, take}
 use Rattle.std.specs.Io.KnownBytes.{Appends}
+use Rattle.td_check.specs.Verdict.{IsVerdict}
+use Rattle.td_check.specs.declared.verdict.Verdict.{Verdict}
+use Rattle.td_reader.specs.declared.trace.TheConstants.{MAX_TRACE}
 use Rattle.td_script.specs.Characters.{line_feed}
 use Rattle.td_script.specs.Faults.{first_fault}
 use Rattle.td_script.specs.LiveFaults.{first_live_fault}
@@ -17,8 +20,9 @@ use Rattle.td_live.specs.Live.{IsLiveTraceOf}
 use Rattle.td_run.specs.declared.status.Status.{Status}
 use Rattle.td_run.specs.declared.status.Status.TheVariants.{Done, Memory, Usage, Script as NoScript, Read, Write}
 use Rattle.td_run.specs.declared.words.Language.{Language}
-use Rattle.td_run.specs.declared.words.Language.TheVariants.{Play, Live}
+use Rattle.td_run.specs.declared.words.Language.TheVariants.{Play, Live, Trace}
 use Rattle.td_run.specs.Outputs.{IsOutputOf, IsSummary}
+use Rattle.td_run.specs.VerdictLine.{verdict_line}
 use Rattle.td_run.specs.Words.{IsReading, IsGen, IsForm}
 
 abbrev pub usage_line : List ℕ
@@ -33,21 +37,26 @@ fault_line number kind = codes "fault" ++ (spaced number ++ (codes " " ++ (kind_
 abbrev pub most_bytes : Language → ℕ
 most_bytes Play = MAX_SCRIPT
 most_bytes Live = MAX_LIVE_SCRIPT
+most_bytes Trace = MAX_TRACE
 
--- the input is in the language
+-- the input is in the language: whatever it is, there is a verdict on it as a trace
 abbrev pub IsInLanguage : Language → List ℕ → Type 0
 IsInLanguage Play input = (script : Script) × Spells input script
 IsInLanguage Live input = (script : LiveScript) × SpellsLive input script
+IsInLanguage Trace input = ⊤
 
--- the first faulty line with its first fault
+-- the first faulty line with its first fault; what is wrong with a trace is told by the verdict
 abbrev pub first_fault_in : Language → List ℕ → Option (ℕ × Kind)
 first_fault_in Play input = first_fault input
 first_fault_in Live input = first_live_fault input
+first_fault_in Trace input = None
 
--- the bytes are what the script prints that the input spells, or the trace of what the live script came to
+-- the bytes are what the script prints that the input spells, or the trace of what the live script came to, or the
+-- line of the verdict on the input
 abbrev pub IsPlayed : Language → List ℕ → List ℕ → Type 0
 IsPlayed Play input bytes = (script : Script) × Spells input script × IsOutputOf script bytes
 IsPlayed Live input bytes = (script : LiveScript) × SpellsLive input script × IsLiveTraceOf script bytes
+IsPlayed Trace input bytes = (verdict : Verdict) × IsVerdict input verdict × (bytes ≡ verdict_line verdict)
 
 -- the input is no script, and the bytes name its first faulty line with its first fault
 abbrev pub IsRefused : Language → List ℕ → List ℕ → Type 0

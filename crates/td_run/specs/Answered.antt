@@ -4,11 +4,11 @@ use Rattle.td_io.specs.declared.source.Source as source
 use Rattle.td_io.specs.declared.sink.Sink as sink
 use Rattle.td_io.specs.Count.{Rose}
 use Rattle.td_io.specs.Reading.{IsReadPast, IsReadToEnd}
-use Rattle.td_script.specs.declared.script.TheConstants.{MAX_SCRIPT}
 use Rattle.td_run.specs.declared.status.Status.{Status}
 use Rattle.td_run.specs.declared.status.Status.TheVariants.{Done, Memory, Usage, Script, Read, Write}
 use Rattle.td_run.specs.declared.words.Language.{Language}
 use Rattle.td_run.specs.Answer.{IsInLanguage, IsWhole, Puts, PutsFront, most_bytes}
+use Rattle.td_run.specs.Answering.{IsReadFor}
 use Rattle.td_run.specs.Words.{IsReading, ReadsInput, IsGen, IsForm}
 
 -- by what the source and the sink tell of themselves: of the words, the source before and after, the sink before and
@@ -29,14 +29,17 @@ pub record IsAnswered {S K : Type 0} (s : source.Ghosts S) (k : sink.Ghosts K) (
   pub other_words : ¬ IsForm words → (status ≡ Usage) ⊎ (status ≡ Write)
   -- words that ask for no input read nothing: the source is as before
   pub unread : ¬ ReadsInput words → new ≡ old
-  -- a script is played once the input was read to its end
-  pub read_to_end : status ≡ Done → ReadsInput words → IsReadToEnd s old new
+  -- a script is played once the input was read to its end; there is a verdict on a trace then too, or where more was
+  -- read than a trace can have
+  pub read_to_end : status ≡ Done → (language : Language) → IsReading words language → IsReadFor s language old new
   -- before anything is put for an input, it was read to its end, or past the bytes that it can have
   pub read_whole : (language : Language) → IsReading words language → (status ≡ Script) ⊎ (status ≡ Write)
       → IsReadToEnd s old new ⊎ IsReadPast s (most_bytes language) old new
   -- the source is called no oftener than this
-  pub turns : s.calls new ≤ s.calls old + (MAX_SCRIPT + 1)
-  -- a script is played to its end where neither the source nor the sink fails, unless memory runs out
+  pub turns : (language : Language) → IsReading words language
+      → s.calls new ≤ s.calls old + (most_bytes language + 1)
+  -- a script is played to its end, and any input is judged as a trace, where neither the source nor the sink fails,
+  -- unless memory runs out
   pub complete : (language : Language) (input : List ℕ) → IsReading words language
       → s.left old ≡ Some input → IsInLanguage language input
       → (¬ Rose (s.faults old) (s.faults new)) → (¬ Rose (k.faults before) (k.faults after))

@@ -6,7 +6,6 @@ use Rattle.td_io.specs.declared.source.Source as source
 use Rattle.td_io.specs.declared.sink.Sink as sink
 use Rattle.td_io.specs.Count.{Rose}
 use Rattle.td_io.specs.Reading.{IsReadPast, IsReadToEnd}
-use Rattle.td_script.specs.declared.script.TheConstants.{MAX_SCRIPT}
 use Rattle.td_run.specs.declared.answer.Answer.{Answer}
 use Rattle.td_run.specs.declared.answer.Stop.{Stop}
 use Rattle.td_run.specs.declared.answer.Stop.TheVariants.{Read as Unread, Memory as NoMemory}
@@ -15,6 +14,7 @@ use Rattle.td_run.specs.declared.status.Status.TheVariants.{Done, Script, Memory
 use Rattle.td_run.specs.declared.words.Form.{Form}
 use Rattle.td_run.specs.declared.words.Form.TheVariants.{Reads, Gen}
 use Rattle.td_run.specs.declared.words.Language.{Language}
+use Rattle.td_run.specs.declared.words.Language.TheVariants.{Play, Live, Trace}
 use Rattle.td_run.specs.Answer.{IsPlayed, IsRefused, PutsFront, most_bytes}
 use Rattle.td_run.specs.Outputs.{IsSummary}
 
@@ -40,20 +40,30 @@ IsAskable (Gen size number) = size ≤ MAX_SIZE
 abbrev pub IsReads : Form → Language → Type 0
 IsReads form language = form ≡ Reads language
 
+-- an input in the language was read as far as is asked where its output is written: to its end; that of a trace there,
+-- or past the bytes that it can have
+abbrev pub IsReadFor : {S : Type 0} → source.Ghosts S → Language → (old new : S) → Type 0
+IsReadFor s Play old new = IsReadToEnd s old new
+IsReadFor s Live old new = IsReadToEnd s old new
+IsReadFor s Trace old new = IsReadToEnd s old new ⊎ IsReadPast s (most_bytes Trace) old new
+
 -- by what the source tells of itself: of the command, the source before and after, and what is to be written
 pub record IsAnswerTo {S : Type 0} (s : source.Ghosts S) (form : Form) (old new : S) (result : Result Answer Stop)
     : Type 0 where
   pub whole : IfOk result (λ a. IsWholeOf form (s.left old) a.status a.bytes)
-  pub read : IsErrOf result Unread → ((language : Language) × IsReads form language) × Rose (s.faults old) (s.faults new)
+  pub read : IsErrOf result Unread → ((language : Language) × IsReads form language)
+      × Rose (s.faults old) (s.faults new)
   -- a command that has no input reads nothing
   pub unread : ¬ ((language : Language) × IsReads form language) → new ≡ old
-  pub to_end : IfOk result (λ a. a.status ≡ Done → (language : Language) → IsReads form language → IsReadToEnd s old new)
+  pub to_end : IfOk result (λ a. a.status ≡ Done → (language : Language) → IsReads form language
+      → IsReadFor s language old new)
   pub past : IfOk result (λ a. (language : Language) → IsReads form language
       → IsReadToEnd s old new ⊎ IsReadPast s (most_bytes language) old new)
-  pub turns : s.calls new ≤ s.calls old + (MAX_SCRIPT + 1)
+  pub turns : (language : Language) → IsReads form language
+      → s.calls new ≤ s.calls old + (most_bytes language + 1)
 
--- by what the sink tells of itself: the bytes were put, and the status is the one that goes with them; or the sink failed,
--- and took a front of them
+-- by what the sink tells of itself: the bytes were put, and the status is the one that goes with them; or the sink
+-- failed, and took a front of them
 abbrev pub IsPut : {K : Type 0} → sink.Ghosts K → List ℕ → Status → (before after : K) → Status → Type 0
 IsPut k bytes whole before after status =
     ((status ≡ whole) × Appends (k.held before) (k.held after) bytes)

@@ -2,6 +2,8 @@ pub mod Asking
 pub mod Printing
 pub mod Outputs
 pub mod Words
+pub mod VerdictLine
+pub mod Kept
 pub mod Answer
 pub mod Answering
 pub mod Answered

@@ -1,8 +1,9 @@
-//! The program's run: from the bytes of a script to the bytes that it prints.
+//! The program's run: from the bytes of an input to the bytes that it prints.
 //!
 //! Begin at `specs/Printing.antt`, what each command of a script does and prints; at `program`, the call on top; and at
-//! `specs/Answered.antt`, what it promises. A `Player` is a world in which a script is played, with what was printed so
-//! far; `edits`, `flattens`, `giving` and `showing` are its commands.
+//! `specs/Answered.antt`, what it promises. `reading` has what comes of an input by its language: of a script for
+//! `play`, of a live script for `live`, of a trace for `check`. A `Player` is a world in which a script is played, with
+//! what was printed so far; `edits`, `flattens`, `giving` and `showing` are its commands.
 #![tactic(auto)]
 
 mod answer;
@@ -11,6 +12,7 @@ mod fault;
 mod flattens;
 mod generated;
 mod giving;
+mod judging;
 mod limits;
 mod outcome;
 mod play;
@@ -20,8 +22,10 @@ mod reading;
 mod showing;
 mod status;
 mod typing;
+mod verdict_line;
 mod words;
 
+pub use judging::{a_trace_with_yes_keeps_the_promises, what_live_prints_passes};
 pub use limits::the_limits_are_these;
 pub use program::{run, run_live, run_plain};
 pub use status::Status;

@@ -1,22 +1,27 @@
-// What comes of an input: what its script prints, or the line of its first fault.
+// What comes of an input, by its language: what its script prints, or the line of its first fault; or the line of the
+// verdict on it as a trace.
 ghost use Rattle.std.specs.Prelude.{◌≡◌, IfOk, IsErrOf};
 ghost use Rattle.td_run.specs.declared.answer.Stop.TheVariants.{Read as Unread};
-ghost use Rattle.td_run.specs.declared.status.Status.TheVariants.{Script as NoScript};
+ghost use Rattle.td_run.specs.declared.status.Status.TheVariants.{Done as IsDone, Script as NoScript};
 ghost use Rattle.td_run.specs.declared.words.Form.TheVariants.{Reads};
-ghost use Rattle.td_run.specs.declared.words.Language.TheVariants.{Play as InPlay, Live as InLive};
+ghost use Rattle.td_run.specs.declared.words.Language.TheVariants.{Play as InPlay, Live as InLive, Trace as InTrace};
 ghost use Rattle.td_run.specs.Answer.{fault_line};
 ghost use Rattle.td_run.specs.Answering.{IsAnswerTo, IsPlayedOr};
+ghost use Rattle.td_run.specs.VerdictLine.{verdict_line};
 
 use crate::answer::{Answer, Stop};
 use crate::fault::fault_line;
 use crate::play::output_of;
 use crate::status::Status;
+use crate::verdict_line::verdict_line;
 use std::alloc::Global;
 use std::sync::Wait;
 use std::thread::Threads;
+use td_check::{Fault, Verdict, check_trace};
 use td_io::{ReadFault, Source, read_all};
 use td_line::Gate;
 use td_live::live_trace;
+use td_reader::MAX_TRACE;
 use td_script::{Kind, MAX_LIVE_SCRIPT, MAX_SCRIPT, ScriptFault, read_live, read_script};
 use td_tree::Tree;
 
@@ -82,6 +87,44 @@ fn traced_or_refused<G: Gate + Sync, R: Threads + Wait + Copy + Send + Sync>(
         Err(ScriptFault::Fault { line, kind }) => refused(alloc, line, kind),
         Err(ScriptFault::Memory) => Err(Stop::Memory),
     }
+}
+
+/// Reads a trace and judges it.
+pub(crate) fn judged<S: Source>(alloc: Global, source: &mut S) -> Result<Answer, Stop>
+    ensures { IsAnswerTo S.Source (Reads InTrace) source.old source.new result }
+{
+    match read_all(alloc, source, MAX_TRACE as u32) {
+        Ok(input) => verdict_on(alloc, input.as_slice()),
+        Err(ReadFault::Failed) => Err(Stop::Read),
+        Err(ReadFault::TooLong) => told(
+            alloc,
+            Verdict::No {
+                line: 0,
+                fault: Fault::Size,
+            },
+        ),
+        Err(ReadFault::Memory) => Err(Stop::Memory),
+    }
+}
+
+// The verdict on an input that was read to its end.
+fn verdict_on(alloc: Global, input: &[u8]) -> Result<Answer, Stop>
+    ensures answer { IfOk result (λ a. IsPlayedOr InTrace input.now a.status a.bytes) }
+    ensures read { IsErrOf result Unread → ⊥ }
+{
+    let verdict = check_trace(alloc, input)?;
+    told(alloc, verdict)
+}
+
+// The line of a verdict.
+fn told(alloc: Global, verdict: Verdict) -> Result<Answer, Stop>
+    ensures answer { IfOk result (λ a. (a.status ≡ IsDone) × (a.bytes ≡ verdict_line verdict)) }
+    ensures read { IsErrOf result Unread → ⊥ }
+{
+    Ok(Answer {
+        status: Status::Done,
+        bytes: verdict_line(alloc, verdict)?,
+    })
 }
 
 // The line of a fault.

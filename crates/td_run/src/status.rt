@@ -4,7 +4,7 @@ ghost use Rattle.td_run.specs.Number.{status_number};
 /// How a run of the program ended.
 #[derive(Clone, Copy, Debug, PartialEq, Eq)]
 pub enum Status {
-    /// The input was read to its end, and the whole output was written.
+    /// The input was read to its end, or past the bytes that a trace can have, and the whole output was written.
     Done,
     /// Memory ran out, and nothing was written.
     Memory,

@@ -12,12 +12,14 @@ pub enum Language {
     Play,
     /// `live`: a live script.
     Live,
+    /// `check`: a trace.
+    Trace,
 }
 
 /// What the words of the command line ask for.
 #[derive(Clone, Copy, Debug, PartialEq, Eq)]
 pub(crate) enum Form {
-    /// To play the script of the input.
+    /// To play the script of the input, or to judge its trace.
     Reads(Language),
     /// `gen SIZE NUMBER`: to play a generated script.
     Gen { size: u32, number: u32 },
@@ -52,6 +54,9 @@ fn language_of(word: &Bytes) -> Option<Language>
     }
     if is_word(word, b"live") {
         return Some(Language::Live);
+    }
+    if is_word(word, b"check") {
+        return Some(Language::Trace);
     }
     None
 }

@@ -7,7 +7,7 @@ mod live;
 mod merges;
 mod pastes;
 mod plays;
-mod replaying;
 mod streams;
 mod stress;
+mod verdicts;
 mod words;

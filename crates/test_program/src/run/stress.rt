@@ -1,6 +1,6 @@
-// Live scripts with many sites and editors: each trace is a possible one, however the threads ran.
+// Live scripts with many sites and editors: each trace is a possible one, as `check` says, however the threads ran.
 use super::live::traced;
-use super::replaying::entries_replayed;
+use super::verdicts::verdict_on;
 use std::alloc::Global;
 use std::process::Abort;
 use std::sync::Wait;
@@ -67,21 +67,37 @@ fn script_of(alloc: Global, plan: Plan) -> Result<Bytes, Fail> {
     Ok(script)
 }
 
-// Runs the script so often. How many entries the traces have together.
-fn entries_of<R: Threads + Wait + Copy + Send + Sync + Abort>(
+// Runs the script once, with a trace of at most so many bytes, and has that judged. How many lines it has.
+fn lines_of<R: Threads + Wait + Copy + Send + Sync + Abort>(
+    rt: &R,
+    alloc: Global,
+    script: &[u8],
+    room: u32,
+) -> Result<usize, Fail> {
+    let (status, sink) = traced(rt, alloc, script, room, &Always)?;
+    assert_eq!(rt; status, Status::Done);
+    let (status, verdict) = verdict_on(alloc, sink.held())?;
+    assert_eq!(rt; status, Status::Done);
+    assert_eq!(rt; verdict.as_slice(), b"yes\n".as_slice());
+    Ok(sink.held().iter().filter(|byte| **byte == b'\n').count())
+}
+
+// Runs the script of a plan so often. Whether each trace is a possible one, with a line for each of the plan's at least.
+fn all_are_possible<R: Threads + Wait + Copy + Send + Sync + Abort>(
     rt: &R,
     alloc: Global,
     plan: Plan,
     times: u32,
-) -> Result<u64, Fail> {
+) -> Result<(), Fail> {
     let script = script_of(alloc, plan)?;
-    let mut entries: u64 = 0;
+    let least = plan
+        .sites
+        .wrapping_mul(plan.editors)
+        .wrapping_mul(plan.lines) as usize;
     for _ in 0..times {
-        let (status, sink) = traced(rt, alloc, script.as_slice(), 4_000_000, &Always)?;
-        assert_eq!(rt; status, Status::Done);
-        entries = entries.wrapping_add(entries_replayed(alloc, sink.held())?);
+        assert!(rt; lines_of(rt, alloc, script.as_slice(), 4_000_000)? >= least);
     }
-    Ok(entries)
+    Ok(())
 }
 
 #[test]
@@ -91,8 +107,7 @@ fn each_trace_of_three_sites_is_possible(rt: HostRuntime) -> Result<(), Fail> {
         editors: 2,
         lines: 40,
     };
-    assert!(rt; entries_of(&rt, rt.alloc(), plan, 20)? > 0);
-    Ok(())
+    all_are_possible(&rt, rt.alloc(), plan, 20)
 }
 
 #[test]
@@ -102,8 +117,7 @@ fn each_trace_of_sixteen_sites_is_possible(rt: HostRuntime) -> Result<(), Fail> 
         editors: 4,
         lines: 20,
     };
-    assert!(rt; entries_of(&rt, rt.alloc(), plan, 5)? > 0);
-    Ok(())
+    all_are_possible(&rt, rt.alloc(), plan, 5)
 }
 
 #[test]
@@ -113,8 +127,7 @@ fn each_trace_of_sixty_four_sites_is_possible(rt: HostRuntime) -> Result<(), Fai
         editors: 1,
         lines: 10,
     };
-    assert!(rt; entries_of(&rt, rt.alloc(), plan, 3)? > 0);
-    Ok(())
+    all_are_possible(&rt, rt.alloc(), plan, 3)
 }
 
 // Eight editors type 16,384 letters each and delete as many: as many calls as a live script may ask for. There is always
@@ -136,9 +149,7 @@ fn as_many_calls_as_there_may_be_are_made(rt: HostRuntime) -> Result<(), Fail> {
             format!(in rt.alloc(); "\"\ndel {editor} 0 16384\n")?,
         )?;
     }
-    let (status, sink) = traced(&rt, rt.alloc(), script.as_slice(), 200_000_000, &Always)?;
-    assert_eq!(rt; status, Status::Done);
     // each site makes or takes them all
-    assert!(rt; entries_replayed(rt.alloc(), sink.held())? >= 8 * 262_144);
+    assert!(rt; lines_of(&rt, rt.alloc(), script.as_slice(), 200_000_000)? >= 8 * 262_144);
     Ok(())
 }

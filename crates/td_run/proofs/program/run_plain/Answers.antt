@@ -1,7 +1,7 @@
-use Rattle.std.proofs.Common.{refl, arith, subst}
+use Rattle.std.proofs.Common.{refl, subst}
 use Rattle.td_run.specs.Words.{IsFormOf, IsReading}
 use Rattle.td_run.specs.declared.words.Form.TheVariants.{Reads, Gen}
-use Rattle.td_run.specs.declared.words.Language.TheVariants.{Play}
+use Rattle.td_run.specs.declared.words.Language.TheVariants.{Play, Trace}
 use Rattle.td_run.proofs.Answering.{ended_answered, generated_answers, other_answered}
 use Rattle.td_run.proofs.program.run_plain.Goals as goal
 
@@ -12,6 +12,14 @@ returns-in-Some-Reads-Play g c =
     (subst (IsReading c.args.words.now) c.in-Some-Reads-Play.field-0-0-is
     (subst (IsFormOf c.args.words.now) c.in-Some-Reads-Play.field-0-is c.in-Some-Reads-Play.ensures.some)) c.played.ensures
     c.end.ensures
+
+pub returns-in-Some-Reads-Trace : goal.returns-in-Some-Reads-Trace
+returns-in-Some-Reads-Trace g c =
+    ended_answered g.S.Source g.K.Sink c.args.words.now c.args.source.now c.judged.new.source c.args.sink.now
+    c.end-in-Some-Reads-Trace.new.sink (Reads Trace) c.judged.result c.end-in-Some-Reads-Trace.result
+    (subst (IsReading c.args.words.now) c.in-Some-Reads-Trace.field-0-0-is
+    (subst (IsFormOf c.args.words.now) c.in-Some-Reads-Trace.field-0-is c.in-Some-Reads-Trace.ensures.some))
+    c.judged.ensures c.end-in-Some-Reads-Trace.ensures
 
 pub returns-in-Some-Gen : goal.returns-in-Some-Gen
 returns-in-Some-Gen g c =
@@ -30,4 +38,4 @@ returns-in-Some-Reads-Live g c = absurd (c.requires
 pub returns-in-None : goal.returns-in-None
 returns-in-None g c =
     other_answered g.S.Source g.K.Sink c.args.words.now c.args.source.now c.args.source.now c.args.sink.now
-    c.put.new.sink c.put.result c.in-None.ensures.none refl (omega arith) c.put.ensures
+    c.put.new.sink c.put.result c.in-None.ensures.none refl c.put.ensures

@@ -1,0 +1,15 @@
+pub mod Lines
+pub mod Stops
+pub mod Findings
+pub mod Verdict
+pub mod States
+pub mod Sites
+pub mod ReplayParts
+pub mod Looks
+pub mod Course
+pub mod Alone
+pub mod Seated
+pub mod FirstUnsent
+pub mod SentVotes
+pub mod Unsent
+pub mod AtRest

@@ -1,0 +1,10 @@
+pub mod InVector
+pub mod Slices
+pub mod OwnParts
+pub mod Entries
+pub mod NextSite
+pub mod Beside
+pub mod Taking
+pub mod Sized
+pub mod Knowing
+pub mod Resuming

@@ -1,0 +1,28 @@
+use Rattle.td_seat.proofs.OwnParts.{make_past, make_over, make_whole}
+use Rattle.td_seat.proofs.own_ops.OwnOps.make_one.Goals as goal
+
+pub returns-then-self : goal.returns-then-self
+returns-then-self c =
+    let o = c.args.self.now in
+    record { ok = λ site n v told p. make_past site n v told o.site o.have o.is_past o.deps.items p c.if-self.true }
+
+pub returns-then-get-ge-MAX_SEQ : goal.returns-then-get-ge-MAX_SEQ
+returns-then-get-ge-MAX_SEQ c =
+    let o = c.args.self.now in
+    record {
+      ok =
+          λ site n v told p.
+          make_over site n v told o.site o.have o.is_past o.deps.items p c.if-self.false
+          (rw (← c.get.ensures.number) c.if-get-ge-MAX_SEQ.true);
+    }
+
+pub returns : goal.returns
+returns c =
+    let o = c.args.self.now in
+    record {
+      ok =
+          λ site n v told p.
+          rw (c.bump.ensures, c.in_ok-push.ensures.items)
+          (make_whole site n v told o.site o.have o.is_past o.deps.items p c.if-self.false
+          (rw (← c.get.ensures.number) c.if-get-ge-MAX_SEQ.false));
+    }
