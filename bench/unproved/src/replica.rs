@@ -39,6 +39,10 @@ impl Store {
     pub fn new(n: usize) -> Store {
         Store { n, ops: vec![], by: vec![vec![]; n], runs: vec![], deps: vec![], messages: vec![] }
     }
+    /// The number of an operation, where it is made.
+    pub fn number(&self, d: Dot) -> Option<u32> {
+        self.by.get(site_of(d))?.get(seq_of(d) as usize - 1).copied()
+    }
     pub fn op(&self, d: Dot) -> &Op {
         &self.ops[self.by[site_of(d)][seq_of(d) as usize - 1] as usize]
     }
@@ -179,6 +183,10 @@ impl<D: Doc> Replica<D> {
             return Reply::Position(self.doc.live());
         }
         let target = self.doc.live_at(index);
+        self.delete_atom(st, target)
+    }
+    /// Condition: it is a live row.
+    pub fn delete_atom(&mut self, st: &mut Store, target: Id) -> Reply {
         if let Some(r) = self.held(|d, h| d.within(target, h)) {
             return r;
         }
@@ -221,6 +229,9 @@ impl<D: Doc> Replica<D> {
         self.decide(st, proposal, false);
         Reply::Cancelled
     }
+    pub fn has_proposed(&self, proposal: Dot) -> bool {
+        site_of(proposal) == self.site && self.own.binary_search_by_key(&seq_of(proposal), |t| t.seq).is_ok()
+    }
     fn tally(&mut self, proposal: Dot) -> Option<&mut Tally> {
         let i = self.own.binary_search_by_key(&seq_of(proposal), |t| t.seq).ok()?;
         Some(&mut self.own[i])
@@ -261,6 +272,16 @@ impl<D: Doc> Replica<D> {
             self.fit[s] = op.deps;
         }
         yes
+    }
+    /// Whether an operation that was really made, and is ready, finds what it needs. In a world each does; where votes
+    /// are invented, a commit may come without a hold, and remove the atom that another operation names.
+    pub fn fits(&self, op: &Op) -> bool {
+        match op.body {
+            Body::Insert { slot, .. } => slot == ROOT || self.doc.has(slot.atom()),
+            Body::Delete { target } => self.doc.has(target),
+            Body::Commit { proposal } => self.holds.iter().any(|h| h.0 == proposal),
+            Body::Propose { .. } | Body::Abort { .. } => true,
+        }
     }
     /// Exactly where `take` would answer Repeat.
     pub fn known(&self, st: &Store, m: Message) -> bool {

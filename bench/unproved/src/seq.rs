@@ -608,6 +608,14 @@ impl Seq {
         }
         unreachable!()
     }
+    /// How many live rows stand before a position.
+    fn live_before(&self, p: Pos) -> u32 {
+        let group = &self.groups[self.chunks[p.c as usize].group as usize];
+        let groups: u32 = self.top[..group.rank as usize].iter().map(|&g| self.groups[g as usize].w as u32).sum();
+        let kids = &group.kids[..find(&group.kids, p.c) as usize];
+        let chunks: u32 = kids.iter().map(|&c| self.chunks[c as usize].w as u32).sum();
+        groups + chunks + self.wsum(&self.chunks[p.c as usize].toks[..p.o as usize]) as u32
+    }
     fn leaf_row(&self, t: u32, inner: u32) -> u32 {
         let l = self.leaves[(t & !LEAF) as usize];
         self.arrays[l.array as usize].rows[(l.lo + inner) as usize]
@@ -796,6 +804,22 @@ impl Doc for Seq {
         let t = self.chunks[p.c as usize].toks[p.o as usize];
         let r = if t & LEAF != 0 { self.leaf_row(t, inner) } else { t >> 2 };
         self.rows.id[r as usize]
+    }
+    fn index_of(&self, id: Id) -> Option<u32> {
+        let r = self.row(id)?;
+        match self.last {
+            Some(l) if l.row == r && l.index != NONE => return Some(l.index),
+            _ => {}
+        }
+        match self.rows.del[r as usize] {
+            0 => Some(self.live_before(self.pos_atom(r))),
+            IN_ARRAY => {
+                let l = self.leaf_of(r);
+                let inner = self.rows.home[1][r as usize] - self.leaves[l as usize].lo;
+                Some(self.live_before(self.pos_leaf(l)) + inner)
+            }
+            _ => None,
+        }
     }
     fn alloc(&mut self, index: u32) -> Slot {
         self.place_index = index;
