@@ -1,0 +1,7 @@
+pub mod Device
+pub mod Moments
+pub mod Events
+pub mod Record
+pub mod Image
+pub mod MemDisk
+pub mod Gated
