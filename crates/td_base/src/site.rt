@@ -1,4 +1,4 @@
-ghost use Rattle.std.specs.Prelude.{◌≡◌, ◌≤◌};
+ghost use Rattle.std.specs.Prelude.{◌≡◌, ◌≤◌, ◌<◌, ◌+◌, ◌-◌};
 ghost use Rattle.std.specs.Option.{SomeIff};
 
 use std::marker::Model;
@@ -43,5 +43,22 @@ impl Site {
         ensures greatest { self ≤ MAX_SITE }
     {
         self.number
+    }
+
+    /// The site with this place, from 0, in what is kept site by site.
+    pub fn at(place: u8) -> Site
+        requires { place < MAX_SITE }
+        ensures { result ≡ place + 1 }
+    {
+        Site { number: place + 1 }
+    }
+
+    /// Its place, from 0, in what is kept site by site.
+    pub fn place(self) -> usize
+        ensures place { result ≡ self - 1 }
+        ensures least { 1 ≤ self }
+        ensures within { result < MAX_SITE }
+    {
+        usize::from(self.number) - 1
     }
 }

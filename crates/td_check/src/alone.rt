@@ -7,7 +7,6 @@ ghost use Rattle.td_check.specs.Alone.{AreCounts, AreRows, IsFirstAloneAt, IsRow
 ghost use Rattle.td_check.specs.Findings.{IsAlone, IsFirstAlone, NoneAlone};
 
 use crate::deeds::is_request;
-use crate::places::site_at;
 use std::alloc::Global;
 use td_base::{Memory, Site};
 use td_reader::{ReadDid, ReadTrace};
@@ -38,7 +37,7 @@ fn no_counts(alloc: Global, trace: &ReadTrace<'_>) -> Result<Vec<Vec<u8>>, Memor
 {
     let mut rows = Vec::new(alloc);
     for n in 0..trace.sites() {
-        let row = no_counts_of(alloc, trace, site_at(n))?;
+        let row = no_counts_of(alloc, trace, Site::at(n))?;
         rows.push(row)?;
     }
     Ok(rows)
@@ -61,7 +60,7 @@ fn count_editor(rows: &mut Vec<Vec<u8>>, trace: &ReadTrace<'_>, editor: u32)
     let Some(home) = trace.home(editor) else {
         return;
     };
-    let place = usize::from(home.number()) - 1;
+    let place = home.place();
     if place < rows.len() {
         count_calls(&mut rows[place], trace, editor);
     }
@@ -110,7 +109,7 @@ fn first_in(trace: &ReadTrace<'_>, rows: &[Vec<u8>]) -> Option<u32>
 {
     for n in 0..trace.sites() {
         let row = &rows[usize::from(n)];
-        if let Some(line) = first_of(trace, site_at(n), row) {
+        if let Some(line) = first_of(trace, Site::at(n), row) {
             return Some(line);
         }
     }

@@ -7,7 +7,6 @@ ghost use Rattle.td_check.specs.Sites.{IsReplaying, histories_of, states_of};
 
 use crate::judged::Judged;
 use crate::looks::Looks;
-use crate::places::site_at;
 use crate::replay::Replay;
 use crate::stop::{Stop, Went};
 use crate::verdict::Fault;
@@ -41,7 +40,7 @@ impl<'a, D: Doc> Replay<'a, D> {
     {
         let mut moved = false;
         for place in 0..self.sites() {
-            match self.go(alloc, site_at(place), looks)? {
+            match self.go(alloc, Site::at(place), looks)? {
                 Went::Stopped { stop } => return Ok(Went::Stopped { stop }),
                 Went::Rests { moved: more } => moved |= more,
             }

@@ -14,7 +14,6 @@ mod judged;
 mod judging;
 mod looks;
 mod opening;
-mod places;
 mod replay;
 mod seats;
 mod sent;

@@ -6,7 +6,6 @@ ghost use Rattle.td_seat.specs.Counted.{AreCounted};
 ghost use Rattle.td_seat.specs.Made.{IsMade};
 ghost use Rattle.td_check.specs.ReplayParts.{AreStarted};
 
-use crate::places::site_at;
 use std::alloc::Global;
 use td_base::{Memory, Site};
 use td_doc::Doc;
@@ -19,7 +18,7 @@ pub(crate) fn made_of(alloc: Global, trace: &ReadTrace<'_>) -> Result<Made, Memo
 {
     let mut made = Made::new(alloc);
     for place in 0..trace.sites() {
-        let counted = counted_of(alloc, trace, site_at(place))?;
+        let counted = counted_of(alloc, trace, Site::at(place))?;
         made.push(counted)?;
     }
     Ok(made)
@@ -46,7 +45,7 @@ pub(crate) fn seats_of<D: Doc>(alloc: Global, n: u8) -> Result<Vec<Seat<D>>, Mem
 {
     let mut seats = Vec::new(alloc);
     for place in 0..n {
-        let seat = Seat::new(alloc, site_at(place), n)?;
+        let seat = Seat::new(alloc, Site::at(place), n)?;
         seats.push(seat)?;
     }
     Ok(seats)

@@ -12,7 +12,6 @@ ghost use Rattle.td_check.specs.ReplayParts.{IsOutlineAt};
 
 use crate::judged::Judged;
 use crate::opening::{made_of, seats_of};
-use crate::places::place_of;
 use crate::seats::{asked_at, idle_at, offered_at, op_at, taken_at, voted_at};
 use std::alloc::Global;
 use std::marker::Model;
@@ -90,7 +89,7 @@ impl<'a, D: Doc> Replay<'a, D> {
         ensures machines { length self.now.machines ≡ self.now.trace.sites }
         ensures done { length self.now.done ≡ self.now.trace.sites }
     {
-        let done = self.done[place_of(site)];
+        let done = self.done[site.place()];
         self.trace.entry(site, done)
     }
 
@@ -100,7 +99,7 @@ impl<'a, D: Doc> Replay<'a, D> {
         requires left { done_of self.old site < length (site_entries (histories_of self.old) site) }
         ensures { self.new ≡ record self.old { done = slice_set self.old.done (site - 1) (done_of self.old site + 1) } }
     {
-        let place = place_of(site);
+        let place = site.place();
         let entries = self.trace.entries(site);
         if self.done[place] < entries {
             self.done[place] += 1;
@@ -225,7 +224,7 @@ impl<'a, D: Doc> Replay<'a, D> {
     {
         let _ = &self.trace;
         // a site has a number
-        place_of(site);
+        site.place();
     }
 
     // What the operation with this dot depends on, where an entry of its site made it.
@@ -234,7 +233,7 @@ impl<'a, D: Doc> Replay<'a, D> {
         ensures fit { IfSome result (λ v. (length v ≡ length (histories_of self.now)) × IsOp (outline dot v)) }
     {
         // a site has a number
-        place_of(dot.site);
+        dot.site.place();
         self.made.deps(dot).copied()
     }
 

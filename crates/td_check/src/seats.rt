@@ -15,7 +15,6 @@ ghost use Rattle.td_check.specs.Sites.{IsJudged, IsJudgedIn};
 
 use crate::judged::Judged;
 use crate::judging::{judge_asked, judge_idle, judge_offered, judge_taken, judge_vote};
-use crate::places::place_of;
 use td_base::{Dot, Memory, Site};
 use td_clock::Vector;
 use td_doc::Doc;
@@ -35,7 +34,7 @@ pub(crate) fn asked_at<D: Doc>(
         (Steps (step (get_or seats.old.items (site - 1) d) (Local request))) reply.now judged
         seats.old.items seats.new.items) }
 {
-    judge_asked(&mut seats[place_of(site)], request, reply)
+    judge_asked(&mut seats[site.place()], request, reply)
 }
 
 /// A vote of another site, on a proposal of this one.
@@ -51,7 +50,7 @@ pub(crate) fn voted_at<D: Doc>(
         (Steps (step (get_or seats.old.items (site - 1) d) (Take (AVote vote)))) reply.now judged
         seats.old.items seats.new.items) }
 {
-    judge_vote(&mut seats[place_of(site)], vote, reply)
+    judge_vote(&mut seats[site.place()], vote, reply)
 }
 
 /// An operation that is offered to the site: what it depends on, and itself, as soon as it is made.
@@ -72,7 +71,7 @@ pub(crate) fn offered_at<D: Doc>(
         (judge_offer deps op (is_new reply.now) dot (get_or seats.old.items (site - 1) d)) reply.now judged
         seats.old.items seats.new.items) }
 {
-    judge_offered(&mut seats[place_of(site)], dot, deps, op, reply)
+    judge_offered(&mut seats[site.place()], dot, deps, op, reply)
 }
 
 /// The operation that is said to have waited at the site and to be taken up.
@@ -92,7 +91,7 @@ pub(crate) fn taken_at<D: Doc>(
         (judge_taken deps op (get_or seats.old.items (site - 1) d)) reply.now judged
         seats.old.items seats.new.items) }
 {
-    judge_taken(&mut seats[place_of(site)], deps, op, reply)
+    judge_taken(&mut seats[site.place()], deps, op, reply)
 }
 
 /// Nothing is said to be taken up at the site.
@@ -102,7 +101,7 @@ pub(crate) fn idle_at<D: Doc>(seats: &[Seat<D>], site: Site, reply: &Reply) -> J
     ensures { (d : Machine) → IsJudged (Steps (step (get_or seats.now (site - 1) d) Next)) reply.now result
         (get_or seats.now (site - 1) d) (get_or seats.now (site - 1) d) }
 {
-    judge_idle(&seats[place_of(site)], reply)
+    judge_idle(&seats[site.place()], reply)
 }
 
 /// The operation with this dot at the seat of its site.
@@ -111,7 +110,7 @@ pub(crate) fn op_at<D: Doc>(seats: &[Seat<D>], dot: Dot) -> Option<Op>
         ≡ option_and_then (λ (m : Machine). find (is_dot_of dot) m.log) (slice_get seats.now (dot.site - 1)) }
     ensures some { 0 < dot.site }
 {
-    let place = place_of(dot.site);
+    let place = dot.site.place();
     let seat = seats.get(place)?;
     seat.op(dot)
 }

@@ -83,7 +83,7 @@ fn add_vote(sent: &mut BTreeSet<SentVote>, vote: Vote, place: usize) -> Result<(
         ≡ (contains sent_cmp sent.old (sent_vote v)
         || (v.voter - 1 == place && is_vote v (MessageValue.Vote vote)))) }
 {
-    if usize::from(vote.voter.number()) - 1 == place {
+    if vote.voter.place() == place {
         sent.insert(SentVote::of(vote))?;
     }
     Ok(())

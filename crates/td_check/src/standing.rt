@@ -13,7 +13,6 @@ ghost use Rattle.td_check.specs.Sites.{done_of, histories_of, machine_of, states
 ghost use Rattle.td_check.specs.declared.stop.Went.{Went};
 
 use crate::looks::Looks;
-use crate::places::{place_of, site_at};
 use crate::replay::Replay;
 use crate::stop::{Stop, Went};
 use crate::verdict::Fault;
@@ -48,7 +47,7 @@ impl<'a, D: Doc> Replay<'a, D> {
     {
         let mut looks = Looks::of(alloc, self.trace)?;
         for place in 0..self.sites() {
-            self.look(alloc, site_at(place), &mut looks)?;
+            self.look(alloc, Site::at(place), &mut looks)?;
         }
         Ok(looks)
     }
@@ -79,7 +78,7 @@ impl<'a, D: Doc> Replay<'a, D> {
     {
         // no more than there are
         let _ = &self.trace;
-        self.done[place_of(site)]
+        self.done[site.place()]
     }
 
     // The text of the site.
@@ -87,7 +86,7 @@ impl<'a, D: Doc> Replay<'a, D> {
         requires { site ≤ self.now.trace.sites }
         ensures { IfOk result (λ text. text ≡ text_of (machine_of self.now site).doc) }
     {
-        self.seats[place_of(site)].text(alloc)
+        self.seats[site.place()].text(alloc)
     }
 
     /// Stopped at the next entry of the site.
@@ -131,7 +130,7 @@ impl<'a, D: Doc> Replay<'a, D> {
         // there are as many histories
         let _ = &self.trace;
         for place in 0..self.sites() {
-            let site = site_at(place);
+            let site = Site::at(place);
             if self.has_left(site) {
                 return Some(Stop {
                     line: self.next_line(site),

@@ -5,7 +5,6 @@ ghost use Rattle.td_replay.specs.Judging.{States};
 ghost use Rattle.td_check.specs.Findings.{AreAllTexts, IsFirstText};
 ghost use Rattle.td_check.specs.Seated.{AreSeated};
 
-use crate::places::site_at;
 use std::alloc::Global;
 use td_base::{Memory, Site};
 use td_doc::Doc;
@@ -23,7 +22,7 @@ pub(crate) fn first_text<D: Doc>(
         → MatchOption found (AreAllTexts trace.now last) (λ line. IsFirstText trace.now last line)) }
 {
     for place in 0..trace.sites() {
-        let site = site_at(place);
+        let site = Site::at(place);
         if !is_text(alloc, trace, seats, site)? {
             return Ok(Some(trace.line_of_text(site)));
         }
@@ -41,7 +40,7 @@ fn is_text<D: Doc>(
     ensures { IfOk result (λ is. (m : Machine) → slice_get seats.now (site - 1) ≡ Some m
         → IsTrue is ↔ (slice_get trace.now.texts (site - 1) ≡ Some (text_of m.doc))) }
 {
-    let Some(seat) = seats.get(usize::from(site.number()) - 1) else {
+    let Some(seat) = seats.get(site.place()) else {
         return Ok(false);
     };
     let Some(told) = trace.text(site) else {

@@ -7,7 +7,6 @@ ghost use Rattle.td_check.specs.FirstUnsent.{IsFirstUnsent};
 ghost use Rattle.td_check.specs.Seated.{AreSeated};
 ghost use Rattle.td_check.specs.Unsent.{AreKnown, AreKnownIn, IsFirstUnknown, IsFirstUnknownIn, is_unknown};
 
-use crate::places::site_at;
 use crate::sent::{SentVote, votes_sent};
 use std::alloc::Global;
 use std::collections::BTreeSet;
@@ -38,7 +37,7 @@ fn first_unknown(trace: &ReadTrace<'_>, sent: &BTreeSet<SentVote>) -> Option<u32
     ensures value { IsTraceValue trace.now }
 {
     for place in 0..trace.sites() {
-        let site = site_at(place);
+        let site = Site::at(place);
         if let Some(k) = first_of(trace, sent, site) {
             return Some(trace.line_of_entry(site, k));
         }

@@ -83,7 +83,7 @@ impl Vector {
         ensures number { result ≡ vector_get self.now site }
         ensures small { result ≤ MAX_SEQ }
     {
-        u32::from(self.numbers[place_of(site)])
+        u32::from(self.numbers[site.place()])
     }
 
     /// Makes that number another, of at most `MAX_SEQ`.
@@ -92,7 +92,7 @@ impl Vector {
         requires small { value ≤ MAX_SEQ }
         ensures { self.new ≡ vector_set self.old site value }
     {
-        self.numbers[place_of(site)] = value as u16;
+        self.numbers[site.place()] = value as u16;
     }
 
     /// Whether the other vector is at most this one in every place.
@@ -110,7 +110,7 @@ impl Vector {
     pub fn has(&self, dot: Dot) -> bool
         ensures { result ≡ vector_has self.now dot }
     {
-        dot.seq <= u32::from(self.numbers[place_of(dot.site)])
+        dot.seq <= u32::from(self.numbers[dot.site.place()])
     }
 
     /// Takes the greater number in each place.
@@ -129,7 +129,7 @@ impl Vector {
         requires below { vector_get self.old site < MAX_SEQ }
         ensures { self.new ≡ vector_bump self.old site }
     {
-        self.numbers[place_of(site)] += 1;
+        self.numbers[site.place()] += 1;
     }
 
     /// How many operations are known.
@@ -138,11 +138,4 @@ impl Vector {
     {
         self.numbers().iter().map(|n| u32::from(*n)).sum()
     }
-}
-
-fn place_of(site: Site) -> usize
-    ensures place { result ≡ site - 1 }
-    ensures within { result < PLACES }
-{
-    site.number() as usize - 1
 }

@@ -21,7 +21,7 @@ impl Least {
         requires { site ≤ SITES }
         ensures { result ≡ least_at self.now site }
     {
-        self.sites[site.number() as usize - 1]
+        self.sites[site.place()]
     }
 
     /// The same with another number for the site.
@@ -29,7 +29,7 @@ impl Least {
         requires { site ≤ SITES }
         ensures { self.new ≡ with_least self.old site least }
     {
-        self.sites[site.number() as usize - 1] = least;
+        self.sites[site.place()] = least;
     }
 
     /// Once all sites have all edits, they share what each of them added, without what each of them took.

@@ -67,7 +67,7 @@ impl Index {
         ensures site { OnOk result (self.new.room_site ≡ of) }
         ensures err { OnErr result (self.new.room_site ≡ self.old.room_site) }
     {
-        self.lists[place_of(of)].reserve(more as usize)?;
+        self.lists[of.place()].reserve(more as usize)?;
         self.room_site = of;
         self.room = more;
         Ok(())
@@ -88,7 +88,7 @@ impl Index {
         ensures some { 1 ≤ self.old.room_site }
         ensures room { self.new.room ≡ self.old.room - 1 }
     {
-        self.lists[place_of(self.room_site)].push_reserved(Logged {
+        self.lists[self.room_site.place()].push_reserved(Logged {
             number,
             decided: None,
         });
@@ -102,7 +102,7 @@ impl Index {
         ensures site { self.new.room_site ≡ self.old.room_site }
         ensures room { self.new.room ≡ self.old.room }
     {
-        if let Some(list) = self.lists.get_mut(place_of(proposal.site)) {
+        if let Some(list) = self.lists.get_mut(proposal.site.place()) {
             decide_in(list, proposal.seq as usize - 1, yes);
         }
     }
@@ -112,7 +112,7 @@ impl Index {
         ensures logged { result ≡ logged_at dot self.now.lists }
         ensures dot { IsFromOne dot }
     {
-        let list = self.lists.get(place_of(dot.site))?;
+        let list = self.lists.get(dot.site.place())?;
         list.get(dot.seq as usize - 1).copied()
     }
 
@@ -121,7 +121,7 @@ impl Index {
         ensures logged { result ≡ last_of (list_of site self.now.lists) }
         ensures site { 1 ≤ site }
     {
-        self.lists.get(place_of(site))?.last().copied()
+        self.lists.get(site.place())?.last().copied()
     }
 }
 
@@ -134,12 +134,4 @@ fn decide_in(list: &mut Vec<Logged>, i: usize, yes: bool)
     if let Some(logged) = list.get_mut(i) {
         logged.decided = Some(yes);
     }
-}
-
-// Where the list of a site stands.
-fn place_of(site: Site) -> usize
-    ensures place { result ≡ site - 1 }
-    ensures least { 1 ≤ site }
-{
-    site.number() as usize - 1
 }

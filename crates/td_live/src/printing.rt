@@ -66,7 +66,7 @@ fn push_site<D: Doc>(
     ensures { OnOk result (bytes.new ≡ bytes.old
         ++ all_written (history_said (place + 1) (traced_history (replica_from world.now.replicas place).entries))) }
 {
-    let lines = trace_site(alloc, world.replica(site_at(place)))?;
+    let lines = trace_site(alloc, world.replica(Site::at(place)))?;
     bytes.push(lines.as_slice())?;
     Ok(())
 }
@@ -134,17 +134,9 @@ fn push_text<D: Doc>(
     ensures { OnOk result (bytes.new ≡ bytes.old
         ++ all_written (text_said (place + 1) (text_of (replica_from world.now.replicas place).machine.doc))) }
 {
-    let site = site_at(place);
+    let site = Site::at(place);
     let text = world.replica(site).text(alloc)?;
     let line = trace_text(alloc, site, text.as_slice())?;
     bytes.push(line.as_slice())?;
     Ok(())
-}
-
-// The site at the place, from 0.
-fn site_at(place: u8) -> Site
-    requires { place < MAX_SITE }
-    ensures { result ≡ place + 1 }
-{
-    Site::new(place + 1).unwrap()
 }

@@ -50,17 +50,9 @@ fn gather_next(
     ensures fewer { length homes.new.items < length homes.old.items }
 {
     let home = homes.remove(0);
-    let place = place_of(home);
+    let place = home.place();
     let site = &mut sites[place];
     let answers = site.take_first();
     all.push(answers)?;
     Ok(())
-}
-
-// The place of a site, from 0.
-pub(crate) fn place_of(site: Site) -> usize
-    ensures place { result ≡ site - 1 }
-    ensures some { 1 ≤ site }
-{
-    usize::from(site.number()) - 1
 }

@@ -11,7 +11,6 @@ ghost use Rattle.td_room.specs.declared.room_fault.RoomFault.TheVariants.{Refuse
 ghost use Rattle.td_room.specs.Opening.{IsRoom, IsOpen, AreOpen, IsOpened, AreOpened, AreFreshFrom, OpenedNext, CanOpen, OpensOne};
 
 use crate::closing::quit_all;
-use crate::gathering::place_of;
 use crate::readers::Readers;
 use crate::room_fault::RoomFault;
 use crate::worker::Worker;
@@ -133,7 +132,7 @@ fn open_next<D: Doc, R: Wait>(
     ensures memory { IfErr result (λ fault. fault ≡ WantOfMemory → opener.new ≡ opener.old) }
     ensures opened { OnOk result (opener.new ≡ opener.old) }
 {
-    let site = site_at(workers.len());
+    let site = Site::at(workers.len() as u8);
     let Ok(()) = workers.reserve(1) else {
         return Err(RoomFault::Memory);
     };
@@ -198,14 +197,6 @@ fn editors_at(site: Site, homes: &[Site]) -> u32
     homes.iter().filter(|home| **home == site).count() as u32
 }
 
-// The site at a place, from 0.
-fn site_at(place: usize) -> Site
-    requires { place < MAX_SITE }
-    ensures { result ≡ place + 1 }
-{
-    Site::new(place as u8 + 1).unwrap()
-}
-
 // Opens a line to each editor, of which these are the homes and the numbers of calls.
 fn open_editors<D: Doc>(
     alloc: Global,
@@ -261,7 +252,7 @@ fn open_editor<D: Doc>(
     ensures peers { OnOk result (map (λ (w : WorkerValue). w.peers) workers.new.items
         ≡ map (λ (w : WorkerValue). w.peers) workers.old.items) }
 {
-    let place = place_of(home);
+    let place = home.place();
     let its = &mut readers[place];
     let reader = its.take_first();
     let (line, editor) = open_line(alloc, number, home, reader, calls)?;

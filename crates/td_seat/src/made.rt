@@ -42,7 +42,7 @@ impl Made {
         ensures { (all : List (List TraceEntry)) → IsMade all self.now
             → option_copied result ≡ made_deps all dot }
     {
-        let place = dot.site.number() as usize - 1;
+        let place = dot.site.place();
         match self.sites.get(place) {
             Some(counted) => counted.deps(dot.seq),
             None => None,

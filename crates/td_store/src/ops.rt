@@ -163,7 +163,7 @@ fn row_for(rows: &mut Vectors, last_rows: &mut [u32; SITES], op: &Op) -> u32
     ensures room { rows.old.room ≤ rows.new.room + 1 }
 {
     let site = op.dot().site;
-    let last = &mut last_rows[site.number() as usize - 1];
+    let last = &mut last_rows[site.place()];
     if !rows.has_but_at(*last, op.deps(), site) {
         *last = rows.len();
         rows.push(op.deps());

@@ -97,7 +97,7 @@ impl Vectors {
         let size = self.size as usize;
         let start = k as usize * size;
         let row = &self.numbers[start..start + size];
-        are_same_but_at(row, vector.numbers(), site.number() as usize - 1)
+        are_same_but_at(row, vector.numbers(), site.place())
     }
 
     /// How many vectors there are.

@@ -13,12 +13,12 @@ pub returns-then-place-len : goal.returns-then-place-len
 returns-then-place-len c = λ a.
     let t = c.args.trace.now in
     let rows = c.args.rows.now.items in
-    let place = c.from-place.result - 1 in
+    let place = c.place-place.result in
     let old = c.index_mut.result.now in
     let row = with_items old c.count_calls.new.row in
     let h = home_of_log t c.args.editor c.in-Some.home (sym c.home.ensures ∙ c.in-Some.is) in
     let within : place < length rows = omega (arith, c.len.ensures, c.args.rows.now.ok.0) in
-    let home : h.log.home ≡ place + 1 = omega (arith, h.home_is, c.number.ensures, c.from-place.ensures) in
+    let home : h.log.home ≡ place + 1 = omega (arith, h.home_is, c.place-place.ensures.place) in
     let at : slice_get rows place ≡ Some old =
     slice_get_read rows (length rows) place old refl within c.index_mut.ensures.value in
     let size : length c.count_calls.new.row ≡ length old.items =
@@ -37,5 +37,5 @@ returns-else-place-len c = λ a.
     let rows = c.args.rows.now.items in
     let h = home_of_log t c.args.editor c.in-Some.home (sym c.home.ensures ∙ c.in-Some.is) in
     let past : length rows < h.log.home =
-    omega (arith, c.len.ensures, c.args.rows.now.ok.0, h.home_is, c.number.ensures, c.from-place.ensures) in
+    omega (arith, c.len.ensures, c.args.rows.now.ok.0, h.home_is, c.place-place.ensures.place) in
     rows_passed t c.args.editor t.sites h.log rows h.is past a

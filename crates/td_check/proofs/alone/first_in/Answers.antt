@@ -9,7 +9,7 @@ use Rattle.td_check.proofs.alone.first_in.Goals as goal
 pub loop-n-preserved : goal.loop-n-preserved
 loop-n-preserved c =
     let t = c.args.trace.now in
-    let site : c.site_at.result ≡ c.loop-n.n + 1 = c.site_at.ensures in
+    let site : c.at.result ≡ c.loop-n.n + 1 = c.at.ensures in
     none_of_more t c.loop-n.n (subst (λ (s : ℕ). (k : ℕ) → ¬ IsAlone t s k) site c.in_default.ensures)
     c.loop-n.invariant
 
@@ -24,11 +24,11 @@ pub first_of-requires-clause-row : goal.first_of-requires-clause-row
 first_of-requires-clause-row c =
     let t = c.args.trace.now in
     let rows = c.args.rows.now in
-    let site : c.site_at.result ≡ c.loop-n.n + 1 = c.site_at.ensures in
+    let site : c.at.result ≡ c.loop-n.n + 1 = c.at.ensures in
     let row = c.index-rows-from.result in
     let at : slice_get rows c.loop-n.n ≡ Some row =
     ap (slice_get rows) (sym c.from.ensures)
     ∙ slice_get_read rows (length rows) c.from.result row refl
     (omega (arith, c.from.ensures, c.requires.each, c.sites-n-end.ensures.sites)) c.index-rows-from.is in
-    subst (IsRowOf t t.logs c.site_at.result) (sym c.deref.ensures.value)
+    subst (IsRowOf t t.logs c.at.result) (sym c.deref.ensures.value)
     (subst (λ (s : ℕ). IsRowOf t t.logs s row.items) (sym site) (c.requires.row c.loop-n.n row at))

@@ -6,7 +6,7 @@ use Rattle.td_check.proofs.alone.no_counts.Goals as goal
 pub loop-n-preserved : goal.loop-n-preserved
 loop-n-preserved c =
     let t = c.args.trace.now in
-    let site : c.site_at.result ≡ c.loop-n.n + 1 = c.site_at.ensures in
+    let site : c.at.result ≡ c.loop-n.n + 1 = c.at.ensures in
     let row : IsRowOf t [] (c.loop-n.n + 1) c.in_ok-row.row.items =
     subst (λ (s : ℕ). IsRowOf t [] s c.in_ok-row.row.items) site c.in_ok-row.ensures in
     subst (AreRows t [] (c.loop-n.n + 1)) (sym c.in_ok-push.ensures.items)

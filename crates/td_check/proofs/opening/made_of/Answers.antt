@@ -7,7 +7,7 @@ loop-place-init c = c.new-made.ensures (length c.args.trace.now.histories)
 
 pub loop-place-preserved : goal.loop-place-preserved
 loop-place-preserved c =
-    made_on c.args.trace.now c.sites-place-end.ensures.value c.loop-place.place c.site_at.result (subst (λ
+    made_on c.args.trace.now c.sites-place-end.ensures.value c.loop-place.place c.at.result (subst (λ
     (n : ℕ). c.loop-place.place < n) c.sites-place-end.ensures.sites c.loop-place-test.true)
-    c.site_at.ensures c.loop-place.made c.push.new.self c.in_ok-counted.counted c.in_ok-push.ensures.ok
+    c.at.ensures c.loop-place.made c.push.new.self c.in_ok-counted.counted c.in_ok-push.ensures.ok
     c.loop-place.invariant c.in_ok-counted.ensures

@@ -9,7 +9,7 @@ loop-place-preserved g c =
     subst (AreStarted c.args.n (c.loop-place.place + 1))
     (sym (c.in_ok-push.ensures.items
     ∙ ap (λ (m : Machine). c.loop-place.seats.items ++ m ∷ [])
-    (c.in_ok-seat.ensures ∙ ap (λ (k : ℕ). start k c.args.n) c.site_at.ensures)))
+    (c.in_ok-seat.ensures ∙ ap (λ (k : ℕ). start k c.args.n) c.at.ensures)))
     (some_started c.args.n c.loop-place.place c.loop-place.seats.items c.loop-place.invariant)
 
 pub returns : goal.returns

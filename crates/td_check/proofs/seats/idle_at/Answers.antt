@@ -10,5 +10,5 @@ use Rattle.td_check.proofs.seats.idle_at.Goals as goal
 pub returns : goal.returns
 returns g c = λ d.
     subst (λ (m : Machine). IsJudged (Steps (step m Next)) c.args.reply.now c.judge_idle.result m m)
-    (sym (there_is c.args.seats.now c.args.site c.place_of.result c.place_of.ensures.some c.requires.within
-    c.place_of.ensures.place c.index-seats-place_of.result _ c.index-seats-place_of.is d)) c.judge_idle.ensures
+    (sym (there_is c.args.seats.now c.args.site c.place.result c.place.ensures.least c.requires.within
+    c.place.ensures.place c.index-seats-place.result _ c.index-seats-place.is d)) c.judge_idle.ensures

@@ -10,6 +10,6 @@ pub returns-clause-judged : goal.returns-clause-judged
 returns-clause-judged g c = λ d.
     if_ok_so _ _ c.judge_vote.result
     (λ judged it.
-    in_seats d c.args.seats.now.items c.args.site c.place_of.result c.place_of.ensures.some c.requires
-    c.place_of.ensures.place c.index_mut.result.now _ c.judge_vote.new.seat c.index_mut.ensures.value
+    in_seats d c.args.seats.now.items c.args.site c.place.result c.place.ensures.least c.requires
+    c.place.ensures.place c.index_mut.result.now _ c.judge_vote.new.seat c.index_mut.ensures.value
     (λ (m : Machine). Steps (step m (Take (AVote c.args.vote)))) c.args.reply.now judged it) c.judge_vote.ensures

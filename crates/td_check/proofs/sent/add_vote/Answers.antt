@@ -10,7 +10,7 @@ pub returns-in_ok-insert : goal.returns-in_ok-insert
 returns-in_ok-insert c =
     λ v.
     vote_added c.args.sent.now c.insert.new.self c.args.vote c.args.place
-    (omega (arith, c.if-from-place.true, c.from.ensures, c.number.ensures.value))
+    (omega (arith, c.if-place.true, c.place.ensures.place))
     (λ (q : SentVote).
     c.in_ok-insert.ensures.updates.0 q
     ∙ ap (λ (k : SentVote). cond (eq_by_cmp sent_cmp k q) true (contains sent_cmp c.args.sent.now q)) c.of.ensures) v

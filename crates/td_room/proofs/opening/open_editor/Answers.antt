@@ -11,9 +11,9 @@ use Rattle.td_room.proofs.opening.open_editor.Goals as goal
 pub index_mut-its-requires : goal.index_mut-its-requires
 index_mut-its-requires g c =
     let o = c.requires.opens in
-    let p : ℕ = c.place_of-place.result in
-    let some : 1 ≤ c.args.home = c.place_of-place.ensures.some in
-    let is : p ≡ c.args.home - 1 = c.place_of-place.ensures.place in
+    let p : ℕ = c.place-place.result in
+    let some : 1 ≤ c.args.home = c.place-place.ensures.least in
+    let is : p ≡ c.args.home - 1 = c.place-place.ensures.place in
     let within : c.args.home ≤ length c.args.workers.now.items = c.requires.within in
     let at : c.args.home ≡ 1 + p = omega (arith, some, is) in
     let few : p < length c.args.workers.now.items = omega (arith, some, is, within) in
@@ -24,9 +24,9 @@ index_mut-its-requires g c =
 pub take_first-reader-requires : goal.take_first-reader-requires
 take_first-reader-requires g c =
     let o = c.requires.opens in
-    let p : ℕ = c.place_of-place.result in
-    let some : 1 ≤ c.args.home = c.place_of-place.ensures.some in
-    let is : p ≡ c.args.home - 1 = c.place_of-place.ensures.place in
+    let p : ℕ = c.place-place.result in
+    let some : 1 ≤ c.args.home = c.place-place.ensures.least in
+    let is : p ≡ c.args.home - 1 = c.place-place.ensures.place in
     let within : c.args.home ≤ length c.args.workers.now.items = c.requires.within in
     let at : c.args.home ≡ 1 + p = omega (arith, some, is) in
     let few : p < length c.args.workers.now.items = omega (arith, some, is, within) in
@@ -36,9 +36,9 @@ take_first-reader-requires g c =
 pub push_line-requires : goal.push_line-requires
 push_line-requires g c =
     let o = c.requires.opens in
-    let p : ℕ = c.place_of-place.result in
-    let some : 1 ≤ c.args.home = c.place_of-place.ensures.some in
-    let is : p ≡ c.args.home - 1 = c.place_of-place.ensures.place in
+    let p : ℕ = c.place-place.result in
+    let some : 1 ≤ c.args.home = c.place-place.ensures.least in
+    let is : p ≡ c.args.home - 1 = c.place-place.ensures.place in
     let within : c.args.home ≤ length c.args.workers.now.items = c.requires.within in
     let at : c.args.home ≡ 1 + p = omega (arith, some, is) in
     let few : p < length c.args.workers.now.items = omega (arith, some, is, within) in
@@ -51,9 +51,9 @@ push_line-requires g c =
 
 pub returns-clause-opens : goal.returns-clause-opens
 returns-clause-opens g c =
-    let p : ℕ = c.place_of-place.result in
-    let some : 1 ≤ c.args.home = c.place_of-place.ensures.some in
-    let is : p ≡ c.args.home - 1 = c.place_of-place.ensures.place in
+    let p : ℕ = c.place-place.result in
+    let some : 1 ≤ c.args.home = c.place-place.ensures.least in
+    let is : p ≡ c.args.home - 1 = c.place-place.ensures.place in
     let within : c.args.home ≤ length c.args.workers.now.items = c.requires.within in
     let at : c.args.home ≡ 1 + p = omega (arith, some, is) in
     let few : p < length c.args.workers.now.items = omega (arith, some, is, within) in
@@ -70,9 +70,9 @@ returns-clause-opens g c =
 pub returns-clause-opened : goal.returns-clause-opened
 returns-clause-opened g c =
     let o = c.requires.opens in
-    let p : ℕ = c.place_of-place.result in
-    let some : 1 ≤ c.args.home = c.place_of-place.ensures.some in
-    let is : p ≡ c.args.home - 1 = c.place_of-place.ensures.place in
+    let p : ℕ = c.place-place.result in
+    let some : 1 ≤ c.args.home = c.place-place.ensures.least in
+    let is : p ≡ c.args.home - 1 = c.place-place.ensures.place in
     let within : c.args.home ≤ length c.args.workers.now.items = c.requires.within in
     let at : c.args.home ≡ 1 + p = omega (arith, some, is) in
     let few : p < length c.args.workers.now.items = omega (arith, some, is, within) in
@@ -87,5 +87,5 @@ returns-clause-opened g c =
 
 pub returns-clause-peers : goal.returns-clause-peers
 returns-clause-peers g c =
-    peers_set c.args.workers.now.items c.place_of-place.result c.index_mut-worker.result.now c.push_line.new.self c.in_ok-line.line
+    peers_set c.args.workers.now.items c.place-place.result c.index_mut-worker.result.now c.push_line.new.self c.in_ok-line.line
     c.index_mut-worker.ensures.value c.in_ok-push_line.ensures

@@ -12,7 +12,7 @@ returns-clause-next g c =
     let w : WorkerValue = c.in_ok-worker.worker in
     let its : List ReaderValue = c.in_ok-worker.its in
     let n : c.len.result ≡ length ws = search rules in
-    let site : c.site_at-site.result ≡ length ws + 1 = c.site_at-site.ensures ∙ ap (λ (k : ℕ). k + 1) n in
+    let site : c.at-site.result ≡ length ws + 1 = c.at-site.ensures ∙ ap (λ (k : ℕ). k + 1) n in
     let next : OpenedNext c.args.homes.now c.args.n (length ws + 1) c.first_row-row.result ws c.push_reserved.new.self.items
     c.args.readers.now.items c.push_reserved-2.new.self.items =
     record {

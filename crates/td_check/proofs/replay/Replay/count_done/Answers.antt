@@ -13,7 +13,7 @@ invariant_of-self g c =
       machines = c.self.inside.seats.items;
       done = c.self.inside.done.items;
     } in
-    let place = c.place_of-place.ensures.place in
+    let place = c.place-place.ensures.place in
     let within : c.args.site ≤ r.trace.sites =
     subst (λ (q : ReplayValue). c.args.site ≤ q.trace.sites) (sym c.self.view_is) c.requires.within in
     let left : done_of r c.args.site < length (site_entries (histories_of r) c.args.site) =
@@ -25,4 +25,4 @@ invariant_of-self g c =
     ∙ done_any made r c.self.invariant c.args.site within c.index_mut.result.now in
     subst (λ (done : List ℕ). IsReplayParts made (record r { done = done }))
     (λ i. set r.done (sym place i) (sym now i + 1))
-    (with_one_more made r c.self.invariant c.args.site c.place_of-place.ensures.some within left)
+    (with_one_more made r c.self.invariant c.args.site c.place-place.ensures.least within left)

@@ -13,5 +13,5 @@ returns-clause-fit g c =
     ∙ c.deps.ensures c.self.inside.trace.now.histories c.self.invariant.told
     ∙ ap (λ (q : ReplayValue). made_deps (histories_of q) d) c.self.view_is in
     told_fit (histories_of c.args.self.now) d
-    (subst (λ (e : DotValue). 0 < e.site) c.dot.view_is c.place_of.ensures.some)
+    (subst (λ (e : DotValue). 0 < e.site) c.dot.view_is c.place.ensures.least)
     (subst (λ (e : DotValue). 0 < e.seq) c.dot.view_is c.dot.invariant.0) c.copied.result found

@@ -15,9 +15,9 @@ pub loop-place-preserved : goal.loop-place-preserved
 loop-place-preserved g c =
     let sites = c.sites-place-end.ensures in
     let less = c.loop-place-test.true in
-    let number = c.site_at.ensures in
+    let number = c.at.ensures in
     let told = c.look.ensures in
-    first_on c.args.self.now c.loop-place.place c.site_at.result c.loop-place.looks c.look.new.looks sites.value
+    first_on c.args.self.now c.loop-place.place c.at.result c.loop-place.looks c.look.new.looks sites.value
     c.requires.begun told.some number (omega (arith, less, number, sites.sites)) told.most c.loop-place.invariant
     c.in_ok-look.ensures.ok
 

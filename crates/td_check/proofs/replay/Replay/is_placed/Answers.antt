@@ -10,7 +10,7 @@ returns g c =
     let r : ReplayValue = c.args.self.now in
     let parts : IsReplayParts made r = subst (λ (q : ReplayValue). IsReplayParts made q) c.self.view_is
     c.self.invariant in
-    let some = c.place_of.ensures.some in
+    let some = c.place.ensures.least in
     record {
       size = size_of made r parts c.args.site some c.requires.within c.requires.replaying;
       site = site_of made r parts c.args.site some c.requires.within c.requires.replaying;

@@ -14,9 +14,9 @@ pub loop-place-preserved : goal.loop-place-preserved
 loop-place-preserved g c =
     let sites = c.sites-place-end.ensures in
     round_on c.args.self.now c.loop-place.self c.go.new.self c.loop-place.looks c.go.new.looks c.loop-place.place
-    c.site_at.result c.loop-place.moved c.in-Rests.more sites.value c.loop-place.invariant.0 c.loop-place.invariant.1
-    (subst (λ (n : ℕ). c.loop-place.place < n) sites.sites c.loop-place-test.true) c.site_at.ensures
-    (subst (λ (w : Went). HasGone c.site_at.result c.loop-place.self c.go.new.self c.go.new.looks w) c.in-Rests.is
+    c.at.result c.loop-place.moved c.in-Rests.more sites.value c.loop-place.invariant.0 c.loop-place.invariant.1
+    (subst (λ (n : ℕ). c.loop-place.place < n) sites.sites c.loop-place-test.true) c.at.ensures
+    (subst (λ (w : Went). HasGone c.at.result c.loop-place.self c.go.new.self c.go.new.looks w) c.in-Rests.is
     c.in_ok-stop.ensures)
 
 pub returns : goal.returns

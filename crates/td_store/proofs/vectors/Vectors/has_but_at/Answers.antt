@@ -9,5 +9,5 @@ returns c = λ same.
     let wide : start + size - start ≡ size = omega arith in
     let found = c.are_same_but_at.ensures same in
     let rows = row_at size c.self.inside.len c.args.k c.self.inside.numbers.items c.if-k-self.false in
-    let site = c.number.ensures.value in
-    rw (← c.self.view_is, rows) (rw (wide, c.deref.ensures.value, c.numbers.ensures.numbers, c.number.ensures.value) at found, omega (arith, count_rows size c.self.inside.len c.self.inside.numbers.items))
+    let site = c.place.ensures.place in
+    rw (← c.self.view_is, rows) (rw (wide, c.deref.ensures.value, c.numbers.ensures.numbers, c.place.ensures.place) at found, omega (arith, count_rows size c.self.inside.len c.self.inside.numbers.items))
