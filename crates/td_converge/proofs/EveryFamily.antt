@@ -53,6 +53,7 @@ module _ (family : Family) (c : IsConsistent family) where
   promises =
       record {
         convergent_text = text;
+        texts_converge = converge;
         stable_order = stable family c;
         one_decision = one_decision family c;
         decisions_agree = decisions_agree family c;

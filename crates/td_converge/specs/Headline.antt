@@ -3,12 +3,14 @@ use Rattle.td_machine.specs.History.{Family}
 use Rattle.td_decide.specs.Promises.{OneDecision, DecisionsAgree, NoConcurrentEdit, CommitsKeepText}
 use Rattle.td_agree.specs.Unfit.{NothingUnfit}
 use Rattle.td_agree.specs.Parts.{StableOrder}
-use Rattle.td_converge.specs.Promises.{ConvergentText}
+use Rattle.td_converge.specs.Promises.{ConvergentText, TextsConverge}
 
 -- whatever edits, proposals, deliveries, losses, repeats and reorderings made the family
 pub record KeepsPromises (family : Family) : Type 0 where
   -- each site shows exactly the atoms inserted and not deleted by the operations that it has taken
   pub convergent_text : ConvergentText family
+  -- so two sites that have taken the same operations show the same text, in whatever order these came
+  pub texts_converge : TextsConverge family
   -- in one order that the insertions alone fix, across all flattens
   pub stable_order : StableOrder family
   -- no two sites decide a flatten differently

@@ -29,7 +29,8 @@ pub fn texts_converge()
     ensures converge { (family : Family) → IsConsistent family → TextsConverge family }
 {}
 
-/// The six promises hold of every consistent family.
+/// The six promises hold of every consistent family. That two sites with the same operations show the same text is
+/// part of the first.
 pub fn consistent_families_keep_the_promises()
     ensures { (family : Family) → IsConsistent family → KeepsPromises family }
 {}

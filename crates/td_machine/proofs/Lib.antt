@@ -24,3 +24,4 @@ pub mod FlattenWitness
 pub mod Growing
 pub mod Showing
 pub mod Changes
+pub mod Logged

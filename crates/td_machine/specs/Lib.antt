@@ -12,6 +12,7 @@ pub mod Taking
 pub mod Request
 pub mod Step
 pub mod History
+pub mod Logged
 pub mod Touches
 pub mod Stage
 pub mod Examples

@@ -1,5 +1,5 @@
 // What the definitions come to, each law as the contract of a function with an empty body.
-ghost use Rattle.std.specs.Prelude.{◌≡◌, ◌≢◌, ◌<◌, ◌≤◌, ◌+◌, ◌++◌, [], ◌∷◌, replicate, ℕ, List, true, false, length, IsTrue, Some, None};
+ghost use Rattle.std.specs.Prelude.{◌≡◌, ◌≢◌, ◌↔◌, ◌<◌, ◌≤◌, ◌+◌, ◌++◌, [], ◌∷◌, replicate, ℕ, List, true, false, length, IsTrue, Some, None};
 ghost use Rattle.td_base.specs.Value.{DotValue, AtomIdValue};
 ghost use Rattle.td_base.specs.declared.site.TheConstants.{MAX_SITE};
 ghost use Rattle.td_base.specs.declared.dot.TheConstants.{MAX_SEQ};
@@ -29,7 +29,8 @@ ghost use Rattle.td_machine.specs.Shown.{change_by, changed_by, change_between};
 ghost use Rattle.td_machine.specs.Machine.{Machine, start, made, undecided};
 ghost use Rattle.td_machine.specs.Step.{step, IsRefusal};
 ghost use Rattle.td_machine.specs.Replay.{doc_of};
-ghost use Rattle.td_machine.specs.History.{Family, Moment, IsReached, IsConsistent, IsOpOf, MayCome, log_of, machine, machine_at, with_entry};
+ghost use Rattle.td_machine.specs.Logged.{IsLogged};
+ghost use Rattle.td_machine.specs.History.{History, Family, Moment, IsLegal, IsReached, after, IsConsistent, IsOpOf, MayCome, log_of, machine, machine_at, with_entry};
 
 /// A reply that is a refusal leaves the machine as it was.
 #[tactic(auto, using(crate::proofs::Refusals::kept))]
@@ -55,6 +56,14 @@ pub fn logs_are_causal()
     ensures past { (m : Machine) → IsReached m → (newer : List OpValue) (x : OpValue) (older : List OpValue)
         → m.log ≡ newer ++ x ∷ older → (d : DotValue) → 0 < d.site → 0 < d.seq → IsTrue (vector_has x.deps d)
         → (y : OpValue) × In y older × (y.dot ≡ d) }
+{}
+
+/// After every legal history an operation is in the log exactly where an entry made it, or took it: a `Take` of it that
+/// was answered New, or a `Next` that was answered Taken, with it as the least ready operation of those that waited.
+#[tactic(auto, using(crate::proofs::Logged::logged))]
+pub fn logs_are_made_and_taken()
+    ensures { (site size : ℕ) (entries : History) → IsLegal site size entries → (x : OpValue)
+        → In x (after (start site size) entries).log ↔ IsLogged (start site size) entries x }
 {}
 
 /// No site is 0, and none is past the size: whatever a machine was given, the dots of its operations, and of those

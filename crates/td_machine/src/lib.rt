@@ -21,7 +21,7 @@ pub use examples::{
 pub use laws::{
     a_decision_has_room, a_document_is_that_of_its_log, a_refusal_changes_nothing,
     ballots_are_on_own_proposals, documents_are_known, documents_obey_their_rules, families_go_on,
-    histories_go_on, holds_keep_apart, logs_are_causal, moments_are_reached,
-    operations_are_of_its_sites, operations_change_the_atoms_shown, operations_name_their_past,
-    pasts_are_in_order, steps_change_the_atoms_shown,
+    histories_go_on, holds_keep_apart, logs_are_causal, logs_are_made_and_taken,
+    moments_are_reached, operations_are_of_its_sites, operations_change_the_atoms_shown,
+    operations_name_their_past, pasts_are_in_order, steps_change_the_atoms_shown,
 };

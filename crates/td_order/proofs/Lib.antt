@@ -13,6 +13,7 @@ pub mod InsertionLemmas
 pub mod OrderOfPart
 pub mod Spliced
 pub mod SetOfOps
+pub mod OrderAlone
 pub mod UnderLemmas
 pub mod StandingLemmas
 pub mod RulesFix

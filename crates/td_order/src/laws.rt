@@ -1,5 +1,5 @@
 // What the definitions come to, each law as the contract of a function with an empty body.
-ghost use Rattle.std.specs.Prelude.{◌≡◌, ◌≢◌, ◌↔◌, List, IsTrue};
+ghost use Rattle.std.specs.Prelude.{◌≡◌, ◌≢◌, ◌↔◌, List, true, filter, IsTrue};
 ghost use Rattle.std.specs.List.Sorted.{IsPermutation};
 ghost use Rattle.td_base.specs.Value.{AtomIdValue};
 ghost use Rattle.td_base.specs.Lists.{In, Successive};
@@ -7,7 +7,7 @@ ghost use Rattle.td_op.specs.Op.{OpValue};
 ghost use Rattle.td_op.specs.Past.{in_past};
 ghost use Rattle.td_op.specs.declared.insertion.Insertion.{Insertion};
 ghost use Rattle.td_order.specs.Lists.{IsSpliced};
-ghost use Rattle.td_order.specs.Insertions.{IsAtomOf};
+ghost use Rattle.td_order.specs.Insertions.{IsAtomOf, is_insertion};
 ghost use Rattle.td_op.specs.Insertion.{ids_of};
 ghost use Rattle.td_order.specs.LineUp.{DotsDiffer, comes_before, line_up};
 ghost use Rattle.td_order.specs.Place.{place};
@@ -55,4 +55,13 @@ pub fn order_is_of_a_set()
         → order ops ≡ order others }
     ensures permuted_text { (ops others : List OpValue) → DotsDiffer ops → IsPermutation ops others
         → show ops ≡ show others }
+{}
+
+/// The order is that of the insertions alone: deletes, proposals, commits and aborts make no difference. So two lists
+/// with the same insertions have one order, whatever else they have.
+#[tactic(auto, using(crate::proofs::OrderAlone::order_alone, crate::proofs::OrderAlone::order_of_same_insertions))]
+pub fn insertions_alone_fix_the_order()
+    ensures alone { (ops : List OpValue) → DotsDiffer ops → order ops ≡ order (filter is_insertion ops) }
+    ensures same { (ops others : List OpValue) → DotsDiffer ops → DotsDiffer others
+        → ((x : OpValue) → is_insertion x ≡ true → In x ops ↔ In x others) → order ops ≡ order others }
 {}

@@ -24,8 +24,8 @@ mod under;
 
 pub use atom_ids::AtomIds;
 pub use laws::{
-    line_up_follows_the_past, line_up_is_in_order, order_has_each_atom_once, order_is_of_a_set,
-    placing_moves_no_atom,
+    insertions_alone_fix_the_order, line_up_follows_the_past, line_up_is_in_order,
+    order_has_each_atom_once, order_is_of_a_set, placing_moves_no_atom,
 };
 pub use line_up::dots_differ;
 pub use order::order_of;

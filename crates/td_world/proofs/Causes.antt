@@ -85,7 +85,7 @@ stray_is site number w = at (kth number w.sent)
 -- ---- settle
 
 -- once a pass gives nothing, no further one does
-passes_end : (k d : ℕ) (w : WorldValue) → pass (moved_all (passes k w) w) ≡ [] → passes (d + k) w ≡ passes k w
+pub passes_end : (k d : ℕ) (w : WorldValue) → pass (moved_all (passes k w) w) ≡ [] → passes (d + k) w ≡ passes k w
 passes_end k zero w e = let same : 0 + k ≡ k = omega arith in ap (λ (n : ℕ). passes n w) same
 passes_end k (suc d) w e =
     let one : suc d + k ≡ suc (d + k) = omega arith in

@@ -1,12 +1,9 @@
 -- Moves of which a front is done.
-use Rattle.std.proofs.Common.{◌≡◌, ◌++◌, List, [], ◌∷◌, sym, ap, ◌∙◌, subst, append-nil, append_assoc}
+use Rattle.std.proofs.Common.{◌≡◌, ◌++◌, List, [], ◌∷◌, refl, sym, ap, ◌∙◌, subst, append_assoc}
 use Rattle.std.specs.Prelude.{Result, Ok, Err, OnErr}
 use Rattle.td_world.specs.World.{WorldValue, Move, moved, moved_all}
-use Rattle.td_world.specs.Calls.{IsCutShort}
+use Rattle.td_world.specs.Calls.{IsCutShort, IsStopped}
 use Rattle.td_world.proofs.Moves.{moved_both}
-
-pub cut_all : (moves : List Move) (w new : WorldValue) → new ≡ moved_all moves w → IsCutShort moves w new
-cut_all moves w new e = record { front = moves; back = []; splits = sym (append-nil moves); after = e }
 
 -- what is cut short behind others
 pub cut_after : (first rest : List Move) (w middle new : WorldValue) → middle ≡ moved_all first w
@@ -29,17 +26,45 @@ cut_before first rest w new k =
       after = k.after;
     }
 
-pub cut_next : (move : Move) (moves : List Move) (w middle new : WorldValue) → middle ≡ moved move w
-    → IsCutShort moves middle new → IsCutShort (move ∷ moves) w new
-cut_next move moves w middle new e k = cut_after (move ∷ []) moves w middle new e k
-
 pub err_always : {T E P : Type 0} (r : Result T E) → P → OnErr r P
 err_always (Ok x) p = tt
 err_always (Err e) p = p
 
+-- ---- where a move found no memory
+
+-- the first one
+pub stopped_here : (move : Move) (rest : List Move) (w new : WorldValue) → new ≡ w → IsStopped (move ∷ rest) w new
+stopped_here move rest w new e = record { front = []; wanting = move; back = rest; splits = refl; after = e }
+
+-- one of those behind others
+pub stopped_after : (first rest : List Move) (w middle new : WorldValue) → middle ≡ moved_all first w
+    → IsStopped rest middle new → IsStopped (first ++ rest) w new
+stopped_after first rest w middle new e k =
+    record {
+      front = first ++ k.front;
+      wanting = k.wanting;
+      back = k.back;
+      splits = ap (λ (l : List Move). first ++ l) k.splits ∙ sym (append_assoc first k.front (k.wanting ∷ k.back));
+      after = k.after ∙ (ap (λ (v : WorldValue). moved_all k.front v) e ∙ sym (moved_both first k.front w));
+    }
+
+-- and of those in front of others
+pub stopped_before : (first rest : List Move) (w new : WorldValue) → IsStopped first w new → IsStopped (first ++ rest) w new
+stopped_before first rest w new k =
+    record {
+      front = k.front;
+      wanting = k.wanting;
+      back = k.back ++ rest;
+      splits = ap (λ (l : List Move). l ++ rest) k.splits ∙ append_assoc k.front (k.wanting ∷ k.back) rest;
+      after = k.after;
+    }
+
 -- the rest depends on where the first move leads
-pub cut_same : (move : Move) (rest : WorldValue → List Move) (w middle new : WorldValue) → middle ≡ moved move w
-    → IsCutShort (rest middle) middle new → IsCutShort (move ∷ rest (moved move w)) w new
-cut_same move rest w middle new e k =
-    cut_next move (rest (moved move w)) w middle new e
-    (subst (λ (v : WorldValue). IsCutShort (rest v) middle new) e k)
+pub stopped_same : (move : Move) (rest : WorldValue → List Move) (w middle new : WorldValue) → middle ≡ moved move w
+    → IsStopped (rest middle) middle new → IsStopped (move ∷ rest (moved move w)) w new
+stopped_same move rest w middle new e k =
+    stopped_after (move ∷ []) (rest (moved move w)) w middle new e
+    (subst (λ (v : WorldValue). IsStopped (rest v) middle new) e k)
+
+pub stopped_cut : (moves : List Move) (w new : WorldValue) → IsStopped moves w new → IsCutShort moves w new
+stopped_cut moves w new k = record { front = k.front; back = k.wanting ∷ k.back; splits = k.splits; after = k.after }

@@ -5,10 +5,10 @@ use Rattle.std.specs.Option.{is_some}
 use Rattle.td_op.specs.declared.message.Message.{Message}
 use Rattle.td_replica.specs.declared.given.Given.{Given}
 use Rattle.td_world.specs.World.{WorldValue, Move, size, moved_all}
-use Rattle.td_world.specs.Calls.{is_wanted, took, wanted_moves, wanted_answer, wanted_given, moves_of, given_of, give_all_moves, give_all_given, IsCutShort}
+use Rattle.td_world.specs.Calls.{is_wanted, took, wanted_moves, wanted_answer, wanted_given, moves_of, given_of, give_all_moves, give_all_given, IsCutShort, IsStopped}
 use Rattle.td_world.specs.Parts.{ArePassed}
-use Rattle.td_world.proofs.Cuts.{cut_before}
-use Rattle.td_world.proofs.Going.{IsDoing, doing_more, doing_done, doing_cut, doing_none, doing_size}
+use Rattle.td_world.proofs.Cuts.{cut_before, stopped_before}
+use Rattle.td_world.proofs.Going.{IsDoing, doing_more, doing_done, doing_cut, doing_stopped, doing_none, doing_size}
 use Rattle.td_world.proofs.Passed.{skip_moves, skip_given}
 use Rattle.td_world.proofs.Posts.{still_at}
 
@@ -85,6 +85,14 @@ module _ (to k : ℕ) (old now new : WorldValue) (given more : List (ℕ × Give
       (wanted_moves to m now ++ moves_of to (drop (k + 1) old.sent) (moved_all (wanted_moves to m now) now)) old now new
       doing_now
       (cut_before (wanted_moves to m now) (moves_of to (drop (k + 1) old.sent) (moved_all (wanted_moves to m now) now)) now new c)
+
+  pub giving_stopped : IsStopped (wanted_moves to m now) now new → IsStopped (give_all_moves to old) old new
+  giving_stopped c =
+      doing_stopped (give_all_moves to old)
+      (wanted_moves to m now ++ moves_of to (drop (k + 1) old.sent) (moved_all (wanted_moves to m now) now)) old now new
+      doing_now
+      (stopped_before (wanted_moves to m now) (moves_of to (drop (k + 1) old.sent) (moved_all (wanted_moves to m now) now)) now
+      new c)
 
 drop_all : (k : ℕ) (messages : List Message) → length messages ≤ k → drop k messages ≡ []
 drop_all zero [] h = refl

@@ -1,8 +1,8 @@
 -- The loops of a world's calls: what is done, and what is still to do.
 use Rattle.std.proofs.Common.{◌≡◌, ◌<◌, ◌+◌, ◌-◌, ◌++◌, ℕ, zero, suc, List, [], ◌∷◌, Bool, true, false, if◌then◌else◌, length, refl, sym, ap, ◌∙◌, subst, append-nil, append_assoc, arith}
 use Rattle.td_world.specs.World.{WorldValue, Move, size, machine_of, moved, moved_all}
-use Rattle.td_world.specs.Calls.{is_ready, next, nexts, IsCutShort}
-use Rattle.td_world.proofs.Cuts.{cut_after}
+use Rattle.td_world.specs.Calls.{is_ready, next, nexts, IsCutShort, IsStopped}
+use Rattle.td_world.proofs.Cuts.{cut_after, stopped_here, stopped_after}
 use Rattle.td_world.proofs.Moves.{moved_both, size_after}
 
 -- of these moves so many are done, and those others are left
@@ -36,6 +36,11 @@ pub doing_cut : (all rest : List Move) (old now new : WorldValue) → IsDoing al
     → IsCutShort all old new
 doing_cut all rest old now new d k =
     subst (λ (l : List Move). IsCutShort l old new) (sym d.splits) (cut_after d.front rest old now new d.after k)
+
+pub doing_stopped : (all rest : List Move) (old now new : WorldValue) → IsDoing all rest old now → IsStopped rest now new
+    → IsStopped all old new
+doing_stopped all rest old now new d k =
+    subst (λ (l : List Move). IsStopped l old new) (sym d.splits) (stopped_after d.front rest old now new d.after k)
 
 -- ---- nexts
 
@@ -75,6 +80,15 @@ going_more site count k old now new less g e is =
           (subst (λ (l : List Move). IsDoing (nexts count site old) l old now) on g.doing) refl;
       many = omega (arith, many, all);
     })
+
+-- the next one finds no memory
+pub going_stopped : (site count k : ℕ) (old now new : WorldValue) → k < count → IsGoing site count k old now
+    → is_ready (machine_of now site) ≡ true → new ≡ now → IsStopped (nexts count site old) old new
+going_stopped site count k old now new less g e is =
+    let some : 0 < count - k = omega (arith, less) in
+    doing_stopped (nexts count site old) (nexts (count - k) site now) old now new g.doing
+    (subst (λ (l : List Move). IsStopped l now new) (sym (nexts_on site (count - k) now e some))
+    (stopped_here (next site) (nexts (count - k - 1) site (moved (next site) now)) now new is))
 
 -- nothing is ready any more
 pub going_off : (site count k : ℕ) (old now : WorldValue) → IsGoing site count k old now

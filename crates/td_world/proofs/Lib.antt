@@ -19,3 +19,8 @@ pub mod Settling
 pub mod Beginnings
 pub mod Causes
 pub mod Promised
+pub mod Came
+pub mod Due
+pub mod Lasting
+pub mod Ending
+pub mod Few

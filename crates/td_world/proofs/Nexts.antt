@@ -182,47 +182,75 @@ still_nobody w new site some same others here h s up within = at (nat_eq s site)
         subst (λ (r : ReplicaValue). is_ready r.machine ≡ false) (sym (others s up (eqb-false s site e)))
         (h s up (omega (arith, within, same)))
 
-pub give_nobody : (site : ℕ) (message : Message) (w : WorldValue) → 0 < site → site ≤ size w → NobodyReady w
-    → NobodyReady (moved_all (give_moves site message w) w)
-give_nobody site message w some within h =
-    still_nobody w (moved_all (give_moves site message w) w) site some (size_after (give_moves site message w) w)
-    (there_after (give_moves site message w) site w some (give_at site message w)) (give_drains site message w some within) h
-
-pub wanted_nobody : (site : ℕ) (message : Message) (w : WorldValue) → 0 < site → site ≤ size w → NobodyReady w
-    → NobodyReady (moved_all (wanted_moves site message w) w)
-wanted_nobody site message w some within h = at (is_wanted site message w)
+-- a site where nothing is ready stays so
+give_awake : (site : ℕ) (message : Message) (w : WorldValue) → 0 < site → site ≤ size w → (s : ℕ) → 0 < s
+    → is_ready (machine_of w s) ≡ false → is_ready (machine_of (moved_all (give_moves site message w) w) s) ≡ false
+give_awake site message w some within s up h = at (nat_eq s site) refl
   where
-    at : (b : Bool) → NobodyReady (moved_all (if b then give_moves site message w else []) w)
-    at true = give_nobody site message w some within h
+    at : (b : Bool) → nat_eq s site ≡ b → is_ready (machine_of (moved_all (give_moves site message w) w) s) ≡ false
+    at true e =
+        subst (λ (t : ℕ). is_ready (machine_of (moved_all (give_moves site message w) w) t) ≡ false)
+        (sym (eqb-true s site e)) (give_drains site message w some within)
+    at false e =
+        subst (λ (r : ReplicaValue). is_ready r.machine ≡ false)
+        (sym (there_after (give_moves site message w) site w some (give_at site message w) s up (eqb-false s site e))) h
+
+wanted_awake : (site : ℕ) (message : Message) (w : WorldValue) → 0 < site → site ≤ size w → (s : ℕ) → 0 < s
+    → is_ready (machine_of w s) ≡ false → is_ready (machine_of (moved_all (wanted_moves site message w) w) s) ≡ false
+wanted_awake site message w some within s up h = at (is_wanted site message w)
+  where
+    at : (b : Bool) → is_ready (machine_of (moved_all (if b then give_moves site message w else []) w) s) ≡ false
+    at true = give_awake site message w some within s up h
     at false = h
 
-pub all_nobody : (site : ℕ) (messages : List Message) (w : WorldValue) → 0 < site → site ≤ size w → NobodyReady w
-    → NobodyReady (moved_all (moves_of site messages w) w)
-all_nobody site [] w some within h = h
-all_nobody site (message ∷ messages) w some within h =
+pub all_awake : (site : ℕ) (messages : List Message) (w : WorldValue) → 0 < site → site ≤ size w → (s : ℕ) → 0 < s
+    → is_ready (machine_of w s) ≡ false → is_ready (machine_of (moved_all (moves_of site messages w) w) s) ≡ false
+all_awake site [] w some within s up h = h
+all_awake site (message ∷ messages) w some within s up h =
     let front : List Move = wanted_moves site message w in
     let back : List Move = moves_of site messages (moved_all (wanted_moves site message w) w) in
     let same : size (moved_all (wanted_moves site message w) w) ≡ size w = size_after (wanted_moves site message w) w in
-    subst NobodyReady (sym (moved_both front back w))
-    (all_nobody site messages (moved_all (wanted_moves site message w) w) some (omega (arith, within, same))
-    (wanted_nobody site message w some within h))
+    subst (λ (v : WorldValue). is_ready (machine_of v s) ≡ false) (sym (moved_both front back w))
+    (all_awake site messages (moved_all (wanted_moves site message w) w) some (omega (arith, within, same)) s up
+    (wanted_awake site message w some within s up h))
 
-pub pass_nobody : (k site : ℕ) (w : WorldValue) → 0 < site → site + k ≤ size w + 1 → NobodyReady w
-    → NobodyReady (moved_all (pass_from k site w) w)
-pass_nobody zero site w some within h = h
-pass_nobody (suc k) site w some within h =
+pub pass_awake : (k site : ℕ) (w : WorldValue) → 0 < site → site + k ≤ size w + 1 → (s : ℕ) → 0 < s
+    → is_ready (machine_of w s) ≡ false → is_ready (machine_of (moved_all (pass_from k site w) w) s) ≡ false
+pass_awake zero site w some within s up h = h
+pass_awake (suc k) site w some within s up h =
     let front : List Move = give_all_moves site w in
     let back : List Move = pass_from k (suc site) (moved_all (give_all_moves site w) w) in
     let same : size (moved_all (give_all_moves site w) w) ≡ size w = size_after (give_all_moves site w) w in
-    subst NobodyReady (sym (moved_both front back w))
-    (pass_nobody k (suc site) (moved_all (give_all_moves site w) w) (omega arith) (omega (arith, within, same))
-    (all_nobody site w.sent w some (omega (arith, within)) h))
+    subst (λ (v : WorldValue). is_ready (machine_of v s) ≡ false) (sym (moved_both front back w))
+    (pass_awake k (suc site) (moved_all (give_all_moves site w) w) (omega arith) (omega (arith, within, same)) s up
+    (all_awake site w.sent w some (omega (arith, within)) s up h))
+
+-- so nobody is ready after a message is given where nobody was
+still_within : (moves : List Move) (w : WorldValue) (s : ℕ) → s ≤ size (moved_all moves w) → s ≤ size w
+still_within moves w s low = subst (λ (n : ℕ). s ≤ n) (size_after moves w) low
+
+pub give_nobody : (site : ℕ) (message : Message) (w : WorldValue) → 0 < site → site ≤ size w → NobodyReady w
+    → NobodyReady (moved_all (give_moves site message w) w)
+give_nobody site message w some within h s up low =
+    give_awake site message w some within s up (h s up (still_within (give_moves site message w) w s low))
+
+pub wanted_nobody : (site : ℕ) (message : Message) (w : WorldValue) → 0 < site → site ≤ size w → NobodyReady w
+    → NobodyReady (moved_all (wanted_moves site message w) w)
+wanted_nobody site message w some within h s up low =
+    wanted_awake site message w some within s up (h s up (still_within (wanted_moves site message w) w s low))
+
+pub all_nobody : (site : ℕ) (messages : List Message) (w : WorldValue) → 0 < site → site ≤ size w → NobodyReady w
+    → NobodyReady (moved_all (moves_of site messages w) w)
+all_nobody site messages w some within h s up low =
+    all_awake site messages w some within s up (h s up (still_within (moves_of site messages w) w s low))
 
 pub passes_nobody : (k : ℕ) (w : WorldValue) → NobodyReady w → NobodyReady (moved_all (passes k w) w)
 passes_nobody zero w h = h
 passes_nobody (suc k) w h =
     subst NobodyReady (sym (moved_both (pass w) (passes k (moved_all (pass w) w)) w))
-    (passes_nobody k (moved_all (pass w) w) (pass_nobody (size w) 1 w (omega arith) (omega arith) h))
+    (passes_nobody k (moved_all (pass w) w)
+    (λ s up low.
+    pass_awake (size w) 1 w (omega arith) (omega arith) s up (h s up (still_within (pass w) w s low))))
 
 pub found_nobody : (site : ℕ) (message : Message) (w : WorldValue) → 0 < site → site ≤ size w → NobodyReady w
     → NobodyReady (moved_all (found_moves site (Some message) w) w)

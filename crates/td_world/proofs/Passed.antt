@@ -26,7 +26,7 @@ passed_at replicas posts passed p w is site place count e some within k =
     (p.known place count (get_found passed place count (omega (arith, e, some, within, long)) k)))
 
 -- where a message is not wanted, it may be passed
-unwanted_known : (site : ℕ) (message : Message) (w : WorldValue) → is_wanted site message w ≡ false
+pub unwanted_known : (site : ℕ) (message : Message) (w : WorldValue) → is_wanted site message w ≡ false
     → is_for site message ≡ true → is_known message (machine_of w site) ≡ true
 unwanted_known site message w e to = at (is_known message (machine_of w site)) refl
   where
@@ -108,7 +108,7 @@ parts_passed replicas posts passed p w is site place k e some within at less nex
 
 -- ---- what is passed is not wanted
 
-not_wanted : (site : ℕ) (message : Message) (w : WorldValue)
+pub not_wanted : (site : ℕ) (message : Message) (w : WorldValue)
     → (is_for site message ≡ true → is_known message (machine_of w site) ≡ true) → is_wanted site message w ≡ false
 not_wanted site message w h = at (is_for site message) refl
   where

@@ -1,6 +1,6 @@
 -- A pass that gives nothing finds nothing that is wanted; so then, where nobody is ready, all is settled.
-use Rattle.std.proofs.Common.{◌≡◌, ◌<◌, ◌≤◌, ◌+◌, ◌++◌, ℕ, zero, suc, List, [], ◌∷◌, Bool, true, false, not, if◌then◌else◌, nat_eq, length, refl, sym, ap, ◌∙◌, subst, ⊎_elim, true≢false, arith}
-use Rattle.std.proofs.lemmas.Bool.{eqb-true, eqb-false, and_from}
+use Rattle.std.proofs.Common.{◌≡◌, ◌<◌, ◌≤◌, ◌+◌, ◌++◌, ℕ, zero, suc, List, [], ◌∷◌, Bool, true, false, if◌then◌else◌, nat_eq, length, refl, sym, ap, ◌∙◌, subst, ⊎_elim, arith}
+use Rattle.std.proofs.lemmas.Bool.{eqb-true, eqb-false}
 use Rattle.td_base.specs.Lists.{In}
 use Rattle.td_base.proofs.Lists.{In-filter}
 use Rattle.td_op.specs.declared.message.Message.{Message}
@@ -9,6 +9,7 @@ use Rattle.td_world.specs.World.{WorldValue, Move, IsWorld, size, machine_of, fa
 use Rattle.td_world.specs.Calls.{is_known, is_wanted, is_ready, give_moves, wanted_moves, moves_of, give_all_moves, pass_from, pass}
 use Rattle.td_world.specs.Promises.{NobodyReady, SameVectors, AllDecided}
 use Rattle.td_world.proofs.Moves.{size_family}
+use Rattle.td_world.proofs.Passed.{unwanted_known}
 use Rattle.td_world.proofs.Settled.{AllKnown, NoneReady, same_vectors, all_decided}
 
 nothing_both : {X : Type 0} (front back : List X) → front ++ back ≡ [] → (front ≡ []) × (back ≡ [])
@@ -48,16 +49,6 @@ none_given (suc k) site w e s from to =
     at false f first rest = let other = eqb-false s site f in rest (omega (arith, from, other))
 
 -- what a site is to have it knows
-unwanted_known : (site : ℕ) (message : Message) (w : WorldValue) → is_wanted site message w ≡ false
-    → is_for site message ≡ true → is_known message (machine_of w site) ≡ true
-unwanted_known site message w e to = at (is_known message (machine_of w site)) refl
-  where
-    at : (b : Bool) → is_known message (machine_of w site) ≡ b → is_known message (machine_of w site) ≡ true
-    at true f = f
-    at false f =
-        absurd (true≢false (sym (and_from (is_for site message) (not (is_known message (machine_of w site))) to
-        (ap (λ (b : Bool). not b) f)) ∙ e))
-
 pub all_known : (w : WorldValue) → pass w ≡ [] → (site : ℕ) → 0 < site → site ≤ size w → (message : Message)
     → In message w.sent → is_for site message ≡ true → is_known message (machine_of w site) ≡ true
 all_known w e site some within message i to =

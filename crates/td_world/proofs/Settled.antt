@@ -82,7 +82,7 @@ apart : (a b : ℕ) → (a ≡ b → ⊥) → (t : Bool) → nat_eq a b ≡ t �
 apart a b d true e = absurd (d (eqb-true a b e))
 apart a b d false e = ap (λ (t : Bool). not t) e
 
-module _ (family : Family) (c : IsConsistent family) (idle : NoneReady family) (known : AllKnown family) where
+module _ (family : Family) (c : IsConsistent family) where
   abbrev n : ℕ
   n = length family
 
@@ -125,18 +125,18 @@ module _ (family : Family) (c : IsConsistent family) (idle : NoneReady family) (
           past a s q l = omega arith
 
   -- an operation with a dot is the one of the family
-  same_op : (x y : OpValue) → IsOpOf family x → IsOpOf family y → y.dot ≡ x.dot → y ≡ x
+  pub same_op : (x y : OpValue) → IsOpOf family x → IsOpOf family y → y.dot ≡ x.dot → y ≡ x
   same_op x y o q e =
       let hx = made_at family c x o in
       let hy = made_at family c y q in
       unique n y x (log_of family x.dot.site) (log_in_turn family c (the_end family x.dot.site hx.0 hx.1))
       (subst (λ (d : DotValue). In y (log_of family d.site)) e hy.2) hx.2 e
 
-  op_in : (t : ℕ) → 0 < t → t ≤ n → (x : OpValue) → In x (log_of family t) → IsOpOf family x
+  pub op_in : (t : ℕ) → 0 < t → t ≤ n → (x : OpValue) → In x (log_of family t) → IsOpOf family x
   op_in t some within x i = record { site = t; some = some; within = within; inside = i }
 
   -- what waits is an operation of the family
-  waits_op : (t : ℕ) → 0 < t → t ≤ n → (y : OpValue) → In y (machine family t).waiting → IsOpOf family y
+  pub waits_op : (t : ℕ) → 0 < t → t ≤ n → (y : OpValue) → In y (machine family t).waiting → IsOpOf family y
   waits_op t some within y i =
       let o : IsOffered (IsSent family t) (machine family t).site (machine family t).size y =
       offered (machine family t) (built_end family c t some within) y i in
@@ -182,13 +182,21 @@ module _ (family : Family) (c : IsConsistent family) (idle : NoneReady family) (
           positive : (k : ℕ) → (k ≡ 0 → ⊥) → 0 < k
           positive k a = omega (arith, a)
 
+-- a site where nothing is ready, which knows those operations that came early: the past of each of them is among them
+module _ (family : Family) (c : IsConsistent family) (early : OpValue → Type 0)
+    (closed : (x y : OpValue) → IsOpOf family x → early x → IsOpOf family y → IsTrue (in_past y x) → early y)
+    (t : ℕ) (some : 0 < t) (within : t ≤ length family) (idle : is_ready (machine family t) ≡ false)
+    (known : (x : OpValue) → IsOpOf family x → early x → is_for t (AnOp x) ≡ true
+    → is_known (AnOp x) (machine family t) ≡ true) where
+  abbrev Had : OpValue → Type 0
+  Had x = IsTrue (vector_has (machine family t).have x.dot)
+
   -- what waits and has all its past could be taken, and nothing can
-  not_waiting : (t : ℕ) → 0 < t → t ≤ n → (x : OpValue) → In x (machine family t).waiting
-      → IsTrue (vector_covers (machine family t).have x.deps) → HasAt t x
-  not_waiting t some within x i covers =
+  not_waiting : (x : OpValue) → In x (machine family t).waiting
+      → IsTrue (vector_covers (machine family t).have x.deps) → Had x
+  not_waiting x i covers =
       at (is_had (machine family t).have x) refl
-      (none_ready (machine family t).have (machine family t).waiting
-      (nothing_next (machine family t) (idle t some within)) x i)
+      (none_ready (machine family t).have (machine family t).waiting (nothing_next (machine family t) idle) x i)
     where
       at : (b : Bool) → is_had (machine family t).have x ≡ b → is_ready_op (machine family t).have x ≡ false
           → is_had (machine family t).have x ≡ true
@@ -197,80 +205,86 @@ module _ (family : Family) (c : IsConsistent family) (idle : NoneReady family) (
           absurd (true≢false (sym (and_from (not (is_had (machine family t).have x))
           (vector_covers (machine family t).have x.deps) (ap (λ (b : Bool). not b) e) covers) ∙ r))
 
-  -- each site has the operation, where each site has each one of its past
-  one_more : (t : ℕ) → 0 < t → t ≤ n → (x : OpValue) → IsOpOf family x
-      → ((y : OpValue) → IsOpOf family y → IsTrue (in_past y x) → HasAt t y)
-      → HasAt t x
-  one_more t some within x o ih = at (nat_eq x.dot.site t) refl
+  -- the site has an early operation, where it has each one of its past
+  one_more : (x : OpValue) → IsOpOf family x → early x
+      → ((y : OpValue) → IsOpOf family y → IsTrue (in_past y x) → Had y)
+      → Had x
+  one_more x o soon ih = at (nat_eq x.dot.site t) refl
     where
-      home : (0 < x.dot.site) × (x.dot.site ≤ n) × In x (log_of family x.dot.site)
+      home : (0 < x.dot.site) × (x.dot.site ≤ length family) × In x (log_of family x.dot.site)
       home = made_at family c x o
 
-      sent : In (AnOp x) (machine family x.dot.site).sent
-      sent =
-          (sending_end family c x.dot.site home.0 home.1).made x home.2
-          (sym (site_is family c x.dot.site home.0 home.1))
-
-      waited : waits x.dot (machine family t).waiting ≡ true → HasAt t x
+      waited : waits x.dot (machine family t).waiting ≡ true → Had x
       waited w =
           let f = any_found (is_dot_of x.dot) (machine family t).waiting w in
           let same : f.0 ≡ x =
-          same_op x f.0 o (waits_op t some within f.0 f.1) (same_dot_true f.0.dot x.dot f.2) in
-          not_waiting t some within x (subst (λ (z : OpValue). In z (machine family t).waiting) same f.1)
-          (covered t some within x o ih)
+          same_op family c x f.0 o (waits_op family c t some within f.0 f.1) (same_dot_true f.0.dot x.dot f.2) in
+          not_waiting x (subst (λ (z : OpValue). In z (machine family t).waiting) same f.1)
+          (covered family c t some within x o ih)
 
       cases : (b : Bool) → is_had (machine family t).have x ≡ b
-          → (is_had (machine family t).have x || waits x.dot (machine family t).waiting) ≡ true → HasAt t x
+          → (is_had (machine family t).have x || waits x.dot (machine family t).waiting) ≡ true → Had x
       cases true e r = e
       cases false e r =
           waited (sym (ap (λ (b : Bool). b || waits x.dot (machine family t).waiting) e) ∙ r)
 
-      at : (b : Bool) → nat_eq x.dot.site t ≡ b → HasAt t x
+      at : (b : Bool) → nat_eq x.dot.site t ≡ b → Had x
       at true e =
-          subst (λ (k : ℕ). HasAt k x) (eqb-true x.dot.site t e)
+          subst (λ (k : ℕ). IsTrue (vector_has (machine family k).have x.dot)) (eqb-true x.dot.site t e)
           (logged_had (machine family x.dot.site) (built_end family c x.dot.site home.0 home.1) x home.2)
       at false e =
           cases (is_had (machine family t).have x) refl
-          (repeat_op x (machine family t)
-          (known x.dot.site t home.0 home.1 some within (AnOp x) sent (ap (λ (b : Bool). not b) e)))
+          (repeat_op x (machine family t) (known x o soon (ap (λ (b : Bool). not b) e)))
 
-  had_below : (bound : ℕ) (x : OpValue) → IsOpOf family x → op_sum x < bound → (t : ℕ) → 0 < t → t ≤ n → HasAt t x
-  had_below zero x o few t some within = absurd (omega (arith, few))
-  had_below (suc bound) x o few t some within =
-      one_more t some within x o
+  had_below : (bound : ℕ) (x : OpValue) → IsOpOf family x → early x → op_sum x < bound → Had x
+  had_below zero x o soon few = absurd (omega (arith, few))
+  had_below (suc bound) x o soon few =
+      one_more x o soon
       (λ y q past.
       let less : op_sum y < op_sum x = past_is_smaller family c y x q o past in
-      had_below bound y q (omega (arith, less, few)) t some within)
+      had_below bound y q (closed x y o soon q past) (omega (arith, less, few)))
 
+  -- the site has each early operation
+  pub had_early : (x : OpValue) → IsOpOf family x → early x → Had x
+  had_early x o soon = had_below (suc (op_sum x)) x o soon (omega arith)
+
+module _ (family : Family) (c : IsConsistent family) (idle : NoneReady family) (known : AllKnown family) where
   -- each site has each operation
-  pub had_by_all : (x : OpValue) → IsOpOf family x → (t : ℕ) → 0 < t → t ≤ n → HasAt t x
-  had_by_all x o = had_below (suc (op_sum x)) x o (omega arith)
+  pub had_by_all : (x : OpValue) → IsOpOf family x → (t : ℕ) → 0 < t → t ≤ length family
+      → IsTrue (vector_has (machine family t).have x.dot)
+  had_by_all x o t some within =
+      had_early family c (λ y. Unit {0}) (λ y z q soon p past. tt) t some within (idle t some within)
+      (λ y q soon to.
+      let home = made_at family c y q in
+      known y.dot.site t home.0 home.1 some within (AnOp y)
+      ((sending_end family c y.dot.site home.0 home.1).made y home.2 (sym (site_is family c y.dot.site home.0 home.1))) to)
+      x o tt
 
-  pub log_of_all : (x : OpValue) → IsOpOf family x → (t : ℕ) → 0 < t → t ≤ n → In x (log_of family t)
+  pub log_of_all : (x : OpValue) → IsOpOf family x → (t : ℕ) → 0 < t → t ≤ length family → In x (log_of family t)
   log_of_all x o t some within =
       let home = made_at family c x o in
       let had : x.dot.seq ≤ vector_get (machine family t).have x.dot.site =
       leb-true x.dot.seq (vector_get (machine family t).have x.dot.site) (had_by_all x o t some within) in
       let turn = log_in_turn family c (the_end family t some within) in
       let all : vector_get (machine family t).have x.dot.site ≡ length (ops_of x.dot.site (log_of family t)) =
-      ap (λ (v : List ℕ). vector_get v x.dot.site) (in_turn t some within)
-      ∙ total n x.dot.site (log_of family t) home.0 home.1 turn in
+      ap (λ (v : List ℕ). vector_get v x.dot.site) (in_turn family c t some within)
+      ∙ total (length family) x.dot.site (log_of family t) home.0 home.1 turn in
       let f : Found (record { site = x.dot.site; seq = x.dot.seq }) (log_of family t) =
-      found n x.dot.site x.dot.seq (log_of family t) (positive x home.2 home.0 home.1) turn (omega (arith, had, all)) in
+      found (length family) x.dot.site x.dot.seq (log_of family t) (positive x home.2 home.0 home.1) turn (omega (arith, had, all)) in
       subst (λ (z : OpValue). In z (log_of family t))
-      (same_op x f.op o (op_in t some within f.op f.inside) f.is) f.inside
+      (same_op family c x f.op o (op_in family c t some within f.op f.inside) f.is) f.inside
     where
-      positive : (y : OpValue) → In y (log_of family y.dot.site) → 0 < y.dot.site → y.dot.site ≤ n → 0 < y.dot.seq
+      positive : (y : OpValue) → In y (log_of family y.dot.site) → 0 < y.dot.site → y.dot.site ≤ length family → 0 < y.dot.seq
       positive y i up low = (of_sites_of y i up low)
         where
-          of_sites_of : (z : OpValue) → In z (log_of family z.dot.site) → 0 < z.dot.site → z.dot.site ≤ n → 0 < z.dot.seq
+          of_sites_of : (z : OpValue) → In z (log_of family z.dot.site) → 0 < z.dot.site → z.dot.site ≤ length family → 0 < z.dot.seq
           of_sites_of z j a b = (of_sites (machine family z.dot.site) (reached_end family c z.dot.site a b) z j).2
 
-  pub same_vectors : (r s : ℕ) → 0 < r → r ≤ n → 0 < s → s ≤ n → (machine family r).have ≡ (machine family s).have
+  pub same_vectors : (r s : ℕ) → 0 < r → r ≤ length family → 0 < s → s ≤ length family → (machine family r).have ≡ (machine family s).have
   same_vectors r s a b d e =
       same_from_covers (machine family r).have (machine family s).have (covers r s a b d e) (covers s r d e a b)
     where
-      covers : (t u : ℕ) → 0 < t → t ≤ n → 0 < u → u ≤ n
+      covers : (t u : ℕ) → 0 < t → t ≤ length family → 0 < u → u ≤ length family
           → IsTrue (vector_covers (machine family t).have (machine family u).have)
       covers t u some within up low =
           covers_from_dots (machine family t).have (machine family u).have (omega (arith, same_long))
@@ -279,7 +293,7 @@ module _ (family : Family) (c : IsConsistent family) (idle : NoneReady family) (
           (nat_eq (vector_get (machine family u).have (suc (d.site - 1))) 0) refl)
         where
           same_long : length (machine family u).have ≡ length (machine family t).have
-          same_long = long u up low ∙ sym (long t some within)
+          same_long = long family c u up low ∙ sym (long family c t some within)
 
           at : (d : DotValue) → d.seq ≤ vector_get (machine family u).have d.site → (z : Bool)
               → nat_eq (vector_get (machine family u).have (suc (d.site - 1))) 0 ≡ z
@@ -293,14 +307,14 @@ module _ (family : Family) (c : IsConsistent family) (idle : NoneReady family) (
           at d h false z =
               let other = eqb-false (vector_get (machine family u).have (suc (d.site - 1))) 0 z in
               let y =
-              had_found u up low (suc (d.site - 1)) (omega arith)
+              had_found family c u up low (suc (d.site - 1)) (omega arith)
               (positive (vector_get (machine family u).have (suc (d.site - 1))) other) in
               let had : vector_get (machine family u).have (suc (d.site - 1))
               ≤ vector_get (machine family t).have (suc (d.site - 1)) =
               leb-true (vector_get (machine family u).have (suc (d.site - 1)))
               (vector_get (machine family t).have (suc (d.site - 1)))
               (subst (λ (q : DotValue). IsTrue (vector_has (machine family t).have q)) y.2
-              (had_by_all y.0 (op_in u up low y.0 y.1) t some within)) in
+              (had_by_all y.0 (op_in family c u up low y.0 y.1) t some within)) in
               let same : vector_get (machine family u).have (suc (d.site - 1)) ≡ vector_get (machine family u).have d.site =
               get_same (machine family u).have d.site in
               let now : vector_get (machine family t).have (suc (d.site - 1)) ≡ vector_get (machine family t).have d.site =
@@ -313,11 +327,11 @@ module _ (family : Family) (c : IsConsistent family) (idle : NoneReady family) (
   -- ---- votes
 
   -- each site's Yes is counted on an open ballot
-  all_yes : (s : ℕ) (some : 0 < s) (within : s ≤ n) (b : Ballot) → In b (machine family s).ballots → is_open b ≡ true
-      → (t : ℕ) → 0 < t → t ≤ n → In t b.yes
+  all_yes : (s : ℕ) (some : 0 < s) (within : s ≤ length family) (b : Ballot) → In b (machine family s).ballots → is_open b ≡ true
+      → (t : ℕ) → 0 < t → t ≤ length family → In t b.yes
   all_yes s some within b i opened t up low = at (nat_eq t s) refl
     where
-      built : IsBuilt (IsSent family s) s n (machine family s)
+      built : IsBuilt (IsSent family s) s (length family) (machine family s)
       built = built_end family c s some within
 
       own : b.proposal.site ≡ s
@@ -344,7 +358,7 @@ module _ (family : Family) (c : IsConsistent family) (idle : NoneReady family) (
       voted : (t ≡ s → ⊥) → In t b.yes
       voted other =
           let from : q.0.dot.site ≡ s = ap (λ (d : DotValue). d.site) q.3 ∙ own in
-          let here : In q.0 (log_of family t) = log_of_all q.0 (op_in s some within q.0 q.2) t up low in
+          let here : In q.0 (log_of family t) = log_of_all q.0 (op_in family c s some within q.0 q.2) t up low in
           let there : q.0.dot.site ≢ (machine family t).site =
           λ (e : q.0.dot.site ≡ (machine family t).site). other (sym (site_is family c t up low) ∙ sym e ∙ from) in
           let v = (sending_end family c t up low).voted q.0 q.1 here there q.4 in
@@ -363,18 +377,18 @@ module _ (family : Family) (c : IsConsistent family) (idle : NoneReady family) (
           ((balloting (machine family s) built).own b i)
       at false e = voted (eqb-false t s e)
 
-  pub none_open : (s : ℕ) → 0 < s → s ≤ n → (b : Ballot) → In b (machine family s).ballots → is_open b ≡ false
+  pub none_open : (s : ℕ) → 0 < s → s ≤ length family → (b : Ballot) → In b (machine family s).ballots → is_open b ≡ false
   none_open s some within b i = at (is_open b) refl
     where
       at : (z : Bool) → is_open b ≡ z → is_open b ≡ false
       at false e = e
       at true e =
-          let many : n ≤ length b.yes = as_many n b.yes (λ t up low. all_yes s some within b i e t up low) in
+          let many : length family ≤ length b.yes = as_many (length family) b.yes (λ t up low. all_yes s some within b i e t up low) in
           let few : length b.yes < (machine family s).size = few_yes (machine family s) (reached_end family c s some within) b i e in
-          let size : (machine family s).size ≡ n = size_is family c s some within in
+          let size : (machine family s).size ≡ length family = size_is family c s some within in
           absurd (omega (arith, many, few, size))
 
-  pub all_decided : (s : ℕ) → 0 < s → s ≤ n → undecided (machine family s) ≡ 0
+  pub all_decided : (s : ℕ) → 0 < s → s ≤ length family → undecided (machine family s) ≡ 0
   all_decided s some within =
       ap (λ (l : List Ballot). length l)
       (filter_none is_open (machine family s).ballots (λ b i. none_open s some within b i))

@@ -4,10 +4,10 @@ use Rattle.std.proofs.lemmas.List.{length-append}
 use Rattle.td_op.specs.declared.message.Message.{Message}
 use Rattle.td_replica.specs.declared.given.Given.{Given}
 use Rattle.td_world.specs.World.{WorldValue, Move, IsWorld, size, machine_of, moved, moved_all}
-use Rattle.td_world.specs.Calls.{is_ready, is_wanted, next, take, nexts, give_moves, wanted_moves, wanted_given, took, moves_of, given_of, give_all_moves, give_all_given, pass_from, pass, passes, is_take, count_given, IsCutShort, IsSettled, IsUnsettled}
+use Rattle.td_world.specs.Calls.{is_ready, is_wanted, next, take, nexts, give_moves, wanted_moves, wanted_given, took, moves_of, given_of, give_all_moves, give_all_given, pass_from, pass, passes, is_take, count_given, IsStopped, IsSettled, IsUnsettled}
 use Rattle.td_world.specs.Promises.{NobodyReady, SameVectors, AllDecided}
-use Rattle.td_world.proofs.Cuts.{cut_before, cut_after, cut_all}
-use Rattle.td_world.proofs.Going.{IsDoing, doing_more, doing_cut, doing_size}
+use Rattle.td_world.proofs.Cuts.{stopped_before, stopped_after}
+use Rattle.td_world.proofs.Going.{IsDoing, doing_more, doing_stopped, doing_size}
 use Rattle.td_world.proofs.Moves.{moved_both}
 use Rattle.td_world.proofs.Nexts.{passes_nobody}
 use Rattle.td_world.proofs.Passes.{settled_vectors, settled_decided}
@@ -142,12 +142,12 @@ module _ (site : ℕ) (old now : WorldValue) (count : ℕ) (within : site ≤ si
         counted = omega (arith, here, both, all, told);
       })
 
-  pub passing_cut : (new : WorldValue) → IsCutShort (give_all_moves site now) now new → IsCutShort (pass old) old new
-  passing_cut new c =
-      doing_cut (pass old)
+  pub passing_stopped : (new : WorldValue) → IsStopped (give_all_moves site now) now new → IsStopped (pass old) old new
+  passing_stopped new c =
+      doing_stopped (pass old)
       (give_all_moves site now ++ pass_from (size old + 1 - (site + 1)) (site + 1) (moved_all (give_all_moves site now) now)) old now new
       doing_here
-      (cut_before (give_all_moves site now)
+      (stopped_before (give_all_moves site now)
       (pass_from (size old + 1 - (site + 1)) (site + 1) (moved_all (give_all_moves site now) now)) now new c)
 
 pub passing_size : (site : ℕ) (old now : WorldValue) (count : ℕ) → IsPassing site old now count → size now ≡ size old
@@ -163,51 +163,53 @@ passes_last (suc k) w =
     ∙ ap (λ (v : WorldValue). (pass w ++ passes k (moved_all (pass w) w)) ++ pass v)
     (sym (moved_both (pass w) (passes k (moved_all (pass w) w)) w))
 
-pub record IsSettling (old now : WorldValue) (given : ℕ) : Type 0 where
-  pub number : ℕ
+-- so many passes were made
+pub record IsSettling (number : ℕ) (old now : WorldValue) (given : ℕ) : Type 0 where
   pub after : now ≡ moved_all (passes number old) old
   pub count : given ≡ count_given (passes number old)
 
-pub settling_none : (w : WorldValue) → IsSettling w w 0
-settling_none w = record { number = 0; after = refl; count = refl }
+pub settling_none : (w : WorldValue) → IsSettling 0 w w 0
+settling_none w = record { after = refl; count = refl }
 
-pub settling_more : (old now new : WorldValue) (given count more : ℕ) → IsSettling old now given
-    → new ≡ moved_all (pass now) now → count ≡ count_given (pass now) → more ≡ given + count → IsSettling old new more
-settling_more old now new given count more s is told sum =
-    let last = passes_last s.number old in
-    let both : count_given (passes (suc s.number) old) ≡ count_given (passes s.number old) + count_given (pass now) =
-    ap count_given last ∙ count_both (passes s.number old) (pass (moved_all (passes s.number old) old))
-    ∙ ap (λ (w : WorldValue). count_given (passes s.number old) + count_given (pass w)) (sym s.after) in
-    let before : given ≡ count_given (passes s.number old) = s.count in
-    record {
-      number = suc s.number;
+pub settling_more : (number : ℕ) (old now new : WorldValue) (given count more : ℕ) → IsSettling number old now given
+    → new ≡ moved_all (pass now) now → count ≡ count_given (pass now) → more ≡ given + count
+    → IsSettling (number + 1) old new more
+settling_more number old now new given count more s is told sum =
+    let one : suc number ≡ number + 1 = omega arith in
+    let last = passes_last number old in
+    let both : count_given (passes (suc number) old) ≡ count_given (passes number old) + count_given (pass now) =
+    ap count_given last ∙ count_both (passes number old) (pass (moved_all (passes number old) old))
+    ∙ ap (λ (w : WorldValue). count_given (passes number old) + count_given (pass w)) (sym s.after) in
+    let before : given ≡ count_given (passes number old) = s.count in
+    subst (λ (n : ℕ). IsSettling n old new more) one
+    (record {
       after = is
           ∙ (ap (λ (w : WorldValue). moved_all (pass w) w) s.after
           ∙ sym (ap (λ (l : List Move). moved_all l old) last
-          ∙ moved_both (passes s.number old) (pass (moved_all (passes s.number old) old)) old));
+          ∙ moved_both (passes number old) (pass (moved_all (passes number old) old)) old));
       count = omega (arith, both, before, told, sum);
-    }
+    })
 
-pub settling_done : (old now new : WorldValue) (given count : ℕ) → IsSettling old now given
+pub settling_done : (number : ℕ) (old now new : WorldValue) (given count : ℕ) → IsSettling number old now given
     → new ≡ moved_all (pass now) now → count ≡ count_given (pass now) → count ≡ 0 → IsSettled old new given
-settling_done old now new given count s is told none =
+settling_done number old now new given count s is told none =
     let off : pass now ≡ [] = still_pass now (sym told ∙ none) in
     let same : new ≡ now = is ∙ ap (λ (l : List Move). moved_all l now) off in
     record {
-      number = s.number;
+      number = number;
       after = same ∙ s.after;
       still = ap pass same ∙ off;
       count = s.count;
     }
 
-pub settling_cut : (old now new : WorldValue) (given : ℕ) → IsSettling old now given → IsCutShort (pass now) now new
-    → IsUnsettled old new
-settling_cut old now new given s c =
+pub settling_stopped : (number : ℕ) (old now new : WorldValue) (given : ℕ) → IsSettling number old now given
+    → IsStopped (pass now) now new → IsUnsettled old new
+settling_stopped number old now new given s c =
     record {
-      number = suc s.number;
-      cut = subst (λ (l : List Move). IsCutShort l old new) (sym (passes_last s.number old))
-          (cut_after (passes s.number old) (pass (moved_all (passes s.number old) old)) old now new s.after
-          (subst (λ (w : WorldValue). IsCutShort (pass w) now new) s.after c));
+      number = suc number;
+      stopped = subst (λ (l : List Move). IsStopped l old new) (sym (passes_last number old))
+          (stopped_after (passes number old) (pass (moved_all (passes number old) old)) old now new s.after
+          (subst (λ (w : WorldValue). IsStopped (pass w) now new) s.after c));
     }
 
 -- ---- and then all is settled
@@ -221,8 +223,3 @@ module _ (old new : WorldValue) (given : ℕ) (i : IsWorld new) (s : IsSettled o
 
   pub settled_all : AllDecided new
   settled_all = settled_decided new i settled_nobody s.still
-
--- a whole pass more was made
-pub settling_after : (old now new : WorldValue) (given : ℕ) → IsSettling old now given → new ≡ moved_all (pass now) now
-    → IsUnsettled old new
-settling_after old now new given s is = settling_cut old now new given s (cut_all (pass now) now new is)

@@ -41,6 +41,7 @@ use Rattle.td_machine.proofs.Turns.{comes_next}
 use Rattle.td_machine.proofs.Growing.{step_sends}
 use Rattle.td_machine.proofs.Vectors.{bump_same}
 use Rattle.td_machine.proofs.Walk.{offered}
+use Rattle.td_replay.proofs.Matching.{take_parts}
 use Rattle.td_world.specs.Calls.{is_known}
 use Rattle.td_world.specs.Parts.{is_dropped}
 use Rattle.td_world.proofs.Known.{repeat_op, repeat_vote, repeat_sized, repeat_fits, from_op, from_vote}
@@ -56,7 +57,7 @@ bumped_covers (x ∷ v) (suc k) =
 
 -- ---- counted votes stay counted
 
-abbrev IsCountedIn : DotValue → ℕ → List Ballot → Type 0
+abbrev pub IsCountedIn : DotValue → ℕ → List Ballot → Type 0
 IsCountedIn p voter ballots = (b : Ballot) × (find (is_on p) ballots ≡ Some b) × (is_counted voter b ≡ true)
 
 -- a change that keeps what is counted
@@ -129,6 +130,28 @@ find_revised p q change keeps voter (x ∷ ballots) (b, found, is_in) =
           r.2,
         )
 
+-- on a ballot that is closed each vote is counted
+pub found_closed : (p : DotValue) (voter : ℕ) (commit : Bool) (b : Ballot) (ballots : List Ballot)
+    → find (is_on p) ballots ≡ Some b → IsCountedIn p voter (revise p (close commit) ballots)
+found_closed p voter commit b [] f = absurd cc
+found_closed p voter commit b (x ∷ ballots) f =
+    at (is_on p x) refl f (λ k. found_closed p voter commit b ballots k)
+  where
+    at : (t : Bool) → is_on p x ≡ t → (if t then Some x else find (is_on p) ballots) ≡ Some b
+        → (find (is_on p) ballots ≡ Some b → IsCountedIn p voter (revise p (close commit) ballots))
+        → IsCountedIn p voter ((if t then close commit x else x) ∷ revise p (close commit) ballots)
+    at true e k ih = (
+      close commit x,
+      ap (λ (t : Bool). if t then Some (close commit x) else find (is_on p) (revise p (close commit) ballots)) e,
+      refl,
+    )
+    at false e k ih =
+        let r = ih k in (
+          r.0,
+          ap (λ (t : Bool). if t then Some x else find (is_on p) (revise p (close commit) ballots)) e ∙ r.1,
+          r.2,
+        )
+
 -- ---- one step after another
 
 -- the second machine knows what the first one knew
@@ -140,7 +163,7 @@ pub record KnowsMore (m n : Machine) : Type 0 where
       → (waits d n.waiting ≡ true) ⊎ IsTrue (vector_has n.have d)
   pub ballots : (p : DotValue) (voter : ℕ) → IsCountedIn p voter m.ballots → IsCountedIn p voter n.ballots
 
-as_much : (m : Machine) → KnowsMore m m
+pub as_much : (m : Machine) → KnowsMore m m
 as_much m =
     record {
       site = refl;
@@ -172,7 +195,7 @@ made_more body m n k =
       ballots = λ p voter h. counted_after body p voter n.ballots (k.ballots p voter h);
     }
 
-decide_more : (p : DotValue) (o : Option Bool) (m n : Machine) → KnowsMore m n → KnowsMore m (decide p o n)
+pub decide_more : (p : DotValue) (o : Option Bool) (m n : Machine) → KnowsMore m n → KnowsMore m (decide p o n)
 decide_more p None m n k = k
 decide_more p (Some true) m n k = made_more (Commit p) m n k
 decide_more p (Some false) m n k = made_more (Abort p) m n k
@@ -286,6 +309,15 @@ counts_more v b m =
           find_revised p v.proposal (counted v.voter v.yes) (counted_keeps v.voter v.yes) voter m.ballots h;
     })
 
+-- what is taken is had
+pub had_taken : (x : OpValue) (m : Machine) → IsNext m.have x → IsTrue (vector_has (take x m).have x.dot)
+had_taken x m next =
+    let number : x.dot.seq ≡ vector_get m.have x.dot.site + 1 = next.next in
+    let now : vector_get (vector_bump m.have x.dot.site) x.dot.site ≡ vector_get m.have x.dot.site + 1 =
+    bump_same m.have x.dot.site next.some next.within in
+    subst (λ (v : List ℕ). IsTrue (vector_has v x.dot)) (sym (take_parts x m).0)
+    (le-leb x.dot.seq (vector_get (vector_bump m.have x.dot.site) x.dot.site) (omega (arith, number, now)))
+
 -- what waited and is taken is had
 resumed_more : (x : OpValue) (m : Machine) → IsReached m → In x m.waiting → is_ready m.have x ≡ true
     → misfit x m ≡ None → KnowsMore m (take x (forget x m))
@@ -310,21 +342,8 @@ resumed_more x m r i ready fit =
         comes_next m built x
         (Other x (record { offered = offered m built x i; ready = ready; fit = fit }))
 
-    same_have : (slot : Option Slot) → (take_as slot x (forget x m)).have ≡ vector_bump m.have x.dot.site
-    same_have None = refl
-    same_have (Some slot) = at (vote_on x slot (forget x m))
-      where
-        at : (says : Bool) → (answer x.dot slot says (done x (forget x m))).have ≡ vector_bump m.have x.dot.site
-        at true = refl
-        at false = refl
-
     had : IsTrue (vector_has (take x (forget x m)).have x.dot)
-    had =
-        let number : x.dot.seq ≡ vector_get m.have x.dot.site + 1 = next.next in
-        let now : vector_get (vector_bump m.have x.dot.site) x.dot.site ≡ vector_get m.have x.dot.site + 1 =
-        bump_same m.have x.dot.site next.some next.within in
-        subst (λ (v : List ℕ). IsTrue (vector_has v x.dot)) (sym (same_have (proposed x.body)))
-        (le-leb x.dot.seq (vector_get (vector_bump m.have x.dot.site) x.dot.site) (omega (arith, number, now)))
+    had = had_taken x (forget x m) next
 
     still : (d : DotValue) (waiting : List OpValue) → waits d waiting ≡ true
         → (waits d (without x.dot waiting) ≡ true) ⊎ (d ≡ x.dot)

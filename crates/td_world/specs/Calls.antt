@@ -153,14 +153,22 @@ pub record IsSettled (old new : WorldValue) (given : ℕ) : Type 0 where
 
 -- ---- want of memory
 
--- the moves before the one that found no memory are done
+-- the moves before one that found no memory are done, and that one is not
+pub record IsStopped (moves : List Move) (old new : WorldValue) : Type 0 where
+  pub front : List Move
+  pub wanting : Move
+  pub back : List Move
+  pub splits : moves ≡ front ++ wanting ∷ back
+  pub after : new ≡ moved_all front old
+
+-- a front of the moves is done: there may have been no memory to note the next one
 pub record IsCutShort (moves : List Move) (old new : WorldValue) : Type 0 where
   pub front : List Move
   pub back : List Move
   pub splits : moves ≡ front ++ back
   pub after : new ≡ moved_all front old
 
--- so it is within some number of passes
+-- so a move of some passes found no memory
 pub record IsUnsettled (old new : WorldValue) : Type 0 where
   pub number : ℕ
-  pub cut : IsCutShort (passes number old) old new
+  pub stopped : IsStopped (passes number old) old new

@@ -5,11 +5,10 @@ ghost use Rattle.td_base.specs.Lists.{In};
 ghost use Rattle.td_op.specs.declared.input.Input.TheVariants.{Next};
 ghost use Rattle.td_op.specs.declared.message.Message.{Message};
 ghost use Rattle.td_world.specs.World.{IsWorld, size, moved, moved_all, is_for};
-ghost use Rattle.td_world.specs.Calls.{is_wanted, nexts_after, give_moves, took, found_moves, found_given, numbered_moves, numbered_given, wanted_moves, wanted_given, wanted_answer, offered, offer_moves, give_all_moves, give_all_given, IsCutShort};
+ghost use Rattle.td_world.specs.Calls.{is_wanted, nexts_after, give_moves, took, found_moves, found_given, numbered_moves, numbered_given, wanted_moves, wanted_given, wanted_answer, offered, offer_moves, give_all_moves, give_all_given, IsStopped, IsCutShort};
 ghost use Rattle.td_world.specs.Parts.{IsPassed, ArePassed};
 ghost use Rattle.td_world.specs.Promises.{NobodyReady, IsPromised};
 
-use crate::sites::place_of;
 use crate::world::World;
 use std::alloc::Global;
 use td_base::{Memory, Site};
@@ -24,7 +23,7 @@ impl<D: Doc> World<D> {
         requires { to ≤ size self.old }
         ensures given { IfOk result (λ given. given ≡ numbered_given to number self.old) }
         ensures ok { OnOk result (self.new ≡ moved_all (numbered_moves to number self.old) self.old) }
-        ensures err { OnErr result (IsCutShort (numbered_moves to number self.old) self.old self.new) }
+        ensures err { OnErr result (IsStopped (numbered_moves to number self.old) self.old self.new) }
         ensures world { IsWorld self.new }
         ensures promises { IsPromised self.new }
         ensures nobody { OnOk result (NobodyReady self.old → NobodyReady self.new) }
@@ -60,7 +59,7 @@ impl<D: Doc> World<D> {
         requires { to ≤ size self.old }
         ensures given { IfOk result (λ given. given ≡ offered to number self.old) }
         ensures ok { OnOk result (self.new ≡ moved_all (offer_moves to number self.old) self.old) }
-        ensures err { OnErr result (IsCutShort (offer_moves to number self.old) self.old self.new) }
+        ensures err { OnErr result (IsStopped (offer_moves to number self.old) self.old self.new) }
         ensures world { IsWorld self.new }
         ensures promises { IsPromised self.new }
         ensures nobody { OnOk result (NobodyReady self.old → NobodyReady self.new) }
@@ -87,7 +86,7 @@ impl<D: Doc> World<D> {
         requires world { IsWorld self.old }
         ensures given { IfOk result (λ given. given ≡ wanted_answer to message.now self.old) }
         ensures ok { OnOk result (self.new ≡ moved_all (wanted_moves to message.now self.old) self.old) }
-        ensures err { OnErr result (IsCutShort (wanted_moves to message.now self.old) self.old self.new) }
+        ensures err { OnErr result (IsStopped (wanted_moves to message.now self.old) self.old self.new) }
         ensures world { IsWorld self.new }
         ensures some { 1 ≤ to }
     {
@@ -104,7 +103,7 @@ impl<D: Doc> World<D> {
         requires world { IsWorld self.old }
         ensures given { IfOk result (λ given. given ≡ found_given to (Some message.now) self.old) }
         ensures ok { OnOk result (self.new ≡ moved_all (found_moves to (Some message.now) self.old) self.old) }
-        ensures err { OnErr result (IsCutShort (found_moves to (Some message.now) self.old) self.old self.new) }
+        ensures err { OnErr result (IsStopped (found_moves to (Some message.now) self.old) self.old self.new) }
         ensures world { IsWorld self.new }
         ensures some { 1 ≤ to }
     {
@@ -121,7 +120,7 @@ impl<D: Doc> World<D> {
         requires addressed { is_for to message.now ≡ true }
         ensures given { IfOk result (λ given. given ≡ took to message.now self.old) }
         ensures ok { OnOk result (self.new ≡ moved_all (give_moves to message.now self.old) self.old) }
-        ensures err { OnErr result (IsCutShort (give_moves to message.now self.old) self.old self.new) }
+        ensures err { OnErr result (IsStopped (give_moves to message.now self.old) self.old self.new) }
         ensures world { IsWorld self.new }
         ensures some { 1 ≤ to }
     {
@@ -135,7 +134,7 @@ impl<D: Doc> World<D> {
         requires { site ≤ size self.old }
         ensures count { IfOk result (λ count. count ≡ length (nexts_after site self.old)) }
         ensures ok { OnOk result (self.new ≡ moved_all (nexts_after site self.old) self.old) }
-        ensures err { OnErr result (IsCutShort (nexts_after site self.old) self.old self.new) }
+        ensures err { OnErr result (IsStopped (nexts_after site self.old) self.old self.new) }
         ensures world { IsWorld self.new }
     {
         let waiting = self.replica(site).waiting();
@@ -162,8 +161,9 @@ impl<D: Doc> World<D> {
     pub(crate) fn give_each(&mut self, to: Site) -> Result<u64, Memory>
         requires { to ≤ size self.old }
         ensures count { IfOk result (λ count. count ≡ length (give_all_given to self.old)) }
+        ensures few { IfOk result (λ count. count ≤ length self.old.sent) }
         ensures ok { OnOk result (self.new ≡ moved_all (give_all_moves to self.old) self.old) }
-        ensures err { OnErr result (IsCutShort (give_all_moves to self.old) self.old self.new) }
+        ensures err { OnErr result (IsStopped (give_all_moves to self.old) self.old self.new) }
         ensures world { IsWorld self.new }
     {
         let mut count = 0;
@@ -211,7 +211,7 @@ impl<D: Doc> World<D> {
         ensures ok { OnOk result ((m : Message) → slice_get self.old.sent k ≡ Some m
             → self.new ≡ moved_all (wanted_moves to m self.old) self.old) }
         ensures err { OnErr result ((m : Message) → slice_get self.old.sent k ≡ Some m
-            → IsCutShort (wanted_moves to m self.old) self.old self.new) }
+            → IsStopped (wanted_moves to m self.old) self.old self.new) }
         ensures world { IsWorld self.new }
     {
         if self.is_from(to, k) {
@@ -230,7 +230,7 @@ impl<D: Doc> World<D> {
         requires world { IsWorld self.old }
         ensures given { IfOk result (λ given. given ≡ wanted_answer to message.now self.old) }
         ensures ok { OnOk result (self.new ≡ moved_all (wanted_moves to message.now self.old) self.old) }
-        ensures err { OnErr result (IsCutShort (wanted_moves to message.now self.old) self.old self.new) }
+        ensures err { OnErr result (IsStopped (wanted_moves to message.now self.old) self.old self.new) }
         ensures world { IsWorld self.new }
         ensures some { 1 ≤ to }
     {
@@ -253,7 +253,7 @@ impl<D: Doc> World<D> {
         ensures passed { ArePassed site self.now result }
         ensures some { 1 ≤ site }
     {
-        self.passed[place_of(site)]
+        self.passed[site.place()]
     }
 
     // Where all messages before this one need not be looked at again, and this one neither, that is noted.
@@ -278,7 +278,7 @@ impl<D: Doc> World<D> {
         ensures world { IsWorld self.new }
         ensures same { self.new ≡ self.old }
     {
-        let place = place_of(to);
+        let place = to.place();
         if self.passed[place] == k {
             self.passed[place] = k + 1;
         }

@@ -1,11 +1,11 @@
 // What worlds come to, each law as the contract of a function with an empty body.
-ghost use Rattle.std.specs.Prelude.{◌≡◌, ◌≢◌, ◌↔◌, ◌<◌, ◌≤◌, ℕ, [], true, false, length, Some, None};
+ghost use Rattle.std.specs.Prelude.{◌≡◌, ◌≢◌, ◌↔◌, ◌<◌, ◌≤◌, ◌+◌, ◌*◌, ℕ, [], true, false, length, Some, None};
 ghost use Rattle.td_op.specs.declared.message.Message.{Message};
 ghost use Rattle.td_history.specs.Past.{kth};
 ghost use Rattle.td_machine.specs.History.{sender, IsAddressed};
 ghost use Rattle.td_replica.specs.declared.given.Given.TheVariants.{NoSuch, Stray};
 ghost use Rattle.td_world.specs.World.{WorldValue, Move, IsWorld, IsFit, size, machine_of, moved, moved_all, is_for};
-ghost use Rattle.td_world.specs.Calls.{is_ready, nexts_after, numbered_given, pass, IsSettled};
+ghost use Rattle.td_world.specs.Calls.{is_ready, nexts_after, numbered_given, pass, passes, IsSettled};
 ghost use Rattle.td_world.specs.Promises.{NobodyReady, SameVectors, AllDecided, IsPromised, AtomsAreShown, TextsAreShown};
 
 /// A move of which the input may be given to its site leads from a world to a world.
@@ -40,6 +40,16 @@ pub fn nothing_ready_is_left()
 pub fn settled_worlds_are_one()
     ensures { (old new other : WorldValue) (given more : ℕ) → IsSettled old new given → IsSettled old other more
         → (new ≡ other) × (given ≡ more) }
+{}
+
+/// Passes end. Where nobody is ready, three leave nothing to give: in the first all operations go out, and so all votes
+/// are made; in the second all decisions are made; and in the third they are taken. Where an operation that waits is
+/// ready at some sites, each of these may bring two more, as it is taken only with the next message that its site is
+/// given.
+#[tactic(auto, using(crate::proofs::Ending::three_enough, crate::proofs::Ending::always_enough))]
+pub fn passes_end()
+    ensures three { (w : WorldValue) → IsWorld w → NobodyReady w → pass (moved_all (passes 3 w) w) ≡ [] }
+    ensures always { (w : WorldValue) → IsWorld w → pass (moved_all (passes (2 * size w + 3) w) w) ≡ [] }
 {}
 
 /// Where nobody is ready and a pass gives nothing, all sites have the same operations, and each proposal is decided.

@@ -8,7 +8,6 @@ ghost use Rattle.td_world.specs.Promises.{NobodyReady, IsPromised};
 ghost use Rattle.td_world.specs.Parts.{new_posts};
 
 use crate::post::Post;
-use crate::sites::site_at;
 use crate::world::World;
 use std::alloc::Global;
 use td_base::{Memory, Site};
@@ -28,7 +27,7 @@ impl<D: Doc> World<D> {
         let mut replicas = Vec::new(alloc);
         let mut passed = Vec::new(alloc);
         for place in 0..n {
-            replicas.push(Replica::new(alloc, site_at(place), n)?)?;
+            replicas.push(Replica::new(alloc, Site::at(place), n)?)?;
             passed.push(0)?;
         }
         Ok(World {

@@ -1,19 +1,21 @@
-ghost use Rattle.std.specs.Prelude.{◌≡◌, ◌+◌, ◌≤◌, ℕ, IfOk, OnOk, OnErr};
+ghost use Rattle.std.specs.Prelude.{◌≡◌, ◌≤◌, IfOk, OnOk, OnErr};
 ghost use Rattle.td_base.specs.declared.site.TheConstants.{MAX_SITE};
 ghost use Rattle.td_world.specs.World.{IsWorld, size, moved_all};
-ghost use Rattle.td_world.specs.Calls.{pass, count_given, IsCutShort, IsSettled, IsUnsettled};
+ghost use Rattle.td_world.specs.Calls.{pass, passes, count_given, IsStopped, IsSettled, IsUnsettled};
 ghost use Rattle.td_world.specs.Promises.{NobodyReady, SameVectors, AllDecided, IsPromised};
 
-use crate::sites::site_at;
 use crate::world::World;
-use td_base::Memory;
+use td_base::{Memory, Site};
 use td_doc::Doc;
 
 impl<D: Doc> World<D> {
     /// Gives each site all that it does not know, again and again, until there is nothing more to give; how many
-    /// messages were given is answered. `Memory` also where these, or the passes, would be more than `u64::MAX`.
+    /// messages were given is answered. It makes four passes at most where nobody was ready, and twice as many as
+    /// there are sites and three in any world.
     pub fn settle(&mut self) -> Result<u64, Memory>
         ensures given { IfOk result (λ given. IsSettled self.old self.new given) }
+        ensures three { IfOk result (λ given. NobodyReady self.old
+            → (self.new ≡ moved_all (passes 3 self.old) self.old) × (given ≡ count_given (passes 3 self.old))) }
         ensures vectors { OnOk result (NobodyReady self.old → SameVectors self.new) }
         ensures decided { OnOk result (NobodyReady self.old → AllDecided self.new) }
         ensures nobody { OnOk result (NobodyReady self.old → NobodyReady self.new) }
@@ -23,15 +25,15 @@ impl<D: Doc> World<D> {
     {
         let sites = self.size();
         let mut given = 0;
-        for _ in 0..u64::MAX {
+        for _ in 0..2 * sites + 3 {
             let more = self.pass(sites)?;
             let still = more == 0;
             if still {
                 return Ok(given);
             }
-            given = sum(given, more)?;
+            given += more;
         }
-        Err(Memory)
+        Ok(given)
     }
 
     // Gives each of so many sites all that it does not know, once.
@@ -40,25 +42,16 @@ impl<D: Doc> World<D> {
         requires few { sites ≤ MAX_SITE }
         requires world { IsWorld self.old }
         ensures count { IfOk result (λ count. count ≡ count_given (pass self.old)) }
+        ensures few { IfOk result (λ count. count ≤ 17_179_607_040) }
         ensures ok { OnOk result (self.new ≡ moved_all (pass self.old) self.old) }
-        ensures err { OnErr result (IsCutShort (pass self.old) self.old self.new) }
+        ensures err { OnErr result (IsStopped (pass self.old) self.old self.new) }
         ensures world { IsWorld self.new }
     {
         let mut count = 0;
         for place in 0..sites {
-            let given = self.give_each(site_at(place))?;
-            count = sum(count, given)?;
+            let given = self.give_each(Site::at(place))?;
+            count += given;
         }
         Ok(count)
     }
-}
-
-// The sum, where it is a u64.
-fn sum(a: u64, b: u64) -> Result<u64, Memory>
-    ensures { IfOk result (λ c. c ≡ a + b) }
-{
-    if b > u64::MAX - a {
-        return Err(Memory);
-    }
-    Ok(a + b)
 }

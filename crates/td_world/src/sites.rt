@@ -1,5 +1,5 @@
 // The replicas of the sites, that of site s at place s - 1.
-ghost use Rattle.std.specs.Prelude.{◌≡◌, ◌<◌, ◌≤◌, ◌+◌, ◌-◌, ◌^◌, length, set, IfOk, OnErr, OnOk, vec_len};
+ghost use Rattle.std.specs.Prelude.{◌≡◌, ◌<◌, ◌≤◌, ◌+◌, ◌-◌, length, set, IfOk, OnErr, OnOk, vec_len};
 ghost use Rattle.td_base.specs.declared.site.TheConstants.{MAX_SITE};
 ghost use Rattle.td_replica.specs.Replica.{after_step};
 ghost use Rattle.td_world.specs.World.{replica_from};
@@ -24,7 +24,7 @@ pub fn replica_of<D: Doc>(replicas: &[Replica<D>], site: Site) -> &Replica<D>
     ensures replica { result.now ≡ replica_from replicas.now (site - 1) }
     ensures some { 1 ≤ site }
 {
-    &replicas[place_of(site)]
+    &replicas[site.place()]
 }
 
 /// One step of a site.
@@ -38,45 +38,21 @@ pub fn step_of<D: Doc>(
     ensures ok { OnOk result (replicas.new.items
         ≡ set replicas.old.items (site - 1) (after_step input.now (replica_from replicas.old.items (site - 1)))) }
     ensures err { OnErr result (replicas.new.items ≡ replicas.old.items) }
-    ensures few { IfOk result (λ done. done.before + 2 < 2 ^ 32) }
+    ensures some { 1 ≤ site }
 {
-    step_one(&mut replicas[place_of(site)], input)
+    step_one(&mut replicas[site.place()], input)
 }
 
 fn step_one<D: Doc>(replica: &mut Replica<D>, input: &Input) -> Result<Done, Memory>
     ensures done { IfOk result (λ done. IsDone replica.old input.now done) }
     ensures ok { OnOk result (replica.new ≡ after_step input.now replica.old) }
     ensures err { OnErr result (replica.new ≡ replica.old) }
-    ensures few { IfOk result (λ done. done.before + 2 < 2 ^ 32) }
 {
     let before = replica.sent();
-    if before > MOST_SENT {
-        return Err(Memory);
-    }
     let reply = replica.step_on(input)?;
     Ok(Done {
         reply,
         before,
         after: replica.sent(),
     })
-}
-
-// So many messages a site may have sent where it takes a step, so that what it sends then has a number too. It never
-// sends as many (`Post`).
-const MOST_SENT: u64 = u32::MAX as u64 - 2;
-
-/// Where the replica of a site stands.
-pub fn place_of(site: Site) -> usize
-    ensures place { result ≡ site - 1 }
-    ensures least { 1 ≤ site }
-{
-    site.number() as usize - 1
-}
-
-/// The site whose replica stands at the place.
-pub fn site_at(place: u8) -> Site
-    requires { place < MAX_SITE }
-    ensures { result ≡ place + 1 }
-{
-    Site::new(place + 1).unwrap()
 }

@@ -14,7 +14,7 @@ ghost use Rattle.td_world.specs.Parts.{new_posts, posted, looked_again};
 ghost use Rattle.td_world.specs.Promises.{NobodyReady, IsPromised};
 
 use crate::post::Post;
-use crate::sites::{place_of, replica_of, step_of};
+use crate::sites::{replica_of, step_of};
 use std::alloc::Global;
 use std::marker::Model;
 use td_base::{Memory, Site};
@@ -145,7 +145,7 @@ impl<D: Doc> World<D> {
         self.posts.reserve(2)?;
         let done = step_of(&mut self.replicas, site, input)?;
         post(&mut self.posts, site, done.before, done.after);
-        look_again(&mut self.passed, place_of(site), &done.reply);
+        look_again(&mut self.passed, site.place(), &done.reply);
         Ok(done.reply)
     }
 }
@@ -156,7 +156,7 @@ fn message_of<D: Doc>(replicas: &[Replica<D>], post: &Post) -> Message
     ensures message { posted replicas.now post.now ≡ Some result }
     ensures some { 1 ≤ post.now.site }
 {
-    replicas[place_of(post.site)].message(u64::from(post.number))
+    replicas[post.site.place()].message(u64::from(post.number))
 }
 
 // The site that sent the message.

@@ -1,4 +1,4 @@
-use Rattle.std.proofs.Common.{◌≡◌, ◌∙◌, sym, ap, subst}
+use Rattle.std.proofs.Common.{◌≡◌, ◌∙◌, sym, ap, subst, arith}
 use Rattle.std.specs.Prelude.{IsTrue}
 use Rattle.td_base.specs.Value.{AtomIdValue}
 use Rattle.td_path.specs.declared.slot.Slot.{Slot}
@@ -38,16 +38,16 @@ returns-in_ok-open_to-in-Some-clause-rooted c =
     (is_row_at p (subst IsTree c.self.view_is c.self.invariant.0.tree) c.in-Some.row e.known e.stands c.in-At.atom e.named)
 
 pub returns-in-Root-clause-nodes : goal.returns-in-Root-clause-nodes
-returns-in-Root-clause-nodes c = few_root c.args.self.now c.args.self.now c.args.slot 0 c.in-Root.is
+returns-in-Root-clause-nodes c = few_root c.args.self.now c.args.self.now c.args.slot 0 c.in-Root.is (omega arith)
 
 pub returns-in_err-open_to-in-Some-clause-nodes : goal.returns-in_err-open_to-in-Some-clause-nodes
 returns-in_err-open_to-in-Some-clause-nodes c =
     let e = c.in-Some.ensures in
     few_at c.args.self.now c.open_to.new.self c.args.slot c.in-At.atom c.in-At.bit 0 c.in-At.is
-    (opened_at c.self.inside.tokens c.args.self.now c.open_to.new.self c.self.inside.identities c.self.inside.seen c.self.view_is c.self.invariant.0 c.in-Some.row e.known e.stands c.in-At.atom e.named c.open_to.ensures.kept.tree c.open_to.ensures.few)
+    (opened_at c.self.inside.tokens c.args.self.now c.open_to.new.self c.self.inside.identities c.self.inside.seen c.self.view_is c.self.invariant.0 c.in-Some.row e.known e.stands c.in-At.atom e.named c.open_to.ensures.kept.tree c.open_to.ensures.few c.open_to.ensures.same)
 
 pub returns-in_ok-open_to-in-Some-clause-nodes : goal.returns-in_ok-open_to-in-Some-clause-nodes
 returns-in_ok-open_to-in-Some-clause-nodes c =
     let e = c.in-Some.ensures in
     few_at c.args.self.now c.open_to.new.self c.args.slot c.in-At.atom c.in-At.bit 0 c.in-At.is
-    (opened_at c.self.inside.tokens c.args.self.now c.open_to.new.self c.self.inside.identities c.self.inside.seen c.self.view_is c.self.invariant.0 c.in-Some.row e.known e.stands c.in-At.atom e.named c.open_to.ensures.kept.tree c.open_to.ensures.few)
+    (opened_at c.self.inside.tokens c.args.self.now c.open_to.new.self c.self.inside.identities c.self.inside.seen c.self.view_is c.self.invariant.0 c.in-Some.row e.known e.stands c.in-At.atom e.named c.open_to.ensures.kept.tree c.open_to.ensures.few c.open_to.ensures.same)

@@ -48,14 +48,14 @@ pub returns-in_err-open_to-in-Some-clause-nodes : goal.returns-in_err-open_to-in
 returns-in_err-open_to-in-Some-clause-nodes c =
     let e = c.in-Some.ensures in
     opened_at c.self.inside.tokens c.args.self.now c.open_to.new.self c.self.inside.identities c.self.inside.seen c.self.view_is c.self.invariant.0 c.in-Some.row e.known e.stands c.args.id e.named
-    c.open_to.ensures.kept.tree c.open_to.ensures.few
+    c.open_to.ensures.kept.tree c.open_to.ensures.few c.open_to.ensures.same
 
 pub returns-in_err-delete_row-in-Some-clause-nodes : goal.returns-in_err-delete_row-in-Some-clause-nodes
 returns-in_err-delete_row-in-Some-clause-nodes c =
     let e = c.in-Some.ensures in
     subst (λ (p : Parts). AddsFew c.args.self.now p c.args.id 0) (sym c.in_err-delete_row-in-Some.ensures.err)
     (opened_at c.self.inside.tokens c.args.self.now c.open_to.new.self c.self.inside.identities c.self.inside.seen c.self.view_is c.self.invariant.0 c.in-Some.row e.known e.stands c.args.id e.named
-    c.open_to.ensures.kept.tree c.open_to.ensures.few)
+    c.open_to.ensures.kept.tree c.open_to.ensures.few c.open_to.ensures.same)
 
 pub returns-in_ok-delete_row-in-Some-clause-nodes : goal.returns-in_ok-delete_row-in-Some-clause-nodes
 returns-in_ok-delete_row-in-Some-clause-nodes c =
@@ -66,4 +66,4 @@ returns-in_ok-delete_row-in-Some-clause-nodes c =
     let same = d.nodes in
     few_more c.args.self.now c.open_to.new.self c.delete_row.new.self c.args.id 0
     (opened_at c.self.inside.tokens c.args.self.now c.open_to.new.self c.self.inside.identities c.self.inside.seen c.self.view_is c.self.invariant.0 c.in-Some.row e.known e.stands c.args.id e.named
-    c.open_to.ensures.kept.tree c.open_to.ensures.few) (omega arith)
+    c.open_to.ensures.kept.tree c.open_to.ensures.few c.open_to.ensures.same) (omega arith)

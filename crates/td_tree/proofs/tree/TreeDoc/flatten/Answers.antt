@@ -70,7 +70,7 @@ returns-in_err-open_to-in-Some-clause-nodes c =
     let e = c.in-Some.ensures in
     few_at c.args.self.now c.open_to.new.self c.args.slot c.in-At.atom c.in-At.bit 0 c.in-At.is
     (opened_at c.self.inside.tokens c.args.self.now c.open_to.new.self c.self.inside.identities c.self.inside.seen c.self.view_is c.self.invariant.0 c.in-Some.row e.known e.stands c.in-At.atom e.named
-    c.open_to.ensures.kept.tree c.open_to.ensures.few)
+    c.open_to.ensures.kept.tree c.open_to.ensures.few c.open_to.ensures.same)
 
 pub returns-in_err-flatten_side-in-Some-clause-nodes : goal.returns-in_err-flatten_side-in-Some-clause-nodes
 returns-in_err-flatten_side-in-Some-clause-nodes c =
@@ -78,7 +78,7 @@ returns-in_err-flatten_side-in-Some-clause-nodes c =
     subst (λ (p : Parts). AddsFewIn c.args.self.now p c.args.slot 0) (sym c.in_err-flatten_side-in-Some.ensures.err)
     (few_at c.args.self.now c.open_to.new.self c.args.slot c.in-At.atom c.in-At.bit 0 c.in-At.is
     (opened_at c.self.inside.tokens c.args.self.now c.open_to.new.self c.self.inside.identities c.self.inside.seen c.self.view_is c.self.invariant.0 c.in-Some.row e.known e.stands c.in-At.atom e.named
-    c.open_to.ensures.kept.tree c.open_to.ensures.few))
+    c.open_to.ensures.kept.tree c.open_to.ensures.few c.open_to.ensures.same))
 
 pub returns-in_ok-flatten_side-in-Some-clause-nodes : goal.returns-in_ok-flatten_side-in-Some-clause-nodes
 returns-in_ok-flatten_side-in-Some-clause-nodes c =
@@ -90,4 +90,4 @@ returns-in_ok-flatten_side-in-Some-clause-nodes c =
     few_more_in c.args.self.now c.open_to.new.self c.flatten_side.new.self c.args.slot 0
     (few_at c.args.self.now c.open_to.new.self c.args.slot c.in-At.atom c.in-At.bit 0 c.in-At.is
     (opened_at c.self.inside.tokens c.args.self.now c.open_to.new.self c.self.inside.identities c.self.inside.seen c.self.view_is c.self.invariant.0 c.in-Some.row e.known e.stands c.in-At.atom e.named
-    c.open_to.ensures.kept.tree c.open_to.ensures.few)) (omega arith)
+    c.open_to.ensures.kept.tree c.open_to.ensures.few c.open_to.ensures.same)) (omega arith)

@@ -1,7 +1,7 @@
 use Rattle.std.proofs.Common.{◌≡◌, ◌<◌, ◌+◌, ℕ, Bool, if◌then◌else◌, length, sym, ap, ◌∙◌, subst, vec_len, arith}
 use Rattle.td_world.specs.World.{WorldValue, IsWorld, size}
 use Rattle.td_world.proofs.Cuts.{err_always}
-use Rattle.td_world.proofs.Giving.{giving_size, giving_cut, some_at, still_numbered, counting_none, counting_next}
+use Rattle.td_world.proofs.Giving.{giving_size, giving_stopped, some_at, still_numbered, counting_none, counting_next}
 use Rattle.td_world.proofs.Kept.{as_many_posts}
 use Rattle.td_world.proofs.Passed.{get_less}
 use Rattle.td_world.proofs.world.World.give_each.Goals as goal
@@ -35,7 +35,7 @@ returns-in_err-give_at-clause-err g c =
     let less : c.loop-k.k < length c.args.self.now.sent = omega (arith, c.loop-k-test.true, c.loop-k.invariant.2) in
     let m = some_at c.args.self.now.sent c.loop-k.k less in
     err_always c.from_residual.result
-    (giving_cut c.args.to c.loop-k.k c.args.self.now c.loop-k.self c.give_at.new.self c.loop-k.invariant.0.given
+    (giving_stopped c.args.to c.loop-k.k c.args.self.now c.loop-k.self c.give_at.new.self c.loop-k.invariant.0.given
     c.loop-k.invariant.0.given c.loop-k.invariant.0.giving m.0 m.1
     (c.in_err-give_at.ensures.err m.0
     (still_numbered c.args.to c.loop-k.k c.args.self.now c.loop-k.self c.loop-k.invariant.0.given c.loop-k.invariant.0.giving c.loop-k.k m.0 m.1)))

@@ -12,7 +12,7 @@ use Rattle.td_world.proofs.world.World.new.Goals as goal
 pub loop-place-preserved : goal.loop-place-preserved
 loop-place-preserved g c =
     let k = c.loop-place.place in
-    let same : c.site_at.result ≡ 1 + k = omega (arith, c.site_at.ensures) in (
+    let same : c.at.result ≡ 1 + k = omega (arith, c.at.ensures) in (
       c.in_ok-push.ensures.items
           ∙ (λ i. c.loop-place.invariant.0 i
           ++ (c.in_ok-new.ensures ∙ ap (λ (s : ℕ). new_replica s c.args.n) same) i ∷ [])

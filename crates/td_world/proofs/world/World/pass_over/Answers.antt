@@ -14,8 +14,8 @@ overflow_add-k g c =
 pub invariant_of-self : goal.invariant_of-self
 invariant_of-self g c =
     parts_passed c.self.inside.replicas.items c.self.inside.posts.items c.self.inside.passed.items c.self.invariant
-    c.args.self.now c.self.view_is c.args.to c.place_of-place.result c.args.k c.place_of-place.ensures.place
-    c.place_of-place.ensures.least (subst (λ (w : WorldValue). c.args.to ≤ size w) (sym c.self.view_is) c.requires.within)
+    c.args.self.now c.self.view_is c.args.to c.place-place.result c.args.k c.place-place.ensures.place
+    c.place-place.ensures.least (subst (λ (w : WorldValue). c.args.to ≤ size w) (sym c.self.view_is) c.requires.within)
     (sym c.if-index-k.true ∙ c.index.ensures
-    ∙ ap (λ d. get_or c.self.inside.passed.items c.place_of-place.result d) c.if-index-k.true)
+    ∙ ap (λ d. get_or c.self.inside.passed.items c.place-place.result d) c.if-index-k.true)
     c.requires.sent c.requires.passed

@@ -3,6 +3,7 @@ use Rattle.td_machine.specs.Step.{step}
 use Rattle.td_world.specs.declared.post.Post.{Post}
 use Rattle.td_world.specs.Parts.{new_posts, world_value}
 use Rattle.td_world.specs.World.{WorldValue, replica_from, moved, size, MayTake}
+use Rattle.td_world.proofs.Few.{few_from}
 use Rattle.td_world.proofs.Kept.{IsKept, kept_after}
 use Rattle.td_world.proofs.Steps.{step_few, step_order}
 use Rattle.td_world.proofs.world.World.step.Given.{Over}
@@ -24,10 +25,14 @@ post-requires-clause-room g c =
 
 pub post-requires-clause-few : goal.post-requires-clause-few
 post-requires-clause-few g c =
+    let w = world_value c.self.inside.replicas.items c.self.inside.posts.items in
     let m = (replica_from c.self.inside.replicas.items (c.args.site - 1)).machine in
     let d = c.in_ok-done.ensures.done in
     let few : length (step m c.args.input.now).machine.sent ≤ length m.sent + 2 = step_few m c.args.input.now in
-    omega (arith, d.before, d.after, few, c.in_ok-done.ensures.few)
+    let sent : length m.sent ≤ 4194240 =
+    few_from w c.self.invariant.world c.args.site c.step_of.ensures.some
+    (subst (λ (v : WorldValue). c.args.site ≤ size v) (sym c.self.view_is) c.requires.within) in
+    omega (arith, d.before, d.after, few, sent)
 
 kept : (g : Over) (c : goal.After-look_again g)
     → IsKept (world_value c.self.inside.replicas.items c.self.inside.posts.items)
@@ -35,7 +40,7 @@ kept : (g : Over) (c : goal.After-look_again g)
     c.look_again.new.passed.items
 kept g c =
     kept_after c.self.inside.replicas.items c.self.inside.posts.items c.self.inside.passed.items c.self.invariant
-    c.args.site c.place_of.ensures.least
+    c.args.site c.place.ensures.least
     (subst (λ (w : WorldValue). c.args.site ≤ size w) (sym c.self.view_is) c.requires.within) c.args.input.now
     c.is_in_range.ensures
     (subst (λ (w : WorldValue). MayTake c.args.site c.args.input.now w) (sym c.self.view_is) c.requires.came)
@@ -43,7 +48,7 @@ kept g c =
     (c.post.ensures
     ∙ ap (λ (l : List Post). l ++ new_posts c.args.site (c.in_ok-done.done.after - c.in_ok-done.done.before) c.in_ok-done.done.before)
     c.in_ok-reserve.ensures.items)
-    c.place_of.result c.place_of.ensures.place c.look_again.new.passed.items c.look_again.ensures
+    c.place.result c.place.ensures.place c.look_again.new.passed.items c.look_again.ensures
 
 pub invariant_of-self-2 : goal.invariant_of-self-2
 invariant_of-self-2 g c = (kept g c).parts
