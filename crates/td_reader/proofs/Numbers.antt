@@ -17,7 +17,7 @@ use Rattle.std.proofs.lemmas.Fmt.{IsAscii-decimal}
 use Rattle.std.proofs.lemmas.Option.{none-some, same_Some, option_and_then_some, some_pair_parts, cond_some}
 use Rattle.std.proofs.lemmas.Slice.Eq.{bytes_eq-Decides}
 use Rattle.std.proofs.lemmas.Str.{IsUtf8-from_ascii}
-use Rattle.std.proofs.lemmas.Str.Parse.{IsNumeralModel, numerals_by_value, tells_by_index}
+use Rattle.std.proofs.lemmas.Str.Parse.{IsNumeralModel, digits_value_short, numerals_by_value, tells_by_index}
 use Rattle.td_script.proofs.Numbers.{AreDigits}
 use Rattle.td_script.proofs.Results.{in_range}
 use Rattle.td_reader.specs.Arguments.{cut_digits, number_of, number_at, ranged_at, short_at, long_at}
@@ -109,6 +109,23 @@ parsed_other most v ds few only other = at_read (number_of most ds) refl
         let small : n ≤ most = is.0 in
         let same : v ≡ n = only n (omega arith) is.1 in
         absurd (other (omega arith) (is.1 ∙ ap decimal (sym same)))
+
+-- ---- by few digits
+
+-- no digits are those of two numbers
+pub one_number : (v n : ℕ) → v < 2 ^ 64 → n < 2 ^ 64 → decimal v ≡ decimal n → v ≡ n
+one_number v n small also e =
+    sym (decimal_is_IsNumeral v small).1 ∙ ap (digits_value 10) e ∙ (decimal_is_IsNumeral n also).1
+
+-- digits that are few are those of no great number
+pub few_none : (ds : List ℕ) → length ds ≤ 9 → ((n : ℕ) → n < 10 ^ 9 → ds ≢ decimal n) → (n : ℕ) → n < 2 ^ 64
+    → ds ≢ decimal n
+few_none ds few none n small e =
+    let value : digits_value 10 (decimal n) ≡ n = (decimal_is_IsNumeral n small).1 in
+    let short : length (decimal n) ≤ 9 = omega (arith, ap length e, few) in
+    let below : digits_value 10 (decimal n) < 10 ^ 9 =
+    digits_value_short numerals (decimal n) 9 (decimal_digits n small) short in
+    none n (omega (arith, value, below)) e
 
 -- ---- behind the digits
 

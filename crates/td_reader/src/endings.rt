@@ -16,8 +16,7 @@ impl<'a> ReadTrace<'a> {
             return None;
         }
         let begin = self.texts_begin();
-        self.line(begin as usize + usize::from(site.number()) - 1)?
-            .into_text()
+        self.line(begin as usize + site.place())?.into_text()
     }
 
     /// The number of the line, from 1, of the text of the site. Takes no memory.

@@ -16,7 +16,7 @@ impl ReadTrace<'_> {
         if site.number() > self.sites() {
             return 0;
         }
-        self.size(usize::from(site.number()) - 1).unwrap_or(0)
+        self.size(site.place()).unwrap_or(0)
     }
 
     /// The entry of the site at this place, from 0. None from the number of its entries on. Takes no memory.
@@ -45,6 +45,6 @@ impl ReadTrace<'_> {
         ensures begin { result ≡ 1 + history_lines (take (site - 1) self.now.histories) }
         ensures few { length (said self.now) < 2 ^ 32 }
     {
-        self.begin(usize::from(site.number()) - 1).unwrap()
+        self.begin(site.place()).unwrap()
     }
 }

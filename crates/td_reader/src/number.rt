@@ -4,6 +4,7 @@ ghost use Rattle.td_reader.specs.Arguments.{long_at, number_at, number_of, range
 
 use crate::cursor::split_digits;
 use itoa::Buffer;
+use td_script::{MAX_DIGITS, number_of as few_digits};
 
 /// A number that is at most `most`, and what is left behind it.
 #[tactic(auto, unfolding(crate::specs::Arguments::number_at))]
@@ -55,10 +56,22 @@ fn number_of(digits: &[u8], most: u64) -> Option<u64>
     ensures value { result ≡ number_of most digits.now }
     ensures range { IfSome result (λ number. number ≤ most) }
 {
-    let number = parsed(digits)?;
+    let number = written(digits)?;
     if number > most {
         return None;
     }
+    Some(number)
+}
+
+// The number that is written in these digits. Nearly all of a trace have few.
+fn written(digits: &[u8]) -> Option<u64>
+    ensures { MatchOption result ((n : ℕ) → n < 2 ^ 64 → digits.now ≢ decimal n)
+        (λ number. digits.now ≡ decimal number) }
+{
+    if digits.len() <= MAX_DIGITS {
+        return Some(u64::from(few_digits(digits)?));
+    }
+    let number = parsed(digits)?;
     is_written(number, digits).then_some(number)
 }
 

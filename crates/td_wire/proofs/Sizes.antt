@@ -37,15 +37,15 @@ length_numbers (n ∷ v) = let rest = length_numbers v in
           (flat_map number_bytes v),
     )
 
-identity_short : (f : Format) (x : AtomIdValue) → length (identity_bytes f x) ≤ IDENTITY_LEN
+pub identity_short : (f : Format) (x : AtomIdValue) → length (identity_bytes f x) ≤ IDENTITY_LEN
 identity_short One x = omega arith
 identity_short Two x = omega arith
 
-slot_short : (f : Format) (s : Slot) → length (slot_bytes f s) ≤ MAX_SLOT_LEN
+pub slot_short : (f : Format) (s : Slot) → length (slot_bytes f s) ≤ MAX_SLOT_LEN
 slot_short f Root = omega arith
 slot_short f (At atom b) = let i = identity_short f atom in omega arith
 
-run_short : (f : Format) (atoms : List (List ℕ)) → IsRun atoms → length (run_bytes f atoms) ≤ MAX_RUN_PART_LEN
+pub run_short : (f : Format) (atoms : List (List ℕ)) → IsRun atoms → length (run_bytes f atoms) ≤ MAX_RUN_PART_LEN
 run_short One atoms r = let count = (from_run atoms r).0 in
     omega (arith, length-append (map length atoms) (concat atoms), length-map atoms length, count.most, r.short)
 run_short Two atoms r = let count = (from_run atoms r).0 in

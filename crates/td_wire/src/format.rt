@@ -5,7 +5,7 @@ use td_base::MAX_SITE;
 
 /// The formats of a message on a wire.
 #[derive(Clone, Copy, Debug, PartialEq, Eq)]
-pub(crate) enum Format {
+pub enum Format {
     /// The older one, which is only read: up to 16 sites, runs of one atom, and no offsets.
     One,
     /// The one that is written.

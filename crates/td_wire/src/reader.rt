@@ -9,22 +9,23 @@ use td_path::Slot;
 /// The greatest number of an operation at its site.
 pub(crate) const MAX_NUMBER: u16 = MAX_SEQ as u16;
 
-/// The bytes that are still to be read. Each call reads one field at their front.
+/// The bytes that are still to be read. Each call reads one field at their front, and answers a fault where none is
+/// there. Takes no memory.
 #[derive(Drop)]
-pub(crate) struct Reader<'a> {
-    pub(crate) rest: &'a [u8],
+pub struct Reader<'a> {
+    pub rest: &'a [u8],
 }
 
 /// Where bytes stop being the front of a spelling: `left` of them stand from the first one on that no spelling has
 /// there, and none where they end too early.
 #[derive(Clone, Copy, Debug, PartialEq, Eq)]
-pub(crate) struct Fault {
-    pub(crate) left: usize,
+pub struct Fault {
+    pub left: usize,
 }
 
 impl Reader<'_> {
-    // A byte in a range.
-    pub(crate) fn byte(&mut self, least: u8, most: u8) -> Result<u8, Fault>
+    /// A byte in a range.
+    pub fn byte(&mut self, least: u8, most: u8) -> Result<u8, Fault>
         ensures { Gives result self.new.rest.now (byte_at least most self.old.rest.now) }
     {
         match self.rest {
@@ -89,8 +90,9 @@ impl Reader<'_> {
         Ok(Site::new(number).unwrap())
     }
 
+    /// A dot, of a site up to this number.
     #[tactic(auto, unfolding(crate::specs::Reading::dot_at))]
-    pub(crate) fn dot(&mut self, max_site: u8) -> Result<Dot, Fault>
+    pub fn dot(&mut self, max_site: u8) -> Result<Dot, Fault>
         requires { max_site ≤ MAX_SITE }
         ensures { Gives result self.new.rest.now (dot_at max_site self.old.rest.now) }
     {
@@ -99,8 +101,9 @@ impl Reader<'_> {
         Ok(Dot::new(site, u32::from(seq)).unwrap())
     }
 
+    /// The identity of an atom of a site up to this number.
     #[tactic(auto, unfolding(crate::specs::Reading::identity_at))]
-    pub(crate) fn identity(&mut self, format: Format, max_site: u8) -> Result<AtomId, Fault>
+    pub fn identity(&mut self, format: Format, max_site: u8) -> Result<AtomId, Fault>
         requires { max_site ≤ MAX_SITE }
         ensures { Gives result self.new.rest.now (identity_at format max_site self.old.rest.now) }
     {
@@ -114,8 +117,9 @@ impl Reader<'_> {
         }
     }
 
+    /// A slot, beside an atom of a site up to this number where it is not the root.
     #[tactic(auto, unfolding(crate::specs::Reading::slot_at))]
-    pub(crate) fn slot(&mut self, format: Format, max_site: u8) -> Result<Slot, Fault>
+    pub fn slot(&mut self, format: Format, max_site: u8) -> Result<Slot, Fault>
         requires { max_site ≤ MAX_SITE }
         ensures { Gives result self.new.rest.now (slot_at format max_site self.old.rest.now) }
     {

@@ -10,8 +10,9 @@ use td_base::{MAX_ATOM_LEN, MAX_RUN_LEN, Run};
 const MAX_LEN: u8 = MAX_RUN_LEN as u8;
 
 impl<'a> Reader<'a> {
+    /// A run of atoms.
     #[tactic(auto, unfolding(crate::specs::Reading::run_at))]
-    pub(crate) fn run(&mut self, format: Format) -> Result<Run, Fault>
+    pub fn run(&mut self, format: Format) -> Result<Run, Fault>
         ensures { Gives result self.new.rest.now (run_at format self.old.rest.now) }
     {
         match format {

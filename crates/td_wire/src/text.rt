@@ -10,8 +10,8 @@ use td_base::Atom;
 const CONTINUATION: (u8, u8) = (0x80, 0xBF);
 
 impl Reader<'_> {
-    // An atom of `len` bytes.
-    pub(crate) fn atom(&mut self, len: u8) -> Result<Atom, Fault>
+    /// An atom of `len` bytes.
+    pub fn atom(&mut self, len: u8) -> Result<Atom, Fault>
         requires some { 1 ≤ len }
         requires short { len ≤ MAX_ATOM_LEN }
         ensures { Gives result self.new.rest.now (atom_at len self.old.rest.now) }

@@ -1,5 +1,5 @@
 use Rattle.std.proofs.Common.{◌<◌, arith, sym, ◌∙◌}
-use Rattle.td_reader.proofs.Numbers.{number_none, parsed_other, number_tested}
+use Rattle.td_reader.proofs.Numbers.{number_none, one_number, parsed_other, parsed_there}
 use Rattle.td_reader.proofs.number.number_of.Goals as goal
 
 pub returns-in_err-number-clause-value : goal.returns-in_err-number-clause-value
@@ -9,11 +9,12 @@ returns-in_err-number-clause-value c =
 pub returns-then-number-most-clause-value : goal.returns-then-number-most-clause-value
 returns-then-number-most-clause-value c =
     let more : c.args.most < c.in_ok-number.number = c.if-number-most.true in
-    sym (parsed_other c.args.most c.in_ok-number.number c.args.digits.now (omega arith) c.in_ok-number.ensures
+    sym (parsed_other c.args.most c.in_ok-number.number c.args.digits.now (omega arith)
+    (λ n small is. one_number c.in_ok-number.number n (omega arith) small (sym c.in_ok-number.ensures ∙ is))
     (λ few e. absurd (omega arith)))
 
 pub returns-clause-value : goal.returns-clause-value
 returns-clause-value c =
-    c.then_some.ensures
-    ∙ number_tested c.args.most c.in_ok-number.number c.args.digits.now c.is_written.result c.if-number-most.false
-    (omega arith) c.in_ok-number.ensures c.is_written.ensures
+    sym (parsed_there c.args.most c.in_ok-number.number c.args.digits.now (omega arith) (omega
+    (arith, c.if-number-most.false))
+    c.in_ok-number.ensures)
