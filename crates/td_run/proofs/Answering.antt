@@ -35,7 +35,8 @@ use Rattle.td_run.specs.declared.words.Language.TheVariants.{Play, Live, Trace}
 use Rattle.td_run.specs.Answer.{IsInLanguage, IsOutput, IsPlayed, IsRefused, IsWhole, PutsFront, fault_line}
 use Rattle.td_run.specs.Answer.{first_fault_in, most_bytes, usage_line}
 use Rattle.td_run.specs.Answered.{IsAnswered}
-use Rattle.td_run.specs.Answering.{IsAnswerTo, IsEnded, IsPlayedOr, IsPut, IsReadFor, IsReads, IsWholeOf}
+use Rattle.td_run.specs.Answering.{IsAnswerTo, IsEnded, IsEndedOnTheWay, IsPlayedInto, IsPlayedOr, IsPut, IsReadFor, IsReads}
+use Rattle.td_run.specs.Answering.{IsWholeOf}
 use Rattle.td_run.specs.Outputs.{IsSummary}
 use Rattle.td_run.specs.VerdictLine.{verdict_line}
 use Rattle.td_run.specs.Words.{IsForm, IsFormOf, IsGen, IsReading, ReadsInput, word_of}
@@ -154,6 +155,86 @@ long_trace_answered s old new (Ok a) past turns is read = record {
   turns = few_turns s Trace old new past turns;
 }
 long_trace_answered s old new (Err stop) past turns is read = stopped_answered s Trace old new past turns stop read
+
+-- a script that was read to its end, or that could not be read
+module _ {S : Type 0} (s : source.Ghosts S) (language : Language) (old new : S)
+    (turns : s.calls new ≤ s.calls old + (most_bytes language + 1)) where
+  own_turns : (l : Language) → IsReads (Reads language) l → s.calls new ≤ s.calls old + (most_bytes l + 1)
+  own_turns l reads =
+      subst (λ (x : Language). s.calls new ≤ s.calls old + (most_bytes x + 1)) (same_language language l reads) turns
+
+  pub input_answered : (input : List ℕ) (result : Result Answer Stop) → IfSome (s.left old) (λ told. input ≡ told)
+      → ((l : Language) → IsReads (Reads language) l → IsReadFor s l old new) → IsReadToEnd s old new
+      → IfOk result (λ a. IsPlayedOr language input a.status a.bytes) → (IsErrOf result Unread → ⊥)
+      → IsAnswerTo s (Reads language) old new result
+  input_answered input (Ok a) told ended to_end is read = record {
+    whole = whole_of language (s.left old) input a.status a.bytes told is;
+    read = λ e. absurd (read e);
+    unread = λ other. absurd (other (language, refl));
+    to_end = λ done. ended;
+    past = λ l reads. inl to_end;
+    turns = own_turns;
+  }
+  input_answered input (Err stop) told ended to_end is read = record {
+    whole = tt;
+    read = λ e. absurd (read e);
+    unread = λ other. absurd (other (language, refl));
+    to_end = tt;
+    past = tt;
+    turns = own_turns;
+  }
+
+  pub unread_answered : Rose (s.faults old) (s.faults new) → IsAnswerTo s (Reads language) old new (Err Unread)
+  unread_answered rose = record {
+    whole = tt;
+    read = λ e. ((language, refl), rose);
+    unread = λ other. absurd (other (language, refl));
+    to_end = tt;
+    past = tt;
+    turns = own_turns;
+  }
+
+  pub unmade_answered : IsAnswerTo s (Reads language) old new (Err NoMemory)
+  unmade_answered = record {
+    whole = tt;
+    read = λ e. absurd (other e);
+    unread = λ other. absurd (other (language, refl));
+    to_end = tt;
+    past = tt;
+    turns = own_turns;
+  }
+    where
+      other : IsUnread (Err NoMemory) → ⊥
+      other e = cc
+
+play_read_for : {S : Type 0} (s : source.Ghosts S) (old new : S) → IsReadToEnd s old new → (l : Language)
+    → IsReads (Reads Play) l → IsReadFor s l old new
+play_read_for s old new to_end l reads =
+    subst (λ (x : Language). IsReadFor s x old new) (same_language Play l reads) to_end
+
+-- a script
+pub script_answered_to : {S : Type 0} (s : source.Ghosts S) (old new : S) (input : List ℕ) (result : Result Answer Stop)
+    → s.calls new ≤ s.calls old + (most_bytes Play + 1) → IfSome (s.left old) (λ told. input ≡ told)
+    → IsReadToEnd s old new → IfOk result (λ a. IsPlayedOr Play input a.status a.bytes)
+    → (IsErrOf result Unread → ⊥) → IsAnswerTo s (Reads Play) old new result
+script_answered_to s old new input result turns told to_end is read =
+    input_answered s Play old new turns input result told (play_read_for s old new to_end) to_end is read
+
+-- what is told of the first fault of an input
+pub refused_is : (input : List ℕ) (line : ℕ) (kind : Kind) (result : Result Answer Stop)
+    → first_fault_in Play input ≡ Some (line, kind)
+    → IfOk result (λ a. (a.status ≡ Script) × (a.bytes ≡ fault_line line kind))
+    → IfOk result (λ a. IsPlayedOr Play input a.status a.bytes)
+refused_is input line kind (Ok a) first is =
+    subst (λ (status : Status). IsPlayedOr Play input status a.bytes) (sym is.0) (line, kind, first, is.1)
+refused_is input line kind (Err stop) first is = tt
+
+-- what is put at once is put on the way
+pub put_at_once : {K : Type 0} (k : sink.Ghosts K) (result : Result Answer Stop) (before after : K) (status : Status)
+    → IsEnded k result before after status → IsEndedOnTheWay k result before after status
+put_at_once k (Ok answer) before after status ended = inl ended
+put_at_once k (Err Unread) before after status ended = ended
+put_at_once k (Err NoMemory) before after status ended = ended
 
 -- ---- words
 
@@ -351,7 +432,7 @@ module _ {S K : Type 0} (s : source.Ghosts S) (k : sink.Ghosts K) (words : List 
           (⊎_elim (λ (e : Memory ≡ Usage). absurd cc) (λ (e : Memory ≡ Script). absurd cc));
       read = λ e. absurd cc;
       write = λ e. absurd cc;
-      memory = λ e. (form, held);
+      memory = λ e. (form, inl held);
       other_words = λ other. absurd (other form);
       unread = unread;
       read_to_end = λ e. absurd cc;
@@ -359,6 +440,24 @@ module _ {S K : Type 0} (s : source.Ghosts S) (k : sink.Ghosts K) (words : List 
       turns = turns;
       complete = λ language input reading told spelled reads writes. inr refl;
       generated = λ size number gen writes. inr refl;
+    }
+
+    front_answered : (bytes : List ℕ) → IsReading words Play → IsOutput words (s.left old) bytes
+        → PutsFront (k.held before) (k.held after) bytes → AreFewTurns s words old new
+        → IsAnswered s k words old new before after Memory
+    front_answered bytes reading output put turns = record {
+      whole = ⊎_elim (λ (e : Memory ≡ Done). absurd cc)
+          (⊎_elim (λ (e : Memory ≡ Usage). absurd cc) (λ (e : Memory ≡ Script). absurd cc));
+      read = λ e. absurd cc;
+      write = λ e. absurd cc;
+      memory = λ e. (inl (Play, reading), inr (reading, (bytes, output, put)));
+      other_words = λ other. absurd (other (inl (Play, reading)));
+      unread = λ other. absurd (other (Play, reading));
+      read_to_end = λ e. absurd cc;
+      read_whole = λ language p. ⊎_elim (λ (e : Memory ≡ Script). absurd cc) (λ (e : Memory ≡ Write). absurd cc);
+      turns = turns;
+      complete = λ language input p told spelled reads writes. inr refl;
+      generated = λ size number gen. absurd (reading_is_no_gen words Play size number reading gen);
     }
 
     -- ---- by what came of the command
@@ -422,6 +521,26 @@ module _ {S K : Type 0} (s : source.Ghosts S) (k : sink.Ghosts K) (words : List 
         subst (IsAnswered s k words old new before after) (sym ended.0)
         (memory_answered (form_is words form is) (λ other. a.unread (λ reads. other (reads_of form is reads)))
         (ap (λ (x : K). k.held x) ended.1) (turns_of form (Err NoMemory) is a))
+
+    -- a script was played, and what it prints was put on the way
+    pub played_answered : (status : Status) → IsReading words Play → IsPlayedInto s k old new before after status
+        → IsAnswered s k words old new before after status
+    played_answered status reading p = at p.answer p.is p.ended
+      where
+        at : (r : Result Answer Stop) → IsAnswerTo s (Reads Play) old new r
+            → IsEndedOnTheWay k r before after status → IsAnswered s k words old new before after status
+        at (Ok answer) is ended =
+            ⊎_elim (put_answered (Reads Play) answer status reading is)
+            (λ (q : (status ≡ Memory) × (answer.status ≡ Done)
+            × PutsFront (k.held before) (k.held after) answer.bytes).
+            subst (IsAnswered s k words old new before after) (sym q.0)
+            (front_answered answer.bytes reading
+            (subst (λ (x : Status). IsWhole words (s.left old) x answer.bytes) q.1
+            (whole_is words (Reads Play) (s.left old) answer.status answer.bytes reading is.whole)) q.2
+            (turns_of (Reads Play) (Ok answer) reading is)))
+            ended
+        at (Err Unread) is ended = ended_answered (Reads Play) (Err Unread) status reading is ended
+        at (Err NoMemory) is ended = ended_answered (Reads Play) (Err NoMemory) status reading is ended
 
     -- the words are no command
     pub other_answered : (status : Status) → ¬ IsForm words → new ≡ old

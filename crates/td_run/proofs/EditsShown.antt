@@ -128,7 +128,7 @@ module _ (w : WorldValue) (site : ℕ) (i : IsWorld w) (some : 0 < site) (within
   ruled = rules_of (machine_of w site) (reached_in w i site some within)
 
   -- the world behind a request is one
-  asked_world : (request : Request) → IsRequest request → IsWorld (moved (ask site request) w)
+  pub asked_world : (request : Request) → IsRequest request → IsWorld (moved (ask site request) w)
   asked_world request valid =
       world_moved w i (ask site request)
       (record { some = some; within = within; valid = valid; came = λ message e. absurd (local_is_no_take request message e) })
@@ -136,7 +136,7 @@ module _ (w : WorldValue) (site : ℕ) (i : IsWorld w) (some : 0 < site) (within
       local_is_no_take : (request : Request) (message : Message) → ◌≡◌ {A = Input} (Local request) (Take message) → ⊥
       local_is_no_take request message e = cc
 
-  asked_within : (request : Request) → site ≤ size (moved (ask site request) w)
+  pub asked_within : (request : Request) → site ≤ size (moved (ask site request) w)
   asked_within request = let same : size (moved (ask site request) w) ≡ size w = size_moved w (ask site request) in omega (arith, within, same)
 
   -- and the site shows there what its machine shows

@@ -17,3 +17,7 @@ pub mod YesFound
 pub mod LivePasses
 pub mod EditsShown
 pub mod QuietEdits
+pub mod Unique
+pub mod Onward
+pub mod UnderWay
+pub mod Summed

@@ -7,7 +7,8 @@ use Rattle.td_io.specs.Reading.{IsReadPast, IsReadToEnd}
 use Rattle.td_run.specs.declared.status.Status.{Status}
 use Rattle.td_run.specs.declared.status.Status.TheVariants.{Done, Memory, Usage, Script, Read, Write}
 use Rattle.td_run.specs.declared.words.Language.{Language}
-use Rattle.td_run.specs.Answer.{IsInLanguage, IsWhole, Puts, PutsFront, most_bytes}
+use Rattle.td_run.specs.declared.words.Language.TheVariants.{Play}
+use Rattle.td_run.specs.Answer.{IsInLanguage, IsOutput, IsWhole, Puts, PutsFront, most_bytes}
 use Rattle.td_run.specs.Answering.{IsReadFor}
 use Rattle.td_run.specs.Words.{IsReading, ReadsInput, IsGen, IsForm}
 
@@ -23,8 +24,10 @@ pub record IsAnswered {S K : Type 0} (s : source.Ghosts S) (k : sink.Ghosts K) (
   -- Write: the sink failed, and took a front of what goes with the status that the run would have had
   pub write : status ≡ Write → Rose (k.faults before) (k.faults after) × ((whole : Status) × (bytes : List ℕ)
       × IsWhole words (s.left old) whole bytes × PutsFront (k.held before) (k.held after) bytes)
-  -- Memory: nothing was put
-  pub memory : status ≡ Memory → IsForm words × (k.held after ≡ k.held before)
+  -- Memory: nothing was put, or a front of what a script prints
+  pub memory : status ≡ Memory → IsForm words × ((k.held after ≡ k.held before)
+      ⊎ (IsReading words Play × ((bytes : List ℕ) × IsOutput words (s.left old) bytes
+      × PutsFront (k.held before) (k.held after) bytes)))
   -- words that are no command are a usage refusal, or its line could not be put
   pub other_words : ¬ IsForm words → (status ≡ Usage) ⊎ (status ≡ Write)
   -- words that ask for no input read nothing: the source is as before

@@ -74,3 +74,32 @@ abbrev pub IsEnded : {K : Type 0} → sink.Ghosts K → Result Answer Stop → (
 IsEnded k (Ok answer) before after status = IsPut k answer.bytes answer.status before after status
 IsEnded k (Err Unread) before after status = (status ≡ Read) × (after ≡ before)
 IsEnded k (Err NoMemory) before after status = (status ≡ Memory) × (after ≡ before)
+
+-- the same of an output that is put while it is made: memory may run out on the way
+abbrev pub IsPutOnTheWay : {K : Type 0} → sink.Ghosts K → List ℕ → (before after : K) → Status → Type 0
+IsPutOnTheWay k bytes before after status =
+    IsPut k bytes Done before after status ⊎ ((status ≡ Memory) × PutsFront (k.held before) (k.held after) bytes)
+
+-- the same by what came of a script
+abbrev pub IsEndedOnTheWay : {K : Type 0} → sink.Ghosts K → Result Answer Stop → (before after : K) → Status
+    → Type 0
+IsEndedOnTheWay k (Ok answer) before after status =
+    IsPut k answer.bytes answer.status before after status
+    ⊎ ((status ≡ Memory) × (answer.status ≡ Done) × PutsFront (k.held before) (k.held after) answer.bytes)
+IsEndedOnTheWay k (Err Unread) before after status = IsEnded k (Err Unread) before after status
+IsEndedOnTheWay k (Err NoMemory) before after status = IsEnded k (Err NoMemory) before after status
+
+-- the script that the input spells was played, or its fault was told
+pub record IsInputPlayed {K : Type 0} (k : sink.Ghosts K) (input : List ℕ) (before after : K) (status : Status)
+    : Type 0 where
+  pub answer : Result Answer Stop
+  pub is : IfOk answer (λ a. IsPlayedOr Play input a.status a.bytes)
+  pub read : IsErrOf answer Unread → ⊥
+  pub ended : IsEndedOnTheWay k answer before after status
+
+-- the script of a source was
+pub record IsPlayedInto {S K : Type 0} (s : source.Ghosts S) (k : sink.Ghosts K) (old new : S) (before after : K)
+    (status : Status) : Type 0 where
+  pub answer : Result Answer Stop
+  pub is : IsAnswerTo s (Reads Play) old new answer
+  pub ended : IsEndedOnTheWay k answer before after status

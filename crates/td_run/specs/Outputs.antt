@@ -1,5 +1,6 @@
 -- What is promised of the bytes that a script prints, and of the summary of a generated one.
-use Rattle.std.specs.Prelude.{◌≡◌, ◌<◌, ℕ, List, [], ◌∷◌, length}
+use Rattle.std.specs.Prelude.{◌≡◌, ◌<◌, ℕ, List, [], ◌∷◌, Option, length}
+use Rattle.std.specs.Io.KnownBytes.{Appends}
 use Rattle.td_doc.specs.Document.{live_atoms}
 use Rattle.td_machine.specs.Machine.{Machine}
 use Rattle.td_order.specs.Show.{shown_atoms}
@@ -8,7 +9,7 @@ use Rattle.td_report.specs.Numbers.{summary_of}
 use Rattle.td_script.specs.declared.script.Script.{Script}
 use Rattle.td_world.specs.World.{WorldValue, machine_of}
 use Rattle.td_world.specs.Promises.{IsPromised}
-use Rattle.td_run.specs.Printing.{Printed, PrintsScript, own_text, taken_text}
+use Rattle.td_run.specs.Printing.{Printed, PrintsScript, behind, own_text, taken_text}
 
 -- a script was played to its end
 pub record IsPlayedBy (script : Script) (p : Printed) : Type 0 where
@@ -25,6 +26,17 @@ pub record IsOutputOf (script : Script) (bytes : List ℕ) : Type 0 where
   pub end : Printed
   pub played : IsPlayedBy script end
   pub text : bytes ≡ end.text
+
+-- a script was played to its end, where this world is, and what it prints was put
+pub record IsPlayedAndPut (before after : Option (List ℕ)) (script : Script) (world : WorldValue) : Type 0 where
+  pub end : Printed
+  pub played : IsPlayedBy script end
+  pub world_is : world ≡ end.world
+  pub put : Appends before after end.text
+
+-- a front of what was printed was put, and the rest is there still
+abbrev pub PutsOut : Option (List ℕ) → Option (List ℕ) → Printed → Printed → Type 0
+PutsOut before after old new = (front : List ℕ) × Appends before after front × (old ≡ behind front new)
 
 -- the machines of the three sites of a generated script
 abbrev pub machines : WorldValue → List Machine

@@ -43,6 +43,10 @@ pub record Printed : Type 0 where
 abbrev pub with_line : List ℕ → Printed → Printed
 with_line line p = record { world = p.world; text = p.text ++ line }
 
+-- behind these bytes, which were printed before
+abbrev pub behind : List ℕ → Printed → Printed
+behind front p = record { world = p.world; text = front ++ p.text }
+
 -- a line about what happened between two worlds, and then the events
 abbrev pub line_and_events : WorldValue → WorldValue → List ℕ → Printed
 line_and_events old new line = record { world = new; text = line ++ events old new }

@@ -1,4 +1,5 @@
-ghost use Rattle.std.specs.Prelude.{◌≡◌, ◌≤◌, IfOk, IsErrOf};
+ghost use Rattle.std.specs.Prelude.{◌≡◌, ◌≤◌, All, IfOk, IsErrOf};
+ghost use Rattle.td_base.specs.declared.site.TheConstants.{MAX_SITE};
 ghost use Rattle.td_doc.specs.Document.{live_atoms};
 ghost use Rattle.td_gen.specs.Generator.{generated};
 ghost use Rattle.td_gen.specs.declared.generator.TheConstants.{MAX_SIZE};
@@ -7,16 +8,21 @@ ghost use Rattle.td_report.specs.Numbers.{summary_of};
 ghost use Rattle.td_world.specs.World.{machine_of, size as sites_of};
 ghost use Rattle.td_run.specs.declared.answer.Stop.TheVariants.{Read as Unread};
 ghost use Rattle.td_run.specs.declared.status.Status.TheVariants.{Done};
-ghost use Rattle.td_run.specs.Outputs.{machines, IsSummary};
+ghost use Rattle.td_run.specs.Outputs.{machines, IsPlayedBy, IsSummary};
+ghost use Rattle.td_run.specs.Printing.{Printed};
+ghost use Rattle.td_run.specs.Sites.{MayStand};
 
 use crate::answer::{Answer, Stop};
 use crate::play::play;
 use crate::status::Status;
 use std::alloc::Global;
+use std::io;
 use td_base::{Bytes, Memory, Site};
 use td_doc::Doc;
 use td_gen::script_of;
+use td_io::WriteSink;
 use td_report::summary_lines;
+use td_script::Script;
 use td_tree::Tree;
 use td_world::World;
 
@@ -38,9 +44,23 @@ fn generated<D: Doc>(alloc: Global, size: u32, number: u32) -> Result<Bytes, Mem
     ensures { IfOk result (IsSummary size number) }
 {
     let script = script_of(alloc, size, u64::from(number))?;
-    let player = play::<D>(alloc, &script)?;
+    let world = played::<D>(alloc, &script)?;
     let commands = script.commands.as_slice().len() as u32;
-    sum_up(alloc, size, number, commands, &player.world)
+    sum_up(alloc, size, number, commands, &world)
+}
+
+// Plays a script of which nothing is printed.
+fn played<D: Doc>(alloc: Global, script: &Script) -> Result<World<D>, Memory>
+    requires some { 1 ≤ script.now.sites }
+    requires few { script.now.sites ≤ MAX_SITE }
+    requires each { All (MayStand script.now.sites) script.now.commands }
+    ensures played { IfOk result (λ world. (end : Printed) × IsPlayedBy script.now end × (world ≡ end.world)) }
+    ensures sites { IfOk result (λ world. sites_of world ≡ script.now.sites) }
+{
+    match play::<D, WriteSink<io::Sink>>(alloc, script, &mut WriteSink::new(io::sink())) {
+        Ok(world) => Ok(world),
+        Err(_) => Err(Memory),
+    }
 }
 
 // The summary of three sites.

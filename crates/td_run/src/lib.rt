@@ -8,11 +8,13 @@
 
 mod answer;
 mod edits;
+mod ending;
 mod fault;
 mod flattens;
 mod generated;
 mod giving;
 mod judging;
+mod laws;
 mod limits;
 mod outcome;
 mod play;
@@ -26,6 +28,7 @@ mod verdict_line;
 mod words;
 
 pub use judging::{a_trace_with_yes_keeps_the_promises, what_live_prints_passes};
+pub use laws::{outputs_are_unique, scripts_have_an_output};
 pub use limits::the_limits_are_these;
 pub use program::{run, run_live, run_plain};
 pub use status::Status;

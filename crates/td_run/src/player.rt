@@ -1,18 +1,26 @@
-ghost use Rattle.std.specs.Prelude.{◌≡◌, ◌≤◌, ◌++◌, [], length, drop, IfOk, OnOk};
+ghost use Rattle.std.specs.Prelude.{◌≡◌, ◌≤◌, ◌++◌, [], length, drop, IfOk, OnErr, OnOk};
+ghost use Rattle.std.specs.Io.KnownBytes.{Appends};
 ghost use Rattle.std.specs.List.{flat_map};
 ghost use Rattle.td_base.specs.declared.site.TheConstants.{MAX_SITE};
+ghost use Rattle.td_io.specs.Count.{Rose};
 ghost use Rattle.td_report.specs.Replies.{event_line};
 ghost use Rattle.td_world.specs.World.{new_world, size};
+ghost use Rattle.td_run.specs.Answer.{PutsFront};
+ghost use Rattle.td_run.specs.Outputs.{PutsOut};
 ghost use Rattle.td_run.specs.Printing.{event_at, only_line, with_line};
 
 use std::alloc::Global;
 use std::marker::Model;
 use td_base::{Bytes, Memory};
 use td_doc::Doc;
+use td_io::{Failed, Sink, put_all};
 use td_report::event_line;
 use td_world::World;
 
-/// A world in which a script is played, and what was printed so far.
+// So many bytes are gathered before they are put.
+const PIECE: usize = 65_536;
+
+/// A world in which a script is played, and what was printed and not yet put.
 #[derive(Drop)]
 pub(crate) struct Player<D: Doc> {
     pub(crate) world: World<D>,
@@ -68,5 +76,31 @@ impl<D: Doc> Player<D> {
         };
         let line = event_line(self.alloc, &message)?;
         self.print(&line)
+    }
+
+    /// Puts what was printed, where it is enough for a piece.
+    pub(crate) fn put_piece<K: Sink>(&mut self, sink: &mut K) -> Result<(), Failed>
+        ensures ok { OnOk result (PutsOut (K.held sink.old) (K.held sink.new) self.old self.new) }
+        ensures part { OnErr result (PutsFront (K.held sink.old) (K.held sink.new) self.old.text) }
+        ensures failed { OnErr result (Rose (K.faults sink.old) (K.faults sink.new)) }
+        ensures count { K.faults sink.old ≤ K.faults sink.new }
+    {
+        if self.text.as_slice().len() < PIECE {
+            return Ok(());
+        }
+        self.put_rest(sink)
+    }
+
+    /// Puts what was printed and not yet put.
+    pub(crate) fn put_rest<K: Sink>(&mut self, sink: &mut K) -> Result<(), Failed>
+        ensures ok { OnOk result (Appends (K.held sink.old) (K.held sink.new) self.old.text) }
+        ensures new { OnOk result (self.new ≡ only_line self.old.world []) }
+        ensures part { OnErr result (PutsFront (K.held sink.old) (K.held sink.new) self.old.text) }
+        ensures failed { OnErr result (Rose (K.faults sink.old) (K.faults sink.new)) }
+        ensures count { K.faults sink.old ≤ K.faults sink.new }
+    {
+        put_all(sink, self.text.as_slice())?;
+        self.text.truncate(0);
+        Ok(())
     }
 }

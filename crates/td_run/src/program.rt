@@ -1,10 +1,9 @@
 ghost use Rattle.std.specs.Prelude.{◌∷◌, [], codes};
 ghost use Rattle.td_run.specs.declared.words.Language.TheVariants.{Live as InLive};
 ghost use Rattle.td_run.specs.Answered.{IsAnswered};
-ghost use Rattle.td_run.specs.Answering.{IsEnded, IsPut};
 ghost use Rattle.td_run.specs.Words.{IsReading};
 
-use crate::answer::{Answer, Stop};
+use crate::ending::{end, put};
 use crate::generated::summary;
 use crate::reading::{judged, played, traced};
 use crate::status::Status;
@@ -13,7 +12,7 @@ use std::alloc::Global;
 use std::sync::Wait;
 use std::thread::Threads;
 use td_base::Bytes;
-use td_io::{Sink, Source, put_all};
+use td_io::{Sink, Source};
 use td_line::Gate;
 
 /// Written where the words are no command.
@@ -22,8 +21,9 @@ const USAGE: &[u8] = b"usage: treedoc play | live | kept | check | gen SIZE NUMB
 /// Runs the program: with the one word `play` it reads a script from the source and plays it; with `live` it reads a
 /// live script, whose editors and workers run on threads; with `check` it reads a trace and judges it; with
 /// `gen SIZE NUMBER` it plays a generated script. The sink takes the whole output that goes with the status; where that
-/// is `Write` a front of it, and where it is `Memory` or `Read` nothing. With `live` it may wait, and where its sites
-/// are is told to the gate.
+/// is `Write` a front of it, and where it is `Read` nothing. What a script of `play` prints is put as it goes, so where
+/// the status is `Memory` a front of that is put; of all other commands nothing is put then. With `live` it may wait,
+/// and where its sites are is told to the gate.
 pub fn run<S: Source, K: Sink, G: Gate + Sync, R: Threads + Wait + Copy + Send + Sync>(
     rt: &R,
     alloc: Global,
@@ -51,7 +51,7 @@ pub fn run_plain<S: Source, K: Sink>(
     ensures { IsAnswered S.Source K.Sink words.now source.old source.new sink.old sink.new result }
 {
     match asked_for(words) {
-        Some(Form::Reads(Language::Play)) => end(sink, played(alloc, source)),
+        Some(Form::Reads(Language::Play)) => played(alloc, source, sink),
         Some(Form::Reads(Language::Trace)) => end(sink, judged(alloc, source)),
         Some(Form::Gen { size, number }) => end(sink, summary(alloc, size, number)),
         // the words are not `live`
@@ -71,25 +71,4 @@ pub fn run_live<S: Source, K: Sink, G: Gate + Sync, R: Threads + Wait + Copy + S
     ensures { IsAnswered S.Source K.Sink (codes "live" ∷ []) source.old source.new sink.old sink.new result }
 {
     end(sink, traced(rt, alloc, source, gate))
-}
-
-// Puts the output of a command, where it has one.
-fn end<K: Sink>(sink: &mut K, answer: Result<Answer, Stop>) -> Status
-    ensures { IsEnded K.Sink answer sink.old sink.new result }
-{
-    match answer {
-        Ok(answer) => put(sink, answer.bytes.as_slice(), answer.status),
-        Err(Stop::Read) => Status::Read,
-        Err(Stop::Memory) => Status::Memory,
-    }
-}
-
-// Puts the whole output that goes with the status.
-fn put<K: Sink>(sink: &mut K, output: &[u8], status: Status) -> Status
-    ensures { IsPut K.Sink output.now status sink.old sink.new result }
-{
-    match put_all(sink, output) {
-        Ok(()) => status,
-        Err(_) => Status::Write,
-    }
 }

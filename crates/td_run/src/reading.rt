@@ -6,49 +6,46 @@ ghost use Rattle.td_run.specs.declared.status.Status.TheVariants.{Done as IsDone
 ghost use Rattle.td_run.specs.declared.words.Form.TheVariants.{Reads};
 ghost use Rattle.td_run.specs.declared.words.Language.TheVariants.{Play as InPlay, Live as InLive, Trace as InTrace};
 ghost use Rattle.td_run.specs.Answer.{fault_line};
-ghost use Rattle.td_run.specs.Answering.{IsAnswerTo, IsPlayedOr};
+ghost use Rattle.td_run.specs.Answering.{IsAnswerTo, IsInputPlayed, IsPlayedInto, IsPlayedOr};
 ghost use Rattle.td_run.specs.VerdictLine.{verdict_line};
 
 use crate::answer::{Answer, Stop};
+use crate::ending::end;
 use crate::fault::fault_line;
-use crate::play::output_of;
+use crate::play::play_out;
 use crate::status::Status;
 use crate::verdict_line::verdict_line;
 use std::alloc::Global;
 use std::sync::Wait;
 use std::thread::Threads;
 use td_check::{Fault, Verdict, check_trace};
-use td_io::{ReadFault, Source, read_all};
+use td_io::{ReadFault, Sink, Source, read_all};
 use td_line::Gate;
 use td_live::live_trace;
 use td_reader::MAX_TRACE;
 use td_script::{Kind, MAX_LIVE_SCRIPT, MAX_SCRIPT, ScriptFault, read_live, read_script};
 use td_tree::Tree;
 
-/// Reads a script and plays it.
-pub(crate) fn played<S: Source>(alloc: Global, source: &mut S) -> Result<Answer, Stop>
-    ensures { IsAnswerTo S.Source (Reads InPlay) source.old source.new result }
+/// Reads a script and plays it. What it prints is put as it goes.
+pub(crate) fn played<S: Source, K: Sink>(alloc: Global, source: &mut S, sink: &mut K) -> Status
+    ensures { IsPlayedInto S.Source K.Sink source.old source.new sink.old sink.new result }
 {
     match read_all(alloc, source, MAX_SCRIPT as u32) {
-        Ok(input) => played_or_refused(alloc, input.as_slice()),
-        Err(ReadFault::Failed) => Err(Stop::Read),
-        Err(ReadFault::TooLong) => refused(alloc, 0, Kind::Size),
-        Err(ReadFault::Memory) => Err(Stop::Memory),
+        Ok(input) => played_or_refused(alloc, input.as_slice(), sink),
+        Err(ReadFault::Failed) => Status::Read,
+        Err(ReadFault::TooLong) => end(sink, refused(alloc, 0, Kind::Size)),
+        Err(ReadFault::Memory) => Status::Memory,
     }
 }
 
-// What an input comes to that was read to its end.
-fn played_or_refused(alloc: Global, input: &[u8]) -> Result<Answer, Stop>
-    ensures answer { IfOk result (λ a. IsPlayedOr InPlay input.now a.status a.bytes) }
-    ensures read { IsErrOf result Unread → ⊥ }
+// The same of an input that was read to its end.
+fn played_or_refused<K: Sink>(alloc: Global, input: &[u8], sink: &mut K) -> Status
+    ensures { IsInputPlayed K.Sink input.now sink.old sink.new result }
 {
     match read_script(alloc, input) {
-        Ok(script) => Ok(Answer {
-            status: Status::Done,
-            bytes: output_of::<Tree>(alloc, &script)?,
-        }),
-        Err(ScriptFault::Fault { line, kind }) => refused(alloc, line, kind),
-        Err(ScriptFault::Memory) => Err(Stop::Memory),
+        Ok(script) => play_out::<Tree, K>(alloc, &script, sink),
+        Err(ScriptFault::Fault { line, kind }) => end(sink, refused(alloc, line, kind)),
+        Err(ScriptFault::Memory) => Status::Memory,
     }
 }
 

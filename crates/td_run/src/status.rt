@@ -6,7 +6,7 @@ ghost use Rattle.td_run.specs.Number.{status_number};
 pub enum Status {
     /// The input was read to its end, or past the bytes that a trace can have, and the whole output was written.
     Done,
-    /// Memory ran out, and nothing was written.
+    /// Memory ran out. A front of what `play` prints may have been written, and nothing of any other output.
     Memory,
     /// The words are no command, and the usage line was written.
     Usage,

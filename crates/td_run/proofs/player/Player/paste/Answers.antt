@@ -1,4 +1,4 @@
-use Rattle.std.proofs.Common.{◌≡◌, ◌∙◌, List, length}
+use Rattle.std.proofs.Common.{◌≡◌, ◌∙◌, length}
 use Rattle.td_report.specs.Replies.{paste_line}
 use Rattle.td_run.specs.Asking.{Asked, asked, ask_all, pastes}
 use Rattle.td_run.specs.Printing.{Printed, with_line}
