@@ -1,0 +1,7 @@
+pub mod InRange
+pub mod Steps
+pub mod Due
+pub mod Shown
+pub mod Nexts
+pub mod Going
+pub mod Together

@@ -1,0 +1,4 @@
+pub mod Screens
+pub mod Due
+pub mod Editors
+pub mod Together

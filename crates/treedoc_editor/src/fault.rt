@@ -1,0 +1,24 @@
+use td_base::Memory;
+use td_op::Reply;
+use thiserror::Error;
+
+/// Why a desk did not do what it was to do.
+#[derive(Clone, Copy, Debug, PartialEq, Eq, Error)]
+pub(crate) enum Fault {
+    #[error("out of memory")]
+    Memory,
+    #[error("refused: {0:?}")]
+    Refused(Reply),
+    #[error("this is no text")]
+    NoText,
+    #[error("there is no such site")]
+    NoSite,
+    #[error("these bytes are no packet for this site")]
+    NoPacket,
+}
+
+impl From<Memory> for Fault {
+    fn from(_memory: Memory) -> Fault {
+        Fault::Memory
+    }
+}
