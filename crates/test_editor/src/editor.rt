@@ -98,3 +98,15 @@ fn a_flatten_changes_no_screen(rt: HostRuntime) -> Result<(), Fail> {
     assert_eq!(rt; bob.screen().atoms(), &[a][..]);
     Ok(())
 }
+
+#[test]
+fn a_blank_screen_makes_room(rt: HostRuntime) -> Result<(), Fail> {
+    let alloc = rt.alloc();
+    let mut page = Page::new(alloc);
+    page.reserve()?;
+    assert_eq!(rt; page.atoms().len(), 0);
+    let mut feed = Feed::new(alloc);
+    feed.reserve()?;
+    assert_eq!(rt; feed.changes().len(), 0);
+    Ok(())
+}
