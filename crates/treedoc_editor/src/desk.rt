@@ -110,7 +110,7 @@ impl Desk {
     // Takes a packet. One that came twice is none to speak of: the replica knows it.
     fn receive(&mut self, packet: &[u8]) -> Result<(), Fault> {
         match self.editor.receive(packet)? {
-            Received::Took { .. } => Ok(()),
+            Received::Took { reply, .. } => is_fit(reply),
             Received::Malformed(_) | Received::Stray => Err(Fault::NoPacket),
         }
     }
@@ -120,6 +120,16 @@ impl Desk {
 fn is_made(reply: Reply) -> Result<(), Fault> {
     match reply {
         Reply::Made { .. } => Ok(()),
-        refusal => Err(Fault::Refused(refusal)),
+        Reply::Held { .. } => Err(Fault::Held),
+        Reply::Limit { .. } => Err(Fault::Limit),
+        _ => Err(Fault::NoPlace),
+    }
+}
+
+// An editor of this text may have sent the packet.
+fn is_fit(reply: Reply) -> Result<(), Fault> {
+    match reply {
+        Reply::Unfit { .. } => Err(Fault::NoPacket),
+        _ => Ok(()),
     }
 }

@@ -1,5 +1,4 @@
 use td_base::Memory;
-use td_op::Reply;
 use thiserror::Error;
 
 /// Why a desk did not do what it was to do.
@@ -7,8 +6,12 @@ use thiserror::Error;
 pub(crate) enum Fault {
     #[error("out of memory")]
     Memory,
-    #[error("refused: {0:?}")]
-    Refused(Reply),
+    #[error("a flatten is being decided there")]
+    Held,
+    #[error("the text has no such place")]
+    NoPlace,
+    #[error("the site has made all operations that it can make")]
+    Limit,
     #[error("this is no text")]
     NoText,
     #[error("there is no such site")]
