@@ -3,6 +3,7 @@ pub mod Elements
 pub mod Rising
 pub mod Searches
 pub mod Reversed
+pub mod Padding
 pub mod AtomLemmas
 pub mod RunLemmas
 pub mod RunPieces

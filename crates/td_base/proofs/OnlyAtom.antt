@@ -1,12 +1,15 @@
 -- The atom of a run that has no other.
-use Rattle.std.proofs.Common.{Some, None, ◌≡◌, ◌<◌, ◌+◌, ◌-◌, ◌/◌, ◌^◌, ◌++◌, ◌∷◌, ◌==◌, [], ℕ, List, length, take, replicate, slice_get, refl, sym, ap, ◌∙◌, arith, length-append, if◌then◌else◌}
+use Rattle.std.proofs.Common.{Some, None, ◌≡◌, ◌<◌, ◌+◌, ◌-◌, ◌/◌, ◌^◌, ◌∷◌, ◌==◌, [], ℕ, List, length, take, slice_get, refl, sym, ap, ◌∙◌, arith, if◌then◌else◌}
 use Rattle.std.specs.List.{concat}
 use Rattle.std.specs.Int.Count.{count_trailing_zeros}
 use Rattle.std.proofs.lemmas.Bool.{ne_eqb}
-use Rattle.std.proofs.lemmas.List.{append-nil, length-take-le, length-replicate}
+use Rattle.std.proofs.lemmas.List.{append-nil, length-take-le}
+use Rattle.td_base.specs.Padded.{padded_with_zeros}
 use Rattle.td_base.specs.AtomParts.{IsAtomParts}
-use Rattle.td_base.specs.RunParts.{IsRunParts, HaveAtoms, atoms_of, ends_of}
+use Rattle.td_base.specs.RunParts.{IsRunParts, HaveAtoms, atoms_of, ends_of, bytes_of}
+use Rattle.td_base.specs.declared.atom.TheConstants.{MAX_ATOM_LEN}
 use Rattle.td_base.specs.declared.run.TheConstants.{MAX_RUN_LEN}
+use Rattle.td_base.proofs.Padding.{padded}
 use Rattle.td_base.proofs.FirstAtom.{HasFirst, first_atom, none_left}
 
 first_of_run : (bytes : List ℕ) (ends : ℕ) → IsRunParts bytes ends → HasFirst 64 bytes ends
@@ -56,17 +59,18 @@ only_one bytes ends atoms parts view none =
     let first = first_of_run bytes ends parts in
     let alone : atoms_of ends bytes ≡ first.atom ∷ [] = first.atoms ∙ ap (λ (rest : List (List ℕ)). first.atom ∷ rest) (sym first.others ∙ none_left _ _ none) in
     let one : atoms ≡ first.atom ∷ [] = sym view ∙ alone in
-    let kept : bytes ≡ first.atom ++ replicate (64 - length first.atom) 0 =
-    parts.bytes_again ∙ ap (λ (a : List (List ℕ)). concat a ++ replicate (64 - length (concat a)) 0) alone
-    ∙ ap (λ (a : List ℕ). a ++ replicate (64 - length a) 0) (append-nil first.atom) in
+    let kept : bytes ≡ padded_with_zeros MAX_ATOM_LEN first.atom = parts.bytes_again ∙ ap bytes_of alone
+    ∙ ap (padded_with_zeros MAX_ATOM_LEN) (append-nil first.atom) in
     let size : count_trailing_zeros 64 ends + 1 ≡ length first.atom =
     sym (length-take-le (count_trailing_zeros 64 ends + 1) bytes first.within) ∙ ap length first.front in
     record {
       parts = record {
         some = omega arith;
-        short = omega (arith, size, first.is.short);
-        whole = omega (arith, ap length kept, length-append first.atom (replicate (64 - length first.atom) 0), length-replicate {A = ℕ} (64 - length first.atom) 0, first.is.short);
-        zeros = kept ∙ ap (λ (a : List ℕ). a ++ replicate (64 - length a) 0) (sym first.front);
+        padded = record {
+          short = omega (arith, size, first.is.short);
+          whole = ap length kept ∙ (padded MAX_ATOM_LEN first.atom first.is.short).whole;
+          zeros = kept ∙ ap (padded_with_zeros MAX_ATOM_LEN) (sym first.front);
+        };
         text = rw first.front first.is.text;
       };
       run = rw first.front one;

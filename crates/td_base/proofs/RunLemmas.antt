@@ -11,7 +11,7 @@ use Rattle.std.proofs.lemmas.List.Elements.{All-head, All-tail, All-cons, All-ni
 use Rattle.td_base.specs.declared.atom.TheConstants.{MAX_ATOM_LEN}
 use Rattle.td_base.specs.declared.run.TheConstants.{MAX_RUN_LEN}
 use Rattle.td_base.specs.Atom.{IsAtom}
-use Rattle.td_base.specs.AtomParts.{padded_with_zeros}
+use Rattle.td_base.specs.Padded.{padded_with_zeros}
 use Rattle.td_base.specs.Run.{IsRun}
 use Rattle.td_base.specs.RunParts.{IsRunParts, atoms_of, before_first, ends_of, bytes_of}
 
@@ -175,7 +175,8 @@ write_next atoms atom bytes start end kept at long within =
     rw (front, behind, whole, size) (sym (append_assoc done atom _))
 
 -- one atom, in an array with zeros behind it
-pub one_parts : (w : ℕ) (atom bytes : List ℕ) → IsAtom atom → length atom ≤ w → bytes ≡ padded_with_zeros atom
+pub one_parts : (w : ℕ) (atom bytes : List ℕ) → IsAtom atom → length atom ≤ w
+    → bytes ≡ padded_with_zeros MAX_ATOM_LEN atom
     → IsRunParts bytes (1 * 2 ^ (length atom - 1) % 2 ^ w) × (atoms_of (1 * 2 ^ (length atom - 1) % 2 ^ w) bytes ≡ atom ∷ [])
 one_parts w atom bytes is within padded =
     let run : IsRun (atom ∷ []) = record {

@@ -2,6 +2,7 @@ pub mod Lists
 pub mod Value
 pub mod Order
 pub mod Equality
+pub mod Padded
 pub mod Atom
 pub mod AtomParts
 pub mod Run

@@ -3,6 +3,7 @@
 use Rattle.std.specs.Prelude.{◌≡◌, ◌+◌, ◌-◌, ◌*◌, ◌/◌, ◌%◌, ◌^◌, ◌++◌, ◌==◌, ℕ, List, [], ◌∷◌, length, replicate, All, if◌then◌else◌}
 use Rattle.std.specs.List.{concat}
 use Rattle.td_base.specs.Atom.{IsAtom}
+use Rattle.td_base.specs.Padded.{padded_with_zeros}
 use Rattle.td_base.specs.Run.{IsRun}
 use Rattle.td_base.specs.declared.run.TheConstants.{MAX_RUN_LEN}
 
@@ -24,7 +25,7 @@ ends_of (atom ∷ atoms) = 2 ^ (length atom - 1) * (2 * ends_of atoms + 1)
 
 -- the bytes of the atoms in an array
 abbrev pub bytes_of : List (List ℕ) → List ℕ
-bytes_of atoms = concat atoms ++ replicate (MAX_RUN_LEN - length (concat atoms)) 0
+bytes_of atoms = padded_with_zeros MAX_RUN_LEN (concat atoms)
 
 pub record IsRunParts (bytes : List ℕ) (ends : ℕ) : Type 0 where
   pub run : IsRun (atoms_of ends bytes)

@@ -1,21 +1,26 @@
 ghost use Rattle.std.specs.Prelude.{◌≡◌, take, IfErr};
 ghost use Rattle.std.specs.Result.{OkIff};
 ghost use Rattle.td_base.specs.Atom.{IsAtom, IsAtomFault};
-ghost use Rattle.td_base.specs.AtomParts.{IsAtomParts, padded_with_zeros};
+ghost use Rattle.td_base.specs.AtomParts.{IsAtomParts};
+ghost use Rattle.td_base.specs.Padded.{padded_with_zeros};
 
 use std::marker::Model;
+use thiserror::Error;
 
 /// The greatest length of an atom in bytes.
 pub const MAX_ATOM_LEN: usize = 64;
 
 /// Why bytes are no atom: the first of these that holds.
-#[derive(Clone, Copy, Debug, PartialEq, Eq)]
+#[derive(Clone, Copy, Debug, PartialEq, Eq, Error)]
 pub enum AtomFault {
     /// There are no bytes.
+    #[error("an atom has no bytes")]
     Empty,
     /// There are more than `MAX_ATOM_LEN` bytes.
+    #[error("an atom has {len} bytes, which are too many")]
     Long { len: usize },
     /// The bytes are not UTF-8: their longest front that is UTF-8 has `at` bytes.
+    #[error("an atom is no UTF-8 behind {at} bytes")]
     Utf8 { at: usize },
 }
 
@@ -32,16 +37,21 @@ impl Model for Atom {
 
     ghost Value = { List ℕ };
 
-    ghost use Rattle.td_base.specs.AtomParts.{IsAtomParts, padded_with_zeros, len_again};
+    ghost use Rattle.td_base.specs.AtomParts.{IsAtomParts};
+    ghost use Rattle.td_base.specs.Padded.{padded_with_zeros, len_again};
+    ghost use Rattle.td_base.specs.declared.atom.TheConstants.{MAX_ATOM_LEN};
     ghost use Rattle.std.proofs.Common.{sym};
 
     ghost view = { λ a. take a.len a.bytes };
 
     ghost invariant = { λ a. IsAtomParts a.len a.bytes };
 
-    ghost inverse = { λ bytes. record { len = length bytes; bytes = padded_with_zeros bytes } };
+    ghost inverse = { λ bytes. record { len = length bytes; bytes = padded_with_zeros MAX_ATOM_LEN bytes } };
 
-    ghost inverse_ok = { λ a h i. record { len = len_again a.len a.bytes h i; bytes = sym h.zeros i } };
+    ghost inverse_ok = { λ a h i. record {
+      len = len_again MAX_ATOM_LEN a.len a.bytes h.padded i;
+      bytes = sym h.padded.zeros i;
+    } };
 }
 
 impl Atom {
@@ -94,9 +104,16 @@ impl Atom {
         &self.bytes[..self.len as usize]
     }
 
+    /// Its bytes as a text.
+    pub fn as_str(&self) -> &str
+        ensures { result.now ≡ self.now }
+    {
+        str::from_utf8(self.bytes()).unwrap()
+    }
+
     /// Its bytes, and zeros behind them.
     pub fn padded(&self) -> &[u8; MAX_ATOM_LEN]
-        ensures { result.now ≡ padded_with_zeros self.now }
+        ensures { result.now ≡ padded_with_zeros MAX_ATOM_LEN self.now }
     {
         &self.bytes
     }

@@ -31,7 +31,7 @@ impl Bytes {
     /// Adds the piece at the end.
     pub fn push(&mut self, piece: &[u8]) -> Result<(), Memory>
         ensures ok { OnOk result (self.new ≡ self.old ++ piece.now) }
-        ensures memory { OnErr result (self.new ≡ self.old) }
+        ensures err { OnErr result (self.new ≡ self.old) }
     {
         if let [byte] = piece {
             // no call that copies is made for one byte

@@ -7,16 +7,19 @@ ghost use Rattle.td_base.specs.Run.{IsRun, IsRunFault, pieces};
 use crate::atom::Atom;
 use crate::atoms::Atoms;
 use std::marker::Model;
+use thiserror::Error;
 
 /// The greatest number of bytes of a run, and so of its atoms.
 pub const MAX_RUN_LEN: usize = 64;
 
 /// Why atoms are no run: the first of these that holds.
-#[derive(Clone, Copy, Debug, PartialEq, Eq)]
+#[derive(Clone, Copy, Debug, PartialEq, Eq, Error)]
 pub enum RunFault {
     /// There are no atoms.
+    #[error("a run has no atoms")]
     Empty,
     /// They have more than `MAX_RUN_LEN` bytes together, namely `len`.
+    #[error("a run has {len} bytes, which are too many")]
     Long { len: u64 },
 }
 
