@@ -2,6 +2,8 @@ pub mod Lists
 pub mod Elements
 pub mod Rising
 pub mod Searches
+pub mod Places
+pub mod Passing
 pub mod Reversed
 pub mod Padding
 pub mod AtomLemmas
