@@ -1,4 +1,5 @@
--- Which values are messages: each part is in the range that its type keeps.
+-- Which values are messages, where each part is in the range that its type keeps; who sent one, and for whom it is.
+use Rattle.std.specs.Prelude.{ℕ, Bool, ◌==◌, ◌&&◌, not}
 use Rattle.td_base.specs.Value.{IsSite, IsDot, IsAtomId}
 use Rattle.td_base.specs.Run.{IsRun}
 use Rattle.td_clock.specs.Vector.{IsVector}
@@ -30,3 +31,12 @@ pub record IsVote (v : VoteValue) : Type 0 where
 abbrev pub IsMessage : Message → Type 0
 IsMessage (Op x) = IsOpValue x
 IsMessage (Vote v) = IsVote v
+
+abbrev pub sender : Message → ℕ
+sender (Op x) = x.dot.site
+sender (Vote v) = v.voter
+
+-- another site sent it, and it is an operation or a vote on a proposal of this site
+abbrev pub is_for : ℕ → Message → Bool
+is_for site (Op x) = not (x.dot.site == site)
+is_for site (Vote v) = not (v.voter == site) && v.proposal.site == site
