@@ -101,10 +101,8 @@ impl Doc for Rows {
     }
 
     fn delete_at(&self, id: AtomId, k: u32) -> Option<Dot> {
-        match find_row(&self.rows, id) {
-            Some(row) => row.deletes.get(k as usize).copied(),
-            None => None,
-        }
+        let row = find_row(&self.rows, id)?;
+        row.deletes.get(k as usize).copied()
     }
 
     fn slot_empty(&self, slot: Slot) -> bool {

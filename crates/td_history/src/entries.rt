@@ -110,10 +110,8 @@ impl Entries {
     pub fn get(&self, log: &Log, k: u64) -> Option<Entry>
         ensures { result ≡ option_and_then (entry_of log.now.ops self.now) (slice_get self.now.entries k) }
     {
-        match self.kept_at(k) {
-            Some(kept) => kept.entry(log, &self.texts, &self.offered, &self.wholes),
-            None => None,
-        }
+        let kept = self.kept_at(k)?;
+        kept.entry(log, &self.texts, &self.offered, &self.wholes)
     }
 
     // The compact entry at a place.

@@ -108,13 +108,11 @@ impl WholeEntry {
     fn entry(&self, log: &Log, texts: &Runs, offered: &[Op]) -> Option<Entry>
         ensures { result ≡ whole_among log.now.ops texts.now.runs offered.now self.now }
     {
-        match self.input.input(log, texts, offered) {
-            Some(input) => Some(Entry {
-                input,
-                reply: self.reply.reply(),
-            }),
-            None => None,
-        }
+        let input = self.input.input(log, texts, offered)?;
+        Some(Entry {
+            input,
+            reply: self.reply.reply(),
+        })
     }
 }
 

@@ -181,10 +181,8 @@ impl Log {
         ensures variant { is_some result ≡ is_some (find (is_dot_of dot) self.now.log) }
         ensures bound { IfSome result (λ k. k < length self.now.ops) }
     {
-        match self.logged(dot) {
-            Some(logged) => Some(logged.number),
-            None => None,
-        }
+        let logged = self.logged(dot)?;
+        Some(logged.number)
     }
 
     /// The last operation of a site in the log.
@@ -192,10 +190,8 @@ impl Log {
         requires { site ≤ self.now.size }
         ensures { result ≡ slice_get (ops_of site self.now.log) 0 }
     {
-        match self.last(site) {
-            Some(logged) => self.ops.get(logged.number),
-            None => None,
-        }
+        let logged = self.last(site)?;
+        self.ops.get(logged.number)
     }
 
     /// The slot that the proposal asks for.
@@ -213,10 +209,8 @@ impl Log {
     pub fn decision(&self, p: Dot) -> Option<bool>
         ensures { result ≡ decision p self.now.log }
     {
-        match self.logged(p) {
-            Some(logged) => logged.decided,
-            None => None,
-        }
+        let logged = self.logged(p)?;
+        logged.decided
     }
 
     // What the index has of the operation of the log with this dot.
@@ -240,10 +234,8 @@ impl Log {
     fn found_body(&self, dot: Dot) -> Option<Body>
         ensures { result ≡ option_map (λ (x : OpValue). x.body) (find (is_dot_of dot) self.now.log) }
     {
-        match self.logged(dot) {
-            Some(logged) => self.ops.body(logged.number),
-            None => None,
-        }
+        let logged = self.logged(dot)?;
+        self.ops.body(logged.number)
     }
 }
 

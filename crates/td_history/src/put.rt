@@ -42,18 +42,12 @@ impl CompactPut {
 pub fn compact_id(id: Option<AtomId>) -> Option<CompactId>
     ensures { result ≡ id }
 {
-    match id {
-        Some(id) => Some(CompactId::of(id)),
-        None => None,
-    }
+    id.map(CompactId::of)
 }
 
 // The identity that it stands for.
 fn whole_id(id: Option<CompactId>) -> Option<AtomId>
     ensures { result ≡ id }
 {
-    match id {
-        Some(id) => Some(id.id()),
-        None => None,
-    }
+    id.map(|id| id.id())
 }

@@ -51,10 +51,8 @@ fn deletes(body: &Body, id: AtomId) -> bool
 fn atom_in(insertions: &[Insertion], id: AtomId) -> Option<Atom>
     ensures { result ≡ atom_in insertions.now id }
 {
-    match insertion_with(insertions, id.dot) {
-        Some(insertion) => insertion.run.atom(id.offset),
-        None => None,
-    }
+    let insertion = insertion_with(insertions, id.dot)?;
+    insertion.run.atom(id.offset)
 }
 
 // The first insertion with a dot.
