@@ -2,6 +2,7 @@
 use Rattle.std.proofs.Common.{◌≡◌, ◌+◌, ◌-◌, ◌<◌, ◌≤◌, ℕ, List, [], ◌∷◌, ◌++◌, Bool, true, false, if◌then◌else◌, ◌||◌, length, nat_lt, refl, sym, ap, ◌∙◌, subst, inl, inr, ⊎_elim, arith, Option, Some, None}
 use Rattle.std.proofs.lemmas.Bool.{cases_lt, lt-ltb, le-ltb, ltb-true, ltb-false}
 use Rattle.std.proofs.lemmas.List.{append-nil}
+use Rattle.std.proofs.lemmas.Option.{none-some, same_Some}
 use Rattle.td_base.specs.Lists.{In}
 use Rattle.td_list.specs.Items.{Item, IsItem, items_after, first_name, last_name, first_marked, has_mark, share_at, weight_of}
 use Rattle.td_list.specs.declared.item.Share.{Share}
@@ -75,17 +76,8 @@ last_none chunks (i ∷ j ∷ order) e = absurd (never j order (last_none chunks
 some_not_none : (c : ℕ) → Some c ≡ None → ⊥
 some_not_none c e = cc
 
-none_not_some : (c : ℕ) → None ≡ Some c → ⊥
-none_not_some c e = cc
-
 no_share : (s : Share) → Some s ≡ None → ⊥
 no_share s e = cc
-
-none_no_share : (s : Share) → None ≡ Some s → ⊥
-none_no_share s e = cc
-
-same_share : (s t : Share) → Some s ≡ Some t → s ≡ t
-same_share s t e = cc
 
 false_not_true : false ≡ true → ⊥
 false_not_true e = cc
@@ -95,7 +87,7 @@ true_not_false e = cc
 
 past_at : (x : Item) (xs ys : List Item) (b : Bool) → x.marked ≡ b → None ≡ (if b then Some x.name else first_marked xs) → (None ≡ first_marked xs → first_marked (xs ++ ys) ≡ first_marked ys)
     → (if x.marked then Some x.name else first_marked (xs ++ ys)) ≡ first_marked ys
-past_at x xs ys true e h ih = absurd (none_not_some x.name h)
+past_at x xs ys true e h ih = absurd (none-some x.name h)
 past_at x xs ys false e h ih = ap (λ (b : Bool). if b then Some x.name else first_marked (xs ++ ys)) e ∙ ih h
 
 here_at : (x : Item) (xs ys : List Item) (c : ℕ) (b : Bool) → x.marked ≡ b → Some c ≡ (if b then Some x.name else first_marked xs) → (Some c ≡ first_marked xs → first_marked (xs ++ ys) ≡ first_marked xs)
@@ -146,7 +138,7 @@ marked_in chunks (i ∷ order) h c e =
 
 marked_none_at : (chunks : List (List Item)) (i : Item) (order : List Item) → i.marked ≡ has_mark (chunk_at chunks i.name) → (b : Bool) → i.marked ≡ b → None ≡ (if b then Some i.name else first_marked order)
     → (None ≡ first_marked order → None ≡ first_marked (joined chunks order)) → None ≡ first_marked (joined chunks (i ∷ order))
-marked_none_at chunks i order t true e h ih = absurd (none_not_some i.name h)
+marked_none_at chunks i order t true e h ih = absurd (none-some i.name h)
 marked_none_at chunks i order t false e h ih = ih h ∙ sym (marked_past (chunk_at chunks i.name) (joined chunks order) (no_mark (chunk_at chunks i.name) (sym t ∙ e)))
 
 pub marked_none : (chunks : List (List Item)) (order : List Item) → ((i : Item) → In i order → i ≡ summary i.name (chunk_at chunks i.name)) → None ≡ first_marked order → None ≡ first_marked (joined chunks order)
@@ -189,7 +181,7 @@ share_in_at : (chunks : List (List Item)) (i : Item) (order : List Item) → i.w
     → (Some s ≡ share_at (k - i.weight) order → IsItem s.name order × (share_at (k - i.weight) (joined chunks order) ≡ share_at s.rest (chunk_at chunks s.name)))
     → IsItem s.name (i ∷ order) × (share_at k (joined chunks (i ∷ order)) ≡ share_at s.rest (chunk_at chunks s.name))
 share_in_at chunks i order t k s true e h ih =
-    let is : s ≡ record { name = i.name; rest = k } = same_share s (record { name = i.name; rest = k }) h in
+    let is : s ≡ record { name = i.name; rest = k } = same_Some s (record { name = i.name; rest = k }) h in
     (inl (ap (λ (r : Share). r.name) is), share_here k (chunk_at chunks i.name) (joined chunks order) (subst (λ (n : ℕ). k < n) t (ltb-true k i.weight e)) ∙ ap (λ (r : Share). share_at r.rest (chunk_at chunks r.name)) (sym is))
 share_in_at chunks i order t k s false e h ih =
     let r = ih h in
@@ -206,7 +198,7 @@ share_none_at : (chunks : List (List Item)) (i : Item) (order : List Item) → i
     → None ≡ (if b then Some (record { name = i.name; rest = k }) else share_at (k - i.weight) order)
     → (None ≡ share_at (k - i.weight) order → None ≡ share_at (k - i.weight) (joined chunks order))
     → None ≡ share_at k (joined chunks (i ∷ order))
-share_none_at chunks i order t k true e h ih = absurd (none_no_share (record { name = i.name; rest = k }) h)
+share_none_at chunks i order t k true e h ih = absurd (none-some (record { name = i.name; rest = k }) h)
 share_none_at chunks i order t k false e h ih =
     ih h ∙ sym (share_past k (chunk_at chunks i.name) (joined chunks order) (subst (λ (n : ℕ). n ≤ k) t (ltb-false k i.weight e)) ∙ ap (λ (n : ℕ). share_at (k - n) (joined chunks order)) (sym t))
 

@@ -7,145 +7,192 @@ use Rattle.td_base.proofs.Lists.{In-back}
 use Rattle.td_list.specs.Items.{Item, IsItem, AreApart, put_before, renew, items_before, items_after, weight_of}
 use Rattle.td_list.specs.Index.{Parts, chunk_at, joined, all_items, chunks_before, chunks_after, summary, IsIndex}
 use Rattle.td_list.proofs.Names.{weight-append, weight-parts, item-append, item-front, item-back, item_in_front, item_in_back, apart-parts, apart-front, apart-back}
-use Rattle.td_list.proofs.Parted.{before_is, from_is, before_at, after_at}
+use Rattle.td_list.proofs.Parted.{Parted, before_is, from_is, before_at, after_at}
 use Rattle.td_list.proofs.Joined.{q, located, not_before, not_after, not_back, within, told, apart_in, homed, all_weight, joined-set, before_joined, after_joined, renewed_is, changed_all}
 use Rattle.td_list.proofs.Changes.{fewer, now, weight_around}
 use Rattle.td_list.proofs.Added.{added_index, added_all}
 
 -- neither side of a cut weighs more than the whole
-pub side_weight : (cut place : ℕ) (side items : List Item) → (place < cut → side ≡ drop cut items) → (cut ≤ place → side ≡ take cut items) → weight_of side ≤ weight_of items
+pub side_weight : (cut place : ℕ) (side items : List Item) → (place < cut → side ≡ drop cut items)
+    → (cut ≤ place → side ≡ take cut items) → weight_of side ≤ weight_of items
 side_weight cut place side items back front =
     let parts = weight-parts cut items in
-    ⊎_elim (λ (h : place < cut). let e = ap weight_of (back h) in omega arith) (λ (h : cut ≤ place). let e = ap weight_of (front h) in omega arith) (cases_lt place cut)
+    ⊎_elim (λ (h : place < cut). let e = ap weight_of (back h) in omega arith)
+    (λ (h : cut ≤ place). let e = ap weight_of (front h) in omega arith) (cases_lt place cut)
 
-module _ (p : Parts) (index : IsIndex p) (c : ℕ) (there : IsItem c p.order) (d : ℕ) (rest : List ℕ) (free : p.free ≡ rest ++ d ∷ []) (cut : ℕ) (low : 0 < cut) (high : cut < length (chunk_at p.chunks c)) where
+-- a chunk to be parted, a free number for its front, and where it is cut
+pub record Parting (p : Parts) : Type 0 where
+  pub index : IsIndex p
+  pub chunk : ℕ
+  pub there : IsItem chunk p.order
+  pub number : ℕ
+  pub rest : List ℕ
+  pub free : p.free ≡ rest ++ number ∷ []
+  pub cut : ℕ
+  pub low : 0 < cut
+  pub high : cut < length (chunk_at p.chunks chunk)
+
+module _ (p : Parts) (a : Parting p) where
   abbrev old : List Item
-  old = chunk_at p.chunks c
+  old = chunk_at p.chunks a.chunk
+
+  abbrev at : Parted a.chunk p.order
+  at = q p a.index a.chunk a.there
 
   abbrev pub first : List Item
-  first = take cut old
+  first = take a.cut old
 
   abbrev pub second : List Item
-  second = drop cut old
+  second = drop a.cut old
 
   abbrev f : List Item
-  f = (q p index c there).front
+  f = at.front
 
   abbrev i : Item
-  i = (q p index c there).item
+  i = at.item
 
   abbrev b : List Item
-  b = (q p index c there).back
+  b = at.back
 
   abbrev e : Item
-  e = record { name = d; weight = 0; marked = false }
+  e = record { name = a.number; weight = 0; marked = false }
 
-  d_unused : IsItem d p.order → ⊥
-  d_unused = (index.unused d (subst (In d) (sym free) (In-back d rest (d ∷ []) (inl refl)))).1
+  d_unused : IsItem a.number p.order → ⊥
+  d_unused =
+      (a.index.unused a.number
+      (subst (In a.number) (sym a.free) (In-back a.number a.rest (a.number ∷ []) (inl refl)))).1
 
-  other_number : c ≡ d → ⊥
-  other_number h = d_unused (subst (λ (y : ℕ). IsItem y p.order) h there)
+  other_number : a.chunk ≡ a.number → ⊥
+  other_number h = d_unused (subst (λ (y : ℕ). IsItem y p.order) h a.there)
 
   -- the order after the three steps
   abbrev pub order_one : List Item
-  order_one = put_before c (e ∷ []) p.order
+  order_one = put_before a.chunk (e ∷ []) p.order
 
   abbrev pub order_two : List Item
-  order_two = renew (summary c second) order_one
+  order_two = renew (summary a.chunk second) order_one
 
   abbrev pub order_three : List Item
-  order_three = renew (summary d first) order_two
+  order_three = renew (summary a.number first) order_two
 
   one_is : order_one ≡ (f ++ e ∷ []) ++ i ∷ b
-  one_is = λ k. before_is c p.order there k ++ e ∷ [] ++ from_is c p.order there k
+  one_is = λ k. before_is a.chunk p.order a.there k ++ e ∷ [] ++ from_is a.chunk p.order a.there k
 
-  not_front : IsItem c (f ++ e ∷ []) → ⊥
-  not_front h = ⊎_elim (λ (k : IsItem c f). (q p index c there).away k) (λ (k : IsItem c (e ∷ [])). ⊎_elim (λ (x : c ≡ d). other_number x) (λ (z : ⊥). z) k) (item-append c f (e ∷ []) h)
+  not_front : IsItem a.chunk (f ++ e ∷ []) → ⊥
+  not_front h =
+      ⊎_elim
+      (λ (k : IsItem a.chunk f). at.away k)
+      (λ (k : IsItem a.chunk (e ∷ [])). ⊎_elim (λ (x : a.chunk ≡ a.number). other_number x) (λ (z : ⊥). z) k)
+      (item-append a.chunk f (e ∷ []) h)
 
-  two_is : order_two ≡ f ++ e ∷ (summary c second ∷ b)
+  two_is : order_two ≡ f ++ e ∷ (summary a.chunk second ∷ b)
   two_is =
-      (λ k. items_before c (one_is k) ++ summary c second ∷ items_after c (one_is k))
-      ∙ (λ k. before_at c (f ++ e ∷ []) i b (q p index c there).named not_front k ++ summary c second ∷ after_at c (f ++ e ∷ []) i b (q p index c there).named not_front k)
-      ∙ append_assoc f (e ∷ []) (summary c second ∷ b)
+      (λ k. items_before a.chunk (one_is k) ++ summary a.chunk second ∷ items_after a.chunk (one_is k))
+      ∙ (λ k. before_at a.chunk (f ++ e ∷ []) i b at.named not_front k
+      ++ summary a.chunk second ∷ after_at a.chunk (f ++ e ∷ []) i b at.named not_front k)
+      ∙ append_assoc f (e ∷ []) (summary a.chunk second ∷ b)
 
-  d_not_front : IsItem d f → ⊥
-  d_not_front h = d_unused (subst (IsItem d) (sym (q p index c there).is) (item-front d f (i ∷ b) h))
+  d_not_front : IsItem a.number f → ⊥
+  d_not_front h = d_unused (subst (IsItem a.number) (sym at.is) (item-front a.number f (i ∷ b) h))
 
-  pub three_is : order_three ≡ f ++ summary d first ∷ (summary c second ∷ b)
+  pub three_is : order_three ≡ f ++ summary a.number first ∷ (summary a.chunk second ∷ b)
   three_is =
-      (λ k. items_before d (two_is k) ++ summary d first ∷ items_after d (two_is k))
-      ∙ (λ k. before_at d f e (summary c second ∷ b) refl d_not_front k ++ summary d first ∷ after_at d f e (summary c second ∷ b) refl d_not_front k)
+      (λ k. items_before a.number (two_is k) ++ summary a.number first ∷ items_after a.number (two_is k))
+      ∙ (λ k. before_at a.number f e (summary a.chunk second ∷ b) refl d_not_front k
+      ++ summary a.number first ∷ after_at a.number f e (summary a.chunk second ∷ b) refl d_not_front k)
 
-  pub there_two : IsItem d order_two
-  there_two = subst (IsItem d) (sym two_is) (item-back d f (e ∷ (summary c second ∷ b)) (inl refl))
+  pub there_two : IsItem a.number order_two
+  there_two = subst (IsItem a.number) (sym two_is) (item-back a.number f (e ∷ (summary a.chunk second ∷ b)) (inl refl))
 
-  pub there_one : IsItem c order_one
-  there_one = subst (IsItem c) (sym one_is) (item-back c (f ++ e ∷ []) (i ∷ b) (inl (sym (q p index c there).named)))
+  pub there_one : IsItem a.chunk order_one
+  there_one = subst (IsItem a.chunk) (sym one_is) (item-back a.chunk (f ++ e ∷ []) (i ∷ b) (inl (sym at.named)))
 
   old_weight : weight_of p.order ≡ weight_of f + (weight_of old + weight_of b)
   old_weight =
-      let a = ap weight_of (q p index c there).is in
+      let m = ap weight_of at.is in
       let w = weight-append f (i ∷ b) in
-      let t = ap (λ (j : Item). j.weight) (told p index c there) in
+      let t = ap (λ (j : Item). j.weight) (told p a.index a.chunk a.there) in
       omega arith
 
   pub two_light : weight_of order_two < 2 ^ 31
   two_light =
-      let l = index.light in
-      let all = all_weight p index in
+      let l = a.index.light in
+      let all = all_weight p a.index in
       let o = old_weight in
-      let h = weight-parts cut old in
-      let a = ap weight_of two_is in
-      let w = weight-append f (e ∷ (summary c second ∷ b)) in
+      let h = weight-parts a.cut old in
+      let m = ap weight_of two_is in
+      let w = weight-append f (e ∷ (summary a.chunk second ∷ b)) in
       omega arith
 
   pub three_light : weight_of order_three < 2 ^ 31
   three_light =
-      let l = index.light in
-      let all = all_weight p index in
+      let l = a.index.light in
+      let all = all_weight p a.index in
       let o = old_weight in
-      let h = weight-parts cut old in
-      let a = ap weight_of three_is in
-      let w = weight-append f (summary d first ∷ (summary c second ∷ b)) in
+      let h = weight-parts a.cut old in
+      let m = ap weight_of three_is in
+      let w = weight-append f (summary a.number first ∷ (summary a.chunk second ∷ b)) in
       omega arith
 
   -- first the chunk without its front, then the front as a chunk
   abbrev p1 : Parts
-  p1 = now p index c there second
+  p1 = now p a.index a.chunk a.there second
 
-  second_light : weight_of (chunks_before c p ++ second ++ chunks_after c p) + weight_of first ≡ weight_of (all_items p)
-  second_light = let w = weight_around p index c there second in let h = weight-parts cut old in omega arith
+  second_light : weight_of (chunks_before a.chunk p ++ second ++ chunks_after a.chunk p) + weight_of first
+      ≡ weight_of (all_items p)
+  second_light = let w = weight_around p a.index a.chunk a.there second in let h = weight-parts a.cut old in omega arith
 
   whole_apart : AreApart (first ++ second)
-  whole_apart = subst AreApart (sym (take-append-drop cut old)) (apart_in p index c there)
+  whole_apart = subst AreApart (sym (take-append-drop a.cut old)) (apart_in p a.index a.chunk a.there)
 
   index1 : IsIndex p1
-  index1 = fewer p index c there second (let l = length-drop cut old in omega arith) (apart-back first second whole_apart) (λ x j. item_in_back x cut old j) (let l = index.light in let s = second_light in omega arith)
+  index1 = fewer p a.index a.chunk a.there second (let l = length-drop a.cut old in omega arith)
+      (apart-back first second whole_apart) (λ x j. item_in_back x a.cut old j)
+      (let l = a.index.light in let s = second_light in omega arith)
 
-  order1 : p1.order ≡ f ++ (summary c second ∷ b)
-  order1 = renewed_is p index c there (summary c second) refl
+  order1 : p1.order ≡ f ++ (summary a.chunk second ∷ b)
+  order1 = renewed_is p a.index a.chunk a.there (summary a.chunk second) refl
 
-  pub split_index : (next : List ℕ) → length next ≡ length p.homes → ((x : ℕ) → IsItem x first → get_or next x 0 ≡ d)
+  pub split_index : (next : List ℕ) → length next ≡ length p.homes
+      → ((x : ℕ) → IsItem x first → get_or next x 0 ≡ a.number)
       → ((x : ℕ) → (IsItem x first → ⊥) → get_or next x 0 ≡ get_or p.homes x 0)
-      → IsIndex (record p { chunks = set (set p.chunks c second) d first; order = f ++ summary d first ∷ (summary c second ∷ b); homes = next; free = rest })
+      → IsIndex (record p {
+        chunks = set (set p.chunks a.chunk second) a.number first;
+        order = f ++ summary a.number first ∷ (summary a.chunk second ∷ b);
+        homes = next;
+        free = a.rest;
+      })
   split_index next long inside outside =
-      added_index p1 index1 f (summary c second ∷ b) order1 d rest free first next (let l = length-take-le cut old (omega arith) in omega arith) (apart-front first second whole_apart)
+      added_index p1 index1 f (summary a.chunk second ∷ b) order1 a.number a.rest a.free first next
+      (let l = length-take-le a.cut old (omega arith) in omega arith) (apart-front first second whole_apart)
       (λ x j k. ⊎_elim
-      (λ (m : IsItem x (chunks_before c p ++ second)). ⊎_elim (λ (n : IsItem x (chunks_before c p)). not_before p index c there x n (item_in_front x cut old j)) (λ (n : IsItem x second). apart-parts first second whole_apart x j n)
-      (item-append x (chunks_before c p) second m))
-      (λ (m : IsItem x (chunks_after c p)). not_after p index c there x m (item_in_front x cut old j))
-      (item-append x (chunks_before c p ++ second) (chunks_after c p) (subst (IsItem x) (changed_all p index c there second) k)))
-      (λ x j. (subst (λ (n : ℕ). x < n) (sym long) (homed p index c there x (item_in_front x cut old j)).0, inside x j))
+      (λ (m : IsItem x (chunks_before a.chunk p ++ second)). ⊎_elim
+      (λ (n : IsItem x (chunks_before a.chunk p)). not_before p a.index a.chunk a.there x n
+      (item_in_front x a.cut old j)) (λ (n : IsItem x second). apart-parts first second whole_apart x j n)
+      (item-append x (chunks_before a.chunk p) second m))
+      (λ (m : IsItem x (chunks_after a.chunk p)). not_after p a.index a.chunk a.there x m (item_in_front x a.cut old j))
+      (item-append x (chunks_before a.chunk p ++ second) (chunks_after a.chunk p)
+      (subst (IsItem x) (changed_all p a.index a.chunk a.there second) k)))
+      (λ x j. (
+        subst (λ (n : ℕ). x < n) (sym long) (homed p a.index a.chunk a.there x
+            (item_in_front x a.cut old j)).0,
+        inside x j,
+      ))
       (λ x h. (subst (λ (n : ℕ). x < n) (sym long) h, λ none. outside x none))
-      (let a = ap weight_of (changed_all p index c there second) in let s = second_light in let l = index.light in omega arith)
+      (let m = ap weight_of (changed_all p a.index a.chunk a.there second) in let s = second_light in
+      let l = a.index.light in omega arith)
 
-  pub split_all : joined (set (set p.chunks c second) d first) (f ++ summary d first ∷ (summary c second ∷ b)) ≡ all_items p
+  pub split_all : joined (set (set p.chunks a.chunk second) a.number first)
+      (f ++ summary a.number first ∷ (summary a.chunk second ∷ b)) ≡ all_items p
   split_all =
-      added_all p1 index1 f (summary c second ∷ b) order1 d rest free first
-      ∙ (λ k. (joined-set p.chunks c second f (q p index c there).away ∙ sym (before_joined p index c there)) k ++ first
-      ++ (get_or-set_same p.chunks c second [] (within p index c there) k ++ (joined-set p.chunks c second b (not_back p index c there) ∙ sym (after_joined p index c there)) k))
-      ∙ regroup (chunks_before c p) first second (chunks_after c p)
-      ∙ ap (λ (xs : List Item). chunks_before c p ++ xs ++ chunks_after c p) (take-append-drop cut old) ∙ sym (located p index c there)
+      added_all p1 index1 f (summary a.chunk second ∷ b) order1 a.number a.rest a.free first
+      ∙ (λ k. (joined-set p.chunks a.chunk second f at.away ∙ sym (before_joined p a.index a.chunk a.there)) k ++ first
+      ++ (get_or-set_same p.chunks a.chunk second [] (within p a.index a.chunk a.there) k
+      ++ (joined-set p.chunks a.chunk second b (not_back p a.index a.chunk a.there)
+      ∙ sym (after_joined p a.index a.chunk a.there)) k))
+      ∙ regroup (chunks_before a.chunk p) first second (chunks_after a.chunk p)
+      ∙ ap (λ (xs : List Item). chunks_before a.chunk p ++ xs ++ chunks_after a.chunk p) (take-append-drop a.cut old)
+      ∙ sym (located p a.index a.chunk a.there)
     where
       regroup : (w x y z : List Item) → w ++ x ++ (y ++ z) ≡ w ++ (x ++ y) ++ z
       regroup w x y z = simp append_assoc

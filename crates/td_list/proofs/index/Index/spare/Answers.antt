@@ -1,11 +1,8 @@
-use Rattle.std.proofs.Common.{◌≡◌, ◌<◌, ◌≤◌, ◌+◌, ◌^◌, ◌∙◌, ◌++◌, ◌∷◌, ℕ, List, [], length, refl, ap, sym, subst, arith, vec_capacity}
+use Rattle.std.proofs.Common.{◌≡◌, ◌<◌, ◌≤◌, ◌+◌, ◌^◌, ◌∙◌, ◌++◌, ◌∷◌, [], length, ap, sym, subst, arith, vec_capacity}
+use Rattle.std.proofs.lemmas.List.{nil_from_length}
 use Rattle.td_list.specs.Index.{Parts, IsIndex}
 use Rattle.td_list.proofs.Added.{spared_index, room_index}
 use Rattle.td_list.proofs.index.Index.spare.Goals as goal
-
-none_of : (xs : List ℕ) → length xs ≡ 0 → xs ≡ []
-none_of [] e = refl
-none_of (x ∷ xs) e = absurd (omega arith)
 
 pub returns-in_err-push-clause-index : goal.returns-in_err-push-clause-index
 returns-in_err-push-clause-index g c =
@@ -23,7 +20,7 @@ returns-clause-index g c =
     let new : c.len-new.result ≡ length p.chunks = omega (arith, c.len-new.ensures, c.self.inside.chunks.ok.0) in
     let chunks : c.push.new.self.items ≡ p.chunks ++ [] ∷ [] =
     rw c.in_ok-push.was at c.push.ensures.items ∙ (λ i. (c.self.view_is i).chunks ++ c.new.ensures i ∷ []) in
-    let none : p.free ≡ [] = ap (λ (q : Parts). q.free) (sym c.self.view_is) ∙ none_of c.self.inside.free.items (omega (arith, c.if-len-gt0.false, c.len.ensures, c.self.inside.free.ok.0)) in
+    let none : p.free ≡ [] = ap (λ (q : Parts). q.free) (sym c.self.view_is) ∙ nil_from_length c.self.inside.free.items (omega (arith, c.if-len-gt0.false, c.len.ensures, c.self.inside.free.ok.0)) in
     let free : c.push-2.new.self.items ≡ p.free ++ length p.chunks ∷ [] =
     rw c.unwrap.ensures at c.push-2.ensures.items ∙ (λ i. (c.reserve.ensures.items ∙ ap (λ (q : Parts). q.free) c.self.view_is) i ++ new i ∷ []) in
     let room : length p.chunks + 1 ≤ vec_capacity c.push-2.new.self = omega (arith, c.in_ok-reserve.ensures.ok, c.push-2.ensures.capacity) in
