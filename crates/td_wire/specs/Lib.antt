@@ -1,4 +1,3 @@
 pub mod Format
 pub mod Spelling
 pub mod Reading
-pub mod BufferParts

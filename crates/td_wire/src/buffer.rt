@@ -16,16 +16,20 @@ impl Model for Buffer {
 
     ghost Value = { List ℕ };
 
-    ghost use Rattle.td_wire.specs.BufferParts.{IsBufferParts, padded_with_zeros, len_again};
+    ghost use Rattle.td_base.specs.Padded.{IsPadded, padded_with_zeros, len_again};
+    ghost use Rattle.td_wire.specs.declared.length.TheConstants.{MAX_PACKET_LEN};
     ghost use Rattle.std.proofs.Common.{sym};
 
     ghost view = { λ b. take b.len b.bytes };
 
-    ghost invariant = { λ b. IsBufferParts b.len b.bytes };
+    ghost invariant = { λ b. IsPadded MAX_PACKET_LEN b.len b.bytes };
 
-    ghost inverse = { λ bytes. record { len = length bytes; bytes = padded_with_zeros bytes } };
+    ghost inverse = { λ bytes. record { len = length bytes; bytes = padded_with_zeros MAX_PACKET_LEN bytes } };
 
-    ghost inverse_ok = { λ b h i. record { len = len_again b.len b.bytes h i; bytes = sym h.zeros i } };
+    ghost inverse_ok = { λ b h i. record {
+      len = len_again MAX_PACKET_LEN b.len b.bytes h i;
+      bytes = sym h.zeros i;
+    } };
 }
 
 impl Buffer {
