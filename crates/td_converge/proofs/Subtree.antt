@@ -16,6 +16,7 @@ use Rattle.td_op.specs.Op.{OpValue}
 use Rattle.td_doc.specs.Document.{DocRow, row_id, find_row, IsPath, IsDocument}
 use Rattle.td_doc.specs.Array.{named, row_in, array}
 use Rattle.td_base.specs.RunAtoms.{NamedAtom, run_atoms}
+use Rattle.td_base.proofs.Elements.{both_tests}
 use Rattle.td_doc.specs.Insertion.{put_rows, put_array_below}
 use Rattle.td_doc.specs.Slots.{slot_path}
 use Rattle.td_doc.specs.Subtrees.{begins}
@@ -44,7 +45,7 @@ use Rattle.td_logs.proofs.Bases.{tail, causal, fits}
 use Rattle.td_logs.proofs.Steps.{doc, stays, commit_body}
 use Rattle.td_agree.proofs.OwnSlots.{Middle, middle_of, middle_in}
 use Rattle.td_agree.proofs.Meeting.{agrees}
-use Rattle.td_logs.proofs.RowsBefore.{same_truth, AtMiddle, at_middle, RowWas, same_path, put_in, within_slot, row_was, no_row_yet, below_from, Hangs, hangs}
+use Rattle.td_logs.proofs.RowsBefore.{AtMiddle, at_middle, RowWas, same_path, put_in, within_slot, row_was, no_row_yet, below_from, Hangs, hangs}
 use Rattle.std.proofs.lemmas.Bool.{false_from_ne_true}
 use Rattle.std.proofs.lemmas.Option.{same_Some}
 
@@ -211,7 +212,7 @@ module _ (family : Family) (c : IsConsistent family) where
                     ∙ by_slot o (up o (inl refl)) (row_id x) h.side run (e ∙ ap (λ (z : Slot). Insert z run) q)
                     other in
                     let t : begins path r.path ≡ begins path x.path =
-                    same_truth (begins path r.path) (begins path x.path)
+                    both_tests (begins path r.path) (begins path x.path)
                     (λ t. let z = front t in below_from path x.path z.0 (sym p ∙ z.1))
                     (λ t. let z = begins_parts path x.path t in
                     below_from path r.path (z.0 ++ (h.side, m.atom.id) ∷ m.more)

@@ -45,6 +45,7 @@ use Rattle.td_order.proofs.OrderOfPart.{line_up_causal, whole_is_closed, pasts}
 use Rattle.td_order.proofs.SetOfOps.{text_of_set}
 use Rattle.td_machine.specs.Replay.{doc_of}
 use Rattle.td_base.proofs.Searches.{find_one}
+use Rattle.td_base.proofs.Elements.{map_same}
 use Rattle.std.proofs.lemmas.Simd.{map-map}
 use Rattle.td_logs.proofs.WellRooted.{insertion_parts}
 use Rattle.td_logs.specs.Logs.{IsLogOf}
@@ -66,10 +67,6 @@ use Rattle.td_converge.proofs.RowsOrder.{rows_order}
 use Rattle.td_converge.proofs.Sublists.{sub_in, rising_sub, filter_sub, sub_trans, whole_sub}
 use Rattle.std.proofs.lemmas.Option.{same_Some}
 use Rattle.td_order.proofs.Spliced.{order_distinct}
-
-same_map : {X Y : Type 0} (f g : X → Y) (xs : List X) → ((x : X) → In x xs → f x ≡ g x) → map f xs ≡ map g xs
-same_map f g [] h = refl
-same_map f g (x ∷ xs) h = λ i. h x (inl refl) i ∷ same_map f g xs (λ y j. h y (inr j)) i
 
 -- the place of an atom in a run
 place_in : (dot : DotValue) (offset : ℕ) (run : List (List ℕ)) (n : NamedAtom) → In n (run_atoms_from dot offset run)
@@ -341,7 +338,7 @@ module _ (family : Family) (c : IsConsistent family) where
       -- the atoms of a log's live rows are those that its operations show
       pub atoms_shown : live_atoms (doc_of log) ≡ shown_atoms log
       atoms_shown =
-          same_map (λ (r : DocRow). r.atom) (λ (r : DocRow). atom_of log (row_id r)) (live_rows (doc_of log))
+          map_same (λ (r : DocRow). r.atom) (λ (r : DocRow). atom_of log (row_id r)) (live_rows (doc_of log))
           (λ r i. atom_told log l r (In-filter is_live r (doc_of log) i).0)
           ∙ (sym (map-map (atom_of log) row_id (live_rows (doc_of log))) ∙ ap (map (atom_of log)) live_ids)
 

@@ -1,8 +1,9 @@
 -- Each step of a link keeps its rule. A step that changes one pass keeps what the others know, since they may do what
 -- it may not.
-use Rattle.std.proofs.Common.{◌≡◌, ◌≢◌, ℕ, zero, suc, true, false, true≢false, List, [], ◌∷◌, ◌++◌, length, set, sym, refl, ap, ◌∙◌, subst, ⊎_elim, append_assoc, append-nil, arith, Option, Some, None}
+use Rattle.std.proofs.Common.{◌≡◌, ◌≢◌, ℕ, zero, suc, true, false, true≢false, List, [], ◌∷◌, ◌++◌, length, set, sym, refl, ap, ◌∙◌, subst, ⊎_elim, append_assoc, append-nil, arith, Option, None}
 use Rattle.std.specs.Prelude.{All}
 use Rattle.std.proofs.lemmas.List.Elements.{All-nil, All-push, All-head, All-tail}
+use Rattle.std.proofs.lemmas.Option.{none-some}
 use mathlib.Core.Option.{some, some-ne-none}
 use lib.ListN.{get_elem?}
 use Rattle.crossbeam_queue.specs.Fifo.{Pushes, Pops, Forks, Merges, Learns}
@@ -10,9 +11,6 @@ use Rattle.crossbeam_queue.proofs.Lists.{at_set, at_snoc}
 use Rattle.td_link.specs.declared.log.Log.{Log}
 use Rattle.td_link.specs.Ends.{FitsMark}
 use Rattle.td_link.specs.Rule.{log, Knows, Linked}
-
-none_some : {A : Type 0} (x : A) → None ≡ Some x → ⊥
-none_some x e = cc
 
 -- where what was sent is nothing, the queue holds nothing
 nothing_left : {T : Type 0} (sent taken items : List T) → sent ≡ taken ++ items → sent ≡ [] → items ≡ []
@@ -56,7 +54,7 @@ module _ {T M : Type 0} where
           sent = [];
           taken = [];
           whole = refl;
-          fit = ((λ m is. absurd (none_some m is)), λ _. refl);
+          fit = ((λ m is. absurd (none-some m is)), λ _. refl);
           known = every_set (Knows 0 0 None [] []) (first ∷ []) 0 first ((λ _. (refl, refl, refl)), λ _. (refl, refl, refl))
               (λ j u other e. absurd (other (at_end [] _ u j (λ x. some-ne-none u (sym x)) e)));
         }

@@ -16,6 +16,7 @@ use Rattle.td_machine.specs.History.{Family, IsConsistent, IsOpOf, History, hist
 use Rattle.td_machine.specs.Machine.{start}
 use Rattle.td_base.proofs.Elements.{In-behind, cut_at, CutAt}
 use Rattle.td_base.proofs.Equals.{same_dot_refl, same_dot_true}
+use Rattle.td_base.proofs.Lists.{In-back}
 use Rattle.td_machine.proofs.Family.{not_older, unique, not_own_past, past_of_past, made_at, older_in_past}
 use Rattle.td_logs.proofs.Moments.{log_causal, past_in_older}
 use Rattle.td_order.specs.Causal.{IsWellRooted}
@@ -27,10 +28,6 @@ use Rattle.td_logs.proofs.Fitting.{IsDecisionIn, FitsBody, Fits, fits_back, fitt
 pub back_causal : (n : ℕ) (newer log : List OpValue) → IsInTurn n (newer ++ log) → IsInTurn n log
 back_causal n [] log k = k
 back_causal n (x ∷ newer) log k = back_causal n newer log k.1
-
-in_back : (x : OpValue) (newer log : List OpValue) → In x log → In x (newer ++ log)
-in_back x [] log i = i
-in_back x (y ∷ newer) log i = inr (in_back x newer log i)
 
 in_head : (x : OpValue) (newer log : List OpValue) → In x (newer ++ x ∷ log)
 in_head x [] log = inl refl
@@ -159,7 +156,7 @@ module _ (family : Family) (c : IsConsistent family) where
         some = l.some;
         within = l.within;
         inside =
-            subst (λ (z : List OpValue). In x z) (sym l.is) (in_back x l.newer log i);
+            subst (λ (z : List OpValue). In x z) (sym l.is) (In-back x l.newer log i);
       }
 
   pub tail : (x : OpValue) (log : List OpValue) → IsLogOf family (x ∷ log) → IsLogOf family log

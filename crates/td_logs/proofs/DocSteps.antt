@@ -2,6 +2,7 @@
 use Rattle.std.proofs.Common.{◌≡◌, List, [], ◌∷◌, true, map, Option, Some, None, refl, sym, ap, ◌∙◌, subst, inl, inr, ⊎_elim, true≢false}
 use Rattle.std.specs.Prelude.{IsSome}
 use Rattle.std.specs.Option.{option_map}
+use Rattle.std.proofs.lemmas.Option.{none-some}
 use Rattle.td_base.specs.declared.bit.Bit.{Bit}
 use Rattle.td_base.specs.Value.{AtomIdValue}
 use Rattle.td_base.specs.Lists.{In, Successive}
@@ -50,9 +51,6 @@ some_of : (o : Option DocRow) → IsSome o → (s : DocRow) × (o ≡ Some s)
 some_of None h = absurd (true≢false (sym h))
 some_of (Some s) h = (s, refl)
 
-none_some : (s : DocRow) → None ≡ Some s → ⊥
-none_some s e = cc
-
 pub place_some : (rows : List DocRow) (x : AtomIdValue) (s : DocRow) → find_row x rows ≡ Some s
     → place_of x rows ≡ Some s.path
 place_some rows x s e = ap (option_map (λ (r : DocRow). r.path)) e
@@ -97,7 +95,7 @@ stay_place rows after x st back = at (find_row x rows) (find_row x after) refl r
         let w = found x s after f in
         let q = back s w.0 w.1 in
         let g = row_found rows q.0 x q.1 q.2 in
-        absurd (none_some g.0 (sym e ∙ g.1))
+        absurd (none-some g.0 (sym e ∙ g.1))
 
 abbrev pub live_in : SlotPath → List DocRow → List NamedAtom
 live_in sp rows = map named (live_rows (rows_below rows (Some sp)))
@@ -134,7 +132,7 @@ flat_place rows slot sp x path d e at_slot here holds =
         let q = found x s (flatten_below (Some sp) rows) g in
         absurd (⊎_elim
         (λ (k : In s (array sp (live_in sp rows))). let h = row_found (array sp (live_in sp rows)) s x k q.1 in
-        none_some h.0 (sym f ∙ h.1))
+        none-some h.0 (sym f ∙ h.1))
         (λ (k : In s (rows_beside sp rows)).
         let b = beside sp rows s k in
         let same : s ≡ w.row = same_row rows d.apart s w.row b.0 w.inside (q.1 ∙ sym w.named) in

@@ -107,12 +107,6 @@ begins_from (p ∷ node) more = (λ i. same_pair_refl p i && begins node (node +
 pub below_from : (node path more : Pairs) → path ≡ node ++ more → begins node path ≡ true
 below_from node path more e = subst (λ (z : Pairs). begins node z ≡ true) (sym e) (begins_from node more)
 
-pub same_truth : (a b : Bool) → (a ≡ true → b ≡ true) → (b ≡ true → a ≡ true) → a ≡ b
-same_truth true true f g = refl
-same_truth true false f g = sym (f refl)
-same_truth false true f g = g refl
-same_truth false false f g = refl
-
 -- where the array of an insert hangs
 pub record Hangs (log : List OpValue) (slot : Slot) (sp : SlotPath) : Type 0 where
   pub base : Pairs

@@ -4,6 +4,8 @@ use Rattle.std.specs.Option.{option_to_list}
 use Rattle.td_base.specs.declared.site.TheConstants.{MAX_SITE}
 use Rattle.td_base.specs.Lists.{In}
 use Rattle.td_base.proofs.Lists.{In-front, all_in}
+use Rattle.td_base.proofs.Places.{some_at}
+use Rattle.td_base.proofs.Passing.{zip_left}
 use Rattle.td_op.specs.declared.entry.Entry.{Entry}
 use Rattle.td_op.specs.declared.input.Input.TheVariants.{Take}
 use Rattle.td_op.specs.declared.message.Message.{Message}
@@ -15,7 +17,7 @@ use Rattle.td_meeting.specs.Thin.{is_addressed}
 use Rattle.td_meeting.specs.Takes.{takes_from, IsWelcome, TakesWelcome}
 use Rattle.td_meeting.specs.Peers.{PeerValue, HasTakenOf, Hears, Tells, sent_to}
 use Rattle.td_meeting.specs.Accounts.{Account, IsAccount, WorkersMet, AreSettled, family_of}
-use Rattle.td_meeting.proofs.Rows.{found, history_is, apart, prefix_in, zip_right, zip_left, peer_of}
+use Rattle.td_meeting.proofs.Rows.{history_is, apart, prefix_in, zip_right, peer_of}
 use Rattle.td_meeting.proofs.Messages.{takes_in, welcome_at, told_in, addressed}
 
 -- the worker of a site
@@ -32,7 +34,7 @@ size_is (a ∷ accounts) = ap suc (size_is accounts)
 
 at : (accounts : List Account) (site : ℕ) → AreSettled accounts → 0 < site → site ≤ length accounts → At accounts site
 at accounts site s some within =
-    let f = found accounts (site - 1) (omega (arith, some, within)) in
+    let f = some_at accounts (site - 1) (omega (arith, some, within)) in
     let k = s.sites (site - 1) f.0 f.1 in
     let e : site - 1 + 1 ≡ site = omega (arith, some) in
     record {

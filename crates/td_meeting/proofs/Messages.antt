@@ -4,6 +4,7 @@ use Rattle.std.specs.Option.{option_to_list}
 use Rattle.std.proofs.lemmas.Bool.Decides.{nat_tests}
 use Rattle.td_base.specs.Lists.{In}
 use Rattle.td_base.proofs.Lists.{In-append, In-front, In-back, In-filter}
+use Rattle.td_base.proofs.Searches.{In-take}
 use Rattle.td_op.specs.declared.entry.Entry.{Entry}
 use Rattle.td_op.specs.declared.input.Input.{Input}
 use Rattle.td_op.specs.declared.input.Input.TheVariants.{Take}
@@ -43,12 +44,6 @@ welcome_at site size m [] e back message h is = h.0 message is
 welcome_at site size m (f ∷ front) e back message h is =
     welcome_at site size (step m f.input).machine front e back message h.1 is
 
-in_take : {X : Type 0} (x : X) (k : ℕ) (xs : List X) → In x (take k xs) → In x xs
-in_take x zero xs i = absurd i
-in_take x (suc k) [] i = absurd i
-in_take x (suc k) (y ∷ xs) (inl e) = inl e
-in_take x (suc k) (y ∷ xs) (inr i) = inr (in_take x k xs i)
-
 in_replicate : (n : ℕ) (m n' : Message) → In m (replicate n n') → m ≡ n'
 in_replicate zero m n' i = absurd i
 in_replicate (suc n) m n' (inl e) = e
@@ -82,7 +77,7 @@ told_in loss number dealt again sent message i =
     (λ (k : In message (thin loss 1 (messages_to number (take dealt sent)))).
     let f = In-filter (is_addressed number) message (take dealt sent)
     (in_thin loss 1 message (messages_to number (take dealt sent)) k) in
-    (in_take message dealt sent f.0, f.1))
+    (In-take message dealt sent f.0, f.1))
     (λ (k : In message (messages_to number (sent_once again dealt sent))).
     let f = In-filter (is_addressed number) message (sent_once again dealt sent) k in
     (in_once again dealt message sent f.0, f.1))

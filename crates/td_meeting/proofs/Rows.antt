@@ -1,5 +1,5 @@
 -- Rows of workers, and lists.
-use Rattle.std.proofs.Common.{◌≡◌, ◌≢◌, ◌⊎◌, ◌<◌, ◌≤◌, ◌+◌, ℕ, zero, suc, List, [], ◌∷◌, true, not, nat_eq, length, map, slice_get, Some, refl, sym, ap, subst, inl, inr, ⊎_elim, arith}
+use Rattle.std.proofs.Common.{◌≡◌, ◌≢◌, ◌⊎◌, ◌<◌, ◌≤◌, ◌+◌, ℕ, zero, suc, List, [], ◌∷◌, true, not, nat_eq, map, slice_get, Some, refl, sym, ap, subst, inl, inr, ⊎_elim, arith}
 use Rattle.std.specs.List.{AllZip, range_with_len}
 use Rattle.std.proofs.lemmas.Bool.Decides.{nat_tests}
 use mathlib.Core.List.{IsPrefix}
@@ -10,11 +10,6 @@ use Rattle.td_base.proofs.Elements.{In-slice_get}
 use Rattle.td_machine.specs.History.{history_at}
 use Rattle.td_meeting.specs.Peers.{PeerValue}
 use Rattle.td_meeting.specs.Accounts.{Account, others, family_of}
-
-pub found : {X : Type 0} (xs : List X) (k : ℕ) → k < length xs → (x : X) × (slice_get xs k ≡ Some x)
-found [] k h = absurd (omega (arith, h))
-found (x ∷ xs) zero h = (x, refl)
-found (x ∷ xs) (suc k) h = found xs k (omega (arith, h))
 
 pub history_is : (accounts : List Account) (k : ℕ) (a : Account) → slice_get accounts k ≡ Some a
     → history_at (family_of accounts) k ≡ a.entries
@@ -40,14 +35,6 @@ zip_right R [] ys x h i = absurd i
 zip_right R (z ∷ xs) [] x h i = absurd h
 zip_right R (z ∷ xs) (w ∷ ys) x h (inl e) = (w, inl refl, subst (λ v. R v w) (sym e) h.0)
 zip_right R (z ∷ xs) (w ∷ ys) x h (inr i) = let r = zip_right R xs ys x h.1 i in (r.0, inr r.1, r.2)
-
-pub zip_left : {X Y : Type 0} (R : X → Y → Type 0) (xs : List X) (ys : List Y) (y : Y) → AllZip R xs ys → In y ys
-    → (x : X) × In x xs × R x y
-zip_left R [] [] y h i = absurd i
-zip_left R [] (w ∷ ys) y h i = absurd h
-zip_left R (z ∷ xs) [] y h i = absurd i
-zip_left R (z ∷ xs) (w ∷ ys) y h (inl e) = (z, inl refl, subst (λ v. R z v) (sym e) h.0)
-zip_left R (z ∷ xs) (w ∷ ys) y h (inr i) = let r = zip_left R xs ys y h.1 i in (r.0, inr r.1, r.2)
 
 -- each other site has a peer
 
