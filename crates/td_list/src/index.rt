@@ -13,6 +13,9 @@ use std::alloc::Global;
 use std::marker::Model;
 use td_base::Memory;
 
+/// So many items stand in a chunk at most, but for those of a piece.
+pub const FULL: usize = 64;
+
 /// The parts of a list of chunks.
 #[derive(Drop)]
 pub struct Index<S: Sequence> {
@@ -389,6 +392,3 @@ fn is_same(a: Item, b: Item) -> bool
 {
     a == b
 }
-
-/// So many items stand in a chunk at most, but for those of a piece.
-pub const FULL: usize = 64;
