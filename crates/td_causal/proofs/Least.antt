@@ -1,6 +1,6 @@
 -- The ready operation of a site, which is the next one there, and the least of all sites.
 use Rattle.std.proofs.Common.{◌≡◌, ◌≤◌, ◌<◌, ◌+◌, ◌⊎◌, ◌==◌, ◌&&◌, ℕ, List, [], ◌∷◌, length, Bool, true, false, not, find, filter, if◌then◌else◌, nat_le, Option, Some, None, IfSome, is_some, option_map, refl, sym, ap, ◌∙◌, subst, inl, inr, ⊎_elim, true≢false, arith}
-use Rattle.std.proofs.lemmas.Bool.{and_parts, and_from, eqb-true, eq-eqb, leb-true, le-leb, false_from_ne_true}
+use Rattle.std.proofs.lemmas.Bool.{and_parts, and_from, eqb-true, eq-eqb, leb-true, le-leb, false_from_ne_true, not-true}
 use Rattle.std.proofs.lemmas.Bool.Decides.{nat_tests}
 use Rattle.std.proofs.lemmas.Map.Entries.{option_filter}
 use borrow.Author.Count.{below_more}
@@ -26,10 +26,6 @@ use Rattle.td_causal.proofs.Entries.{Rising, later_other}
 
 -- ---- what is ready is the next of its site
 
-of_not : (b : Bool) → not b ≡ true → b ≡ false
-of_not true e = sym e
-of_not false e = refl
-
 above : (m n : ℕ) → nat_le m n ≡ false → m ≤ n + 1 → m ≡ n + 1
 above m n h k = grind (arith, nat_tests)
 
@@ -50,7 +46,7 @@ pub ready_is_next : (have : List ℕ) (x : OpValue) → IsOp x → is_ready have
     → x.dot.seq ≡ vector_get have x.dot.site + 1
 ready_is_next have x op h =
     let p = and_parts (not (is_had have x)) (vector_covers have x.deps) h in
-    above x.dot.seq (vector_get have x.dot.site) (of_not (is_had have x) p.0) (covered_before have x op p.1)
+    above x.dot.seq (vector_get have x.dot.site) (not-true (is_had have x) p.0) (covered_before have x op p.1)
 
 -- the dot after those of a site that a vector has
 abbrev next_dot : ℕ → List ℕ → DotValue

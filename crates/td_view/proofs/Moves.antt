@@ -1,5 +1,6 @@
 -- Each step keeps the tie between the text that is shown and its history.
-use Rattle.std.proofs.Common.{◌≡◌, ◌≢◌, ℕ, zero, suc, List, [], ◌∷◌, ◌++◌, set, sym, refl, ap, ◌∙◌, subst, ⊎_elim, Some, None}
+use Rattle.std.proofs.Common.{◌≡◌, ◌≢◌, ℕ, zero, suc, List, [], ◌∷◌, ◌++◌, set, sym, refl, ap, ◌∙◌, subst, ⊎_elim, Some}
+use Rattle.std.proofs.lemmas.Option.{none-some}
 use mathlib.Core.Option.{some, some-ne-none, some-injective}
 use lib.ListN.{get_elem?}
 use Rattle.crossbeam_utils.specs.Register.{Admits, TurnsAt, Turns, Forks, Merges}
@@ -9,15 +10,12 @@ use Rattle.td_view.specs.declared.table.Named.{Named}
 use Rattle.td_view.specs.Deeds.{Past}
 use Rattle.td_view.specs.Tied.{Stands, Tied, nobody, given_more}
 
-none_some : (p : Past) → None ≡ Some p → ⊥
-none_some p e = cc
-
 -- a seat knows no other history than that of x
 abbrev Same : Shown → Named → Type 0
 Same x v = (p : Past) → v.of ≡ Some p → p.book ≡ x.past.book
 
 same_none : (x : Shown) → Same x nobody
-same_none x p e = absurd (none_some p e)
+same_none x p e = absurd (none-some p e)
 
 abbrev Every : Shown → List Named → Type 0
 Every x views = (seat : ℕ) (v : Named) → get_elem? views seat ≡ some v → Same x v

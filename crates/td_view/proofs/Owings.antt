@@ -1,5 +1,6 @@
 -- What a writer owes: what the word says, and how it comes about.
 use Rattle.std.proofs.Common.{◌≡◌, ◌≤◌, ℕ, ◌+◌, List, [], ◌∷◌, ◌++◌, length, take, Some, sym, ◌∙◌, ap}
+use Rattle.std.proofs.lemmas.Option.{same_Some}
 use Rattle.td_op.specs.declared.change.Change.{Change}
 use Rattle.td_view.specs.declared.publish.Publish.{Publish}
 use Rattle.td_view.specs.Publishes.{publish, changed_all}
@@ -12,9 +13,6 @@ pub what_is_owed : (w : WriterValue) (upto : ℕ) (changes : List Change) → St
 unfolding StillOwes
 what_is_owed w upto changes owes = owes
 
-same_some : {A : Type 0} (a b : A) → Some a ≡ Some b → a ≡ b
-same_some a b e = cc
-
 -- the publish is entered, as the next of so many, and so much of it is given
 pub owes_entered : (w : WriterValue) (next : Past) (upto count : ℕ) (changes : List Change) (atoms : List (List ℕ))
     → w.owed ≡ Some next → next.log ≡ w.publishes ++ publish upto (changed_all changes atoms) 0 ∷ [] → w.shown.atoms ≡ atoms
@@ -22,7 +20,7 @@ pub owes_entered : (w : WriterValue) (next : Past) (upto count : ℕ) (changes :
     → StillOwes w upto changes
 unfolding StillOwes
 owes_entered w next upto count changes atoms owed log shown counted pending few o is =
-    let one : next ≡ o = same_some next o (sym owed ∙ is) in
+    let one : next ≡ o = same_Some next o (sym owed ∙ is) in
     let entry : publish upto (changed_all changes atoms) 0 ≡ publish upto (changed_all changes w.shown.atoms) 0 =
     ap (λ (xs : List (List ℕ)). publish upto (changed_all changes xs) 0) (sym shown) in (
       ap (λ (q : Past). q.log) (sym one) ∙ (log ∙ ap (λ (p : Publish). w.publishes ++ p ∷ []) entry),
