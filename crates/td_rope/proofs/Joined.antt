@@ -2,8 +2,8 @@
 use Rattle.std.proofs.Common.{◌≡◌, ◌<◌, ◌≤◌, ◌+◌, ◌-◌, ◌++◌, ◌∷◌, [], ℕ, zero, suc, List, length, take, drop, set, get_or, refl, sym, ap, ◌∙◌, arith, append_assoc, length-append, length-drop, add-one}
 use Rattle.std.specs.Prelude.{slice_get, slice_range, insert, remove, Some}
 use Rattle.std.specs.List.{concat, flat_map, insert_slice}
-use Rattle.std.proofs.lemmas.List.Folds.{concat-append}
-use Rattle.std.proofs.lemmas.List.{take-append-drop, take-append-le, drop-append-le, take_more_set, take_more, drop-set-lt, set_split, append-nil, drop_all, length-take-le}
+use Rattle.std.proofs.lemmas.List.Folds.{concat-append, length-flat_map-take}
+use Rattle.std.proofs.lemmas.List.{take-append-drop, take-append-le, drop-append-le, take_more_set, take_more, drop-set-lt, set_split, append-nil, drop_all, length-take-le, nil_from_length}
 use Rattle.std.proofs.lemmas.Option.{slice_get-get_or, get_or_from_slice_get}
 use Rattle.std.proofs.lemmas.Grind.{flat_map-append}
 use Rattle.std.proofs.lemmas.List.{get_or-append-add, get_or_append_left}
@@ -41,10 +41,6 @@ get_within a m b r i x is within got =
     let same : get_or all i x ≡ x =
     ap (λ k. get_or all k x) (sym is) ∙ get_or-append-add a (m ++ b) r x ∙ get_or_append_left m b x r within ∙ get_or_from_slice_get m r x x got in
     slice_get-get_or all i x (omega (arith, is, within, length-append a (m ++ b), length-append m b)) ∙ ap Some same
-
-no_items : {X : Type 0} (xs : List X) → length xs ≡ 0 → xs ≡ []
-no_items [] e = refl
-no_items (x ∷ xs) e = absurd (omega (arith, e))
 
 pub length_removed : {X : Type 0} (xs : List X) (k : ℕ) → k < length xs → length (remove xs k) ≡ length xs - 1
 length_removed xs k lt =
@@ -124,17 +120,8 @@ empty_part f ps i d lt this none =
     let a : List _ = flat_map f (take i ps) in
     let b : List _ = flat_map f (drop (suc i) ps) in
     flat_map-append f (take i ps) (drop (suc i) ps)
-    ∙ ap (λ m. a ++ (m ++ b)) (sym (no_items (f d) none) ∙ ap f this)
+    ∙ ap (λ m. a ++ (m ++ b)) (sym (nil_from_length (f d) none) ∙ ap f this)
     ∙ sym (at_part f ps i d lt)
-
--- a part has no more than all
-pub part_within : {S X : Type 0} (f : S → List X) (ps : List S) (i : ℕ) (d : S) → i < length ps
-    → length (flat_map f (take i ps)) + length (f (get_or ps i d)) ≤ length (flat_map f ps)
-part_within f ps i d lt =
-    let a : List _ = flat_map f (take i ps) in
-    let m : List _ = f (get_or ps i d) in
-    let b : List _ = flat_map f (drop (suc i) ps) in
-    omega (arith, ap length (at_part f ps i d lt), length-append a (m ++ b), length-append m b)
 
 -- one part more
 pub joined_more : {S X : Type 0} (f : S → List X) (ps : List S) (i : ℕ) (d : S) → i < length ps → d ≡ get_or ps i d
@@ -153,7 +140,7 @@ pub more_within : {S X : Type 0} (f : S → List X) (ps : List S) (i : ℕ) (d :
     → start ≡ length (flat_map f (take i ps)) → start + length (f d) ≤ length (flat_map f ps)
 more_within f ps i d start lt this is =
     let has : length (f d) ≡ length (f (get_or ps i d)) = ap (λ p. length (f p)) this in
-    omega (arith, is, has, part_within f ps i d lt)
+    omega (arith, is, has, length-flat_map-take f ps i d lt)
 
 -- ---- what a row keeps
 

@@ -11,6 +11,7 @@ use Rattle.std.proofs.Math.Seq.{take-add, take-append_seam, drop-append_seam, dr
 use Rattle.td_base.specs.Atom.{IsAtom}
 use Rattle.td_base.specs.Run.{pieces}
 use Rattle.td_base.proofs.RunPieces.{length_concat, piece_bytes, piece_lengths, pieces_again}
+use Rattle.td_base.proofs.RunLemmas.{front_short}
 use Rattle.td_rope.specs.ChunkParts.{IsChunkParts}
 use Rattle.td_rope.proofs.Joined.{length_put, length_removed, no_range, range_behind}
 
@@ -41,10 +42,6 @@ bytes_before atoms i =
 pub bytes_from : (atoms : List (List ℕ)) (i : ℕ) → drop (length (concat (take i atoms))) (concat atoms) ≡ concat (drop i atoms)
 bytes_from atoms i =
     ap (drop (length (concat (take i atoms)))) (parted atoms i) ∙ drop-append_seam (concat (take i atoms)) (concat (drop i atoms))
-
-pub start_within : (atoms : List (List ℕ)) (i : ℕ) → length (concat (take i atoms)) ≤ length (concat atoms)
-start_within atoms i =
-    omega (arith, ap length (parted atoms i), length-append (concat (take i atoms)) (concat (drop i atoms)))
 
 -- the lengths before a place come to where it starts
 pub start_is : (lens bytes : List ℕ) (i : ℕ) → sum lens ≡ length bytes → sum (take i lens) ≡ length (concat (take i (pieces lens bytes)))
@@ -140,7 +137,7 @@ stretch_parts lens bytes lens' bytes' from to parts lens_are bytes_are =
 pub ends_within : (lens bytes : List ℕ) (now : List (List ℕ)) (to b : ℕ) → sum lens ≡ length bytes → pieces lens bytes ≡ now
     → b ≡ length (concat (take to now)) → b ≤ length bytes
 ends_within lens bytes now to b whole is b_is =
-    omega (arith, b_is, start_within now to, ap (λ (atoms : List (List ℕ)). length (concat atoms)) is, ap length (piece_bytes lens bytes whole))
+    omega (arith, b_is, front_short now to, ap (λ (atoms : List (List ℕ)). length (concat atoms)) is, ap length (piece_bytes lens bytes whole))
 
 -- the two parts of a list
 pub halves : {X : Type 0} (xs : List X) (cut end : ℕ) → cut ≤ end → end ≡ length xs → slice_range xs 0 cut ++ slice_range xs cut end ≡ xs

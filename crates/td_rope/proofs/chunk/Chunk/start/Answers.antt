@@ -3,7 +3,8 @@ use Rattle.std.specs.List.{concat}
 use Rattle.std.proofs.lemmas.List.{length-take-le}
 use Rattle.td_base.specs.Run.{pieces}
 use Rattle.td_base.proofs.RunPieces.{piece_bytes}
-use Rattle.td_rope.proofs.Pieces.{count_pieces, start_is, start_within}
+use Rattle.td_base.proofs.RunLemmas.{front_short}
+use Rattle.td_rope.proofs.Pieces.{count_pieces, start_is}
 use Rattle.td_rope.proofs.chunk.Chunk.start.Goals as goal
 
 pub slice_bounds-total-end : goal.slice_bounds-total-end
@@ -15,7 +16,7 @@ pub total-requires : goal.total-requires
 total-requires c =
     let lens = c.self.inside.lengths.items in
     let bytes = c.self.inside.bytes.items in
-    let within = start_within (pieces lens bytes) c.args.index in
+    let within = front_short (pieces lens bytes) c.args.index in
     omega (
       arith,
       ap (λ (ls : List ℕ). sum (take c.args.index ls)) c.deref.ensures.value,

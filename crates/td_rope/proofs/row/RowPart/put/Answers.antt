@@ -1,8 +1,9 @@
 use Rattle.std.proofs.Common.{◌≡◌, ◌∙◌, List, sym, ap, subst, length, arith}
 use Rattle.std.specs.List.{flat_map}
+use Rattle.std.proofs.lemmas.List.Folds.{length-flat_map-take}
 use Rattle.td_rope.specs.Seats.{IsSeat}
 use Rattle.td_rope.proofs.Results.{on_err}
-use Rattle.td_rope.proofs.Joined.{part_within, same_part, put_row}
+use Rattle.td_rope.proofs.Joined.{same_part, put_row}
 use Rattle.td_rope.proofs.row.RowPart.put.Goals as goal
 
 pub put-requires-clause-few : goal.put-requires-clause-few
@@ -14,7 +15,7 @@ put-requires-clause-few g c =
     let all : flat_map f ps ≡ c.args.self.now = c.make_room.ensures.same ∙ c.self.view_is in
     let seat = subst (λ (q : List _). IsSeat f q c.args.index s.part s.index) c.deref.ensures.value c.find-seat.ensures in
     let has : length (f d) ≡ _ = ap (λ p. length (f p)) c.index_mut.ensures.value in
-    omega (arith, has, part_within f ps s.part d seat.part_within, ap length all, c.requires.few)
+    omega (arith, has, length-flat_map-take f ps s.part d seat.part_within, ap length all, c.requires.few)
 
 pub invariant_of-self-in_err-put : goal.invariant_of-self-in_err-put
 invariant_of-self-in_err-put g c =
