@@ -11,6 +11,7 @@ use Rattle.std.proofs.lemmas.Iterator.Adapters.{position_from-zero}
 use Rattle.std.proofs.Math.Nat.{two-pow-succ}
 use Rattle.td_base.specs.declared.bit.Bit.{Bit}
 use Rattle.td_base.specs.declared.bit.Bit.TheVariants.{Left, Right}
+use Rattle.td_base.proofs.Elements.{get_front}
 use Rattle.td_path.specs.Shape.{Bits, shape_upto, shape, same_bits, shape_index, bits_cmp}
 
 abbrev pub below : Bit → List Bits → List Bits
@@ -65,11 +66,6 @@ shape_length k = length_upto k k (omega arith)
 
 -- which bits an atom has
 
-get_in_front : (xs ys : List Bits) (i : ℕ) → i < length xs → slice_get (xs ++ ys) i ≡ slice_get xs i
-get_in_front [] ys i h = absurd (omega arith)
-get_in_front (x ∷ xs) ys zero h = refl
-get_in_front (x ∷ xs) ys (suc i) h = get_in_front xs ys i (omega arith)
-
 get_in_back : (xs ys : List Bits) (i j : ℕ) → i ≡ length xs + j → slice_get (xs ++ ys) i ≡ slice_get ys j
 get_in_back [] ys i j h = ap (slice_get ys) (omega arith)
 get_in_back (x ∷ xs) ys zero j h = absurd (omega arith)
@@ -81,7 +77,7 @@ left_count k = length-map (shape (k / 2)) (λ (bits : Bits). Left ∷ bits) ∙ 
 pub at_left : (k i : ℕ) → i < k / 2 → slice_get (shape k) i ≡ option_map (λ (bits : Bits). Left ∷ bits) (slice_get (shape (k / 2)) i)
 at_left k i h =
     ap (λ (xs : List Bits). slice_get xs i) (shape_top k (omega arith))
-    ∙ get_in_front (below Left (shape (k / 2))) ([] ∷ below Right (shape (after k))) i (omega (arith, left_count k))
+    ∙ get_front (below Left (shape (k / 2))) ([] ∷ below Right (shape (after k))) i (omega (arith, left_count k))
     ∙ slice_get-map (λ (bits : Bits). Left ∷ bits) (shape (k / 2)) i
 
 pub at_middle : (k i : ℕ) → 0 < k → i ≡ k / 2 → slice_get (shape k) i ≡ Some []
