@@ -3,11 +3,12 @@ use Rattle.std.proofs.Common.{◌≡◌, ◌≤◌, ◌+◌, ◌-◌, ◌++◌, 
 use Rattle.std.specs.List.{AllByRecursion}
 use Rattle.std.proofs.Math.Dec.{eqb-suc-suc, eqb-zero-suc, eqb-suc-zero}
 use Rattle.std.proofs.lemmas.Option.{slice_get_within}
+use Rattle.td_base.proofs.Places.{get_more}
+use Rattle.td_base.proofs.Passing.{all_append}
 use mathlib.Core.List.{IsPrefix}
 use Rattle.td_op.specs.declared.entry.Entry.{Entry}
 use Rattle.td_op.specs.declared.input.Input.TheVariants.{Local}
 use Rattle.td_machine.specs.History.{History}
-use Rattle.td_site.proofs.Lists.{all_both}
 use Rattle.td_line.specs.declared.ask.Ask.{Ask}
 use Rattle.td_line.specs.declared.answer.Answer.{Answer}
 use Rattle.td_line.specs.Calls.{entry_at, AreRecorded, answers_at, local_in, local_of, local_at, OnlyLocals, IsDone}
@@ -16,11 +17,6 @@ abbrev pub entry_of : Ask → Answer → Entry
 entry_of q a = record { input = Local q.request; reply = a.reply }
 
 -- ---- entries
-
-get_more : (old more : History) (k : ℕ) (e : Entry) → slice_get old k ≡ Some e → slice_get (old ++ more) k ≡ Some e
-get_more [] more k e h = absurd (cc h)
-get_more (x ∷ old) more zero e h = h
-get_more (x ∷ old) more (suc k) e h = get_more old more k e h
 
 pub entry_more : (old more : History) (k : ℕ) (e : Entry) → entry_at old k ≡ Some e → entry_at (old ++ more) k ≡ Some e
 entry_more old more zero e h = absurd (cc h)
@@ -196,7 +192,7 @@ only_then old now new a b =
     record {
       more = a.more ++ b.more;
       added = b.added ∙ ap (λ (w : History). w ++ b.more) a.added ∙ append_assoc old a.more b.more;
-      local = all_both (λ (e : Entry). local_in e.input ≡ 1) a.more b.more a.local b.local;
+      local = all_append (λ (e : Entry). local_in e.input ≡ 1) a.more b.more a.local b.local;
     }
 
 pub only_done : (old : History) (before : List Answer) (ask : Ask) (new : History) (after : List Answer)

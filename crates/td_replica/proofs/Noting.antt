@@ -4,8 +4,6 @@ use Rattle.std.proofs.lemmas.Bool.{leb-true}
 use Rattle.std.specs.Prelude.{IsTrue, IfSome, IsSome, slice_get}
 use Rattle.std.specs.List.{AllByRecursion, filter_map, cons_option}
 use Rattle.std.proofs.lemmas.List.{length-set}
-use Rattle.std.proofs.lemmas.Option.{slice_get_within}
-use Rattle.td_base.proofs.Elements.{get_front}
 use Rattle.std.specs.Option.{option_map, option_and_then, is_some}
 use Rattle.td_base.specs.Value.{DotValue}
 use Rattle.td_base.specs.Lists.{In}
@@ -26,6 +24,7 @@ use Rattle.td_causal.proofs.Kept.{All-others_than, All-put_in_order, ops-others_
 use Rattle.td_machine.specs.Ready.{without}
 use Rattle.td_doc.specs.Document.{DocRow}
 use Rattle.td_base.proofs.Lists.{all_in}
+use Rattle.td_base.proofs.Places.{get_more}
 use Rattle.td_vote.specs.Commits.{in_order}
 use Rattle.td_vote.specs.Holds.{HoldsValue}
 use Rattle.td_coord.specs.Tally.{TallyValue}
@@ -141,10 +140,6 @@ module _ (log : List OpValue) (x : OpValue) (new : IsNewIn log x) where
   named_more named u y (inr i) = still_named (committed y.body) (named y i)
 
 -- ---- what waits stays stored
-
-get_more : (ops more : List OpValue) (k : ℕ) (x : OpValue) → slice_get ops k ≡ Some x
-    → slice_get (ops ++ more) k ≡ Some x
-get_more ops more k x e = get_front ops more k (slice_get_within ops k x e) ∙ e
 
 pub stored_more : (ops more : List OpValue) (waiting : List Waiting)
     → AllByRecursion (λ (w : Waiting). slice_get ops w.number ≡ Some w.op) waiting
