@@ -43,9 +43,7 @@ impl Made {
             → option_copied result ≡ made_deps all dot }
     {
         let place = dot.site.place();
-        match self.sites.get(place) {
-            Some(counted) => counted.deps(dot.seq),
-            None => None,
-        }
+        let counted = self.sites.get(place)?;
+        counted.deps(dot.seq)
     }
 }
