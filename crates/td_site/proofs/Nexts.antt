@@ -3,6 +3,7 @@ use Rattle.std.proofs.Common.{◌≡◌, ◌<◌, ◌++◌, List, [], ◌∷◌,
 use Rattle.td_base.proofs.Equals.{same_dot_refl}
 use Rattle.td_base.specs.Lists.{In}
 use Rattle.td_base.proofs.Lists.{In-filter}
+use Rattle.td_base.proofs.Passing.{all_append, filter_fewer}
 use Rattle.td_path.specs.declared.slot.Slot.{Slot}
 use Rattle.td_op.specs.declared.input.Input.TheVariants.{Next}
 use Rattle.td_op.specs.declared.reply.Why.{Why}
@@ -18,7 +19,6 @@ use Rattle.td_machine.proofs.StepKinds.{least_in}
 use Rattle.td_replica.specs.Replica.{ReplicaValue, after_step, is_idle}
 use Rattle.td_site.specs.Sites.{SiteValue}
 use Rattle.td_site.specs.Later.{IsNext, OnlyNexts}
-use Rattle.td_site.proofs.Lists.{all_both, filter_fewer}
 
 -- ---- fewer wait
 
@@ -73,7 +73,7 @@ nexts_then a b c h k =
     record {
       more = h.more ++ k.more;
       goes_on = sym (append_assoc a h.more k.more) ∙ ap (λ (w : History). w ++ k.more) h.goes_on ∙ k.goes_on;
-      nexts = all_both IsNext h.more k.more h.nexts k.nexts;
+      nexts = all_append IsNext h.more k.more h.nexts k.nexts;
     }
 
 pub nexts_one : (r s : ReplicaValue) → not (is_idle (step r.machine Next).reply) ≡ true → s ≡ after_step Next r
