@@ -8,6 +8,7 @@ use Rattle.td_path.specs.Infix.{Pair, Pairs}
 use Rattle.td_path.specs.declared.slot.Slot.{Slot}
 use Rattle.td_path.specs.declared.slot.Slot.TheVariants.{Root, At}
 use Rattle.td_base.proofs.Equals.{same_bit_true, same_bit_refl, same_id_true, same_id_refl}
+use Rattle.td_base.proofs.Elements.{same_head, same_tail}
 use Rattle.td_logs.specs.Places.{passes, slot_holds}
 
 pub same_id_from : (x y : AtomIdValue) → x ≡ y → same_id x y ≡ true
@@ -75,20 +76,14 @@ pub data TwoSlots (x : AtomIdValue) (b : Bit) (y : AtomIdValue) (c : Bit) (path 
   first_above : Above x b y path → TwoSlots x b y c path
   second_above : Above y c x path → TwoSlots x b y c path
 
-head_same : (u v : Pair) (p q : Pairs) → u ∷ p ≡ v ∷ q → u ≡ v
-head_same u v p q e = cc
-
-tail_same : (u v : Pair) (p q : Pairs) → u ∷ p ≡ v ∷ q → p ≡ q
-tail_same u v p q e = cc
-
 -- y comes after x's pair
 next_above : (x : AtomIdValue) (s b : Bit) (n : AtomIdValue) (r f : Pairs) (t : Bit) (y : AtomIdValue) (m : Pair)
     (q : Pairs) → (b, n) ∷ r ≡ f ++ (t, y) ∷ m ∷ q → passes x b ((s, x) ∷ f ++ (t, y) ∷ []) ≡ true
 next_above x s b n r [] t y m q e =
-    let k : b ≡ t = ap (λ (z : Pair). z.0) (head_same (b, n) (t, y) r (m ∷ q) e) in
+    let k : b ≡ t = ap (λ (z : Pair). z.0) (same_head (b, n) r (t, y) (m ∷ q) e) in
     subst (λ z. passes x b ((s, x) ∷ (z, y) ∷ []) ≡ true) k (passes_from x b [] s y [])
 next_above x s b n r (u ∷ f) t y m q e =
-    let k : b ≡ u.0 = ap (λ (z : Pair). z.0) (head_same (b, n) u r _ e) in
+    let k : b ≡ u.0 = ap (λ (z : Pair). z.0) (same_head (b, n) r u _ e) in
     subst (λ z. passes x b ((s, x) ∷ (z, u.1) ∷ f ++ (t, y) ∷ []) ≡ true) k
     (passes_from x b [] s u.1 (f ++ (t, y) ∷ []))
 
@@ -115,12 +110,12 @@ two_at : (x : AtomIdValue) (b : Bit) (y : AtomIdValue) (c : Bit) (f : Pairs) (s 
     (g : Pairs) (t : Bit) (m : AtomIdValue) (q : Pairs)
     → f ++ (s, x) ∷ (b, n) ∷ r ≡ g ++ (t, y) ∷ (c, m) ∷ q → TwoSlots x b y c (f ++ (s, x) ∷ (b, n) ∷ r)
 two_at x b y c [] s n r [] t m q e =
-    let h = head_same (s, x) (t, y) _ _ e in
-    let k = head_same (b, n) (c, m) _ _ (tail_same (s, x) (t, y) _ _ e) in
+    let h = same_head (s, x) _ (t, y) _ e in
+    let k = same_head (b, n) _ (c, m) _ (same_tail (s, x) _ (t, y) _ e) in
     same_slots (ap (λ (z : Pair). z.1) h) (ap (λ (z : Pair). z.0) k)
 two_at x b y c [] s n r (v ∷ g) t m q e =
-    let h : (s, x) ≡ v = head_same (s, x) v _ _ e in
-    let k = tail_same (s, x) v ((b, n) ∷ r) (g ++ (t, y) ∷ (c, m) ∷ q) e in
+    let h : (s, x) ≡ v = same_head (s, x) _ v _ e in
+    let k = same_tail (s, x) ((b, n) ∷ r) v (g ++ (t, y) ∷ (c, m) ∷ q) e in
     first_above
     (record {
       front = (s, x) ∷ g;
@@ -132,8 +127,8 @@ two_at x b y c [] s n r (v ∷ g) t m q e =
           next_above x s b n r g t y (c, m) q k;
     })
 two_at x b y c (u ∷ f) s n r [] t m q e =
-    let h : u ≡ (t, y) = head_same u (t, y) _ _ e in
-    let k = tail_same u (t, y) (f ++ (s, x) ∷ (b, n) ∷ r) ((c, m) ∷ q) e in
+    let h : u ≡ (t, y) = same_head u _ (t, y) _ e in
+    let k = same_tail u (f ++ (s, x) ∷ (b, n) ∷ r) (t, y) ((c, m) ∷ q) e in
     second_above
     (record {
       front = u ∷ f;
@@ -146,7 +141,7 @@ two_at x b y c (u ∷ f) s n r [] t m q e =
           (next_above y t c m q f s x (b, n) r (sym k));
     })
 two_at x b y c (u ∷ f) s n r (v ∷ g) t m q e =
-    two_cons u x b y c (f ++ (s, x) ∷ (b, n) ∷ r) (two_at x b y c f s n r g t m q (tail_same u v _ _ e))
+    two_cons u x b y c (f ++ (s, x) ∷ (b, n) ∷ r) (two_at x b y c f s n r g t m q (same_tail u _ v _ e))
 
 pub two_slots : (x : AtomIdValue) (b : Bit) (y : AtomIdValue) (c : Bit) (path : Pairs) → passes x b path ≡ true
     → passes y c path ≡ true → TwoSlots x b y c path

@@ -11,6 +11,7 @@ use Rattle.td_base.specs.Order.{dot_cmp, id_cmp, bit_cmp, dot_lt}
 use Rattle.td_path.specs.Infix.{Pair, Pairs, pair_cmp, path_cmp}
 use Rattle.td_path.proofs.InfixOrder.{path_total, equal_pairs, same_pairs, left_before, right_after}
 use Rattle.td_base.proofs.Orders.{bit_total, less_of}
+use Rattle.td_base.proofs.Elements.{same_head, same_tail}
 use Rattle.td_doc.specs.Document.{DocRow, last_id}
 use Rattle.td_doc.proofs.PutRows.{not_before_itself}
 
@@ -80,19 +81,13 @@ path_case (t ∷ p) (u ∷ path) = case_at t u p path (pair_cmp t u) refl (path_
 
 -- paths that are cut
 
-pub head_pair : (x y : Pair) (xs ys : Pairs) → x ∷ xs ≡ y ∷ ys → x ≡ y
-head_pair x y xs ys e = cc
-
-pub tail_pairs : (x y : Pair) (xs ys : Pairs) → x ∷ xs ≡ y ∷ ys → xs ≡ ys
-tail_pairs x y xs ys e = cc
-
 pub no_pairs : (p : Pairs) (u : Pair) (q : Pairs) → p ++ u ∷ q ≡ [] → ⊥
 no_pairs [] u q h = cc
 no_pairs (z ∷ p) u q h = cc
 
 pub cancel : (p u v : Pairs) → p ++ u ≡ p ++ v → u ≡ v
 cancel [] u v e = e
-cancel (x ∷ p) u v e = cancel p u v (tail_pairs x x _ _ e)
+cancel (x ∷ p) u v e = cancel p u v (same_tail x _ x _ e)
 
 -- the path is that of a node, or of one below it
 abbrev pub IsBelow : Pairs → Pairs → Type 0
@@ -102,13 +97,13 @@ IsBelow node p = (rest : Pairs) × (p ≡ node ++ rest)
 pub fork : (path : Pairs) (t : Pair) (rest node more : Pairs) → path ++ t ∷ rest ≡ node ++ more
     → IsBelow node path ⊎ ((after : Pairs) × (node ≡ path ++ t ∷ after))
 fork [] t rest [] more e = inl ([], refl)
-fork [] t rest (n ∷ node) more e = inr (node, λ i. sym (head_pair t n _ _ e) i ∷ node)
+fork [] t rest (n ∷ node) more e = inr (node, λ i. sym (same_head t _ n _ e) i ∷ node)
 fork (p ∷ path) t rest [] more e = inl (p ∷ path, refl)
 fork (p ∷ path) t rest (n ∷ node) more e =
-    let h = head_pair p n _ _ e in
+    let h = same_head p _ n _ e in
     ⊎_elim (λ (a : IsBelow node path). inl (a.0, λ i. h i ∷ a.1 i))
     (λ (b : (after : Pairs) × (node ≡ path ++ t ∷ after)). inr (b.0, λ i. sym h i ∷ b.1 i))
-    (fork path t rest node more (tail_pairs p n _ _ e))
+    (fork path t rest node more (same_tail p _ n _ e))
 
 -- the identity at a path's end
 pub last_more : (d : AtomIdValue) (p : Pairs) (t : Pair) (rest : Pairs) → last_id d (p ++ t ∷ rest) ≡ last_id t.1 rest

@@ -5,6 +5,7 @@ use Rattle.std.proofs.lemmas.Bool.Decides.{nat_tests}
 use Rattle.std.proofs.lemmas.Option.{same_Some}
 use Rattle.td_base.specs.Lists.{In, Successive}
 use Rattle.td_base.proofs.Lists.{In-filter, In-map}
+use Rattle.td_base.proofs.Elements.{same_head, same_tail}
 use Rattle.td_meeting.specs.Peers.{PeerValue, Met}
 use Rattle.td_meeting.specs.Accounts.{Account, WorkersMet}
 use Rattle.td_meeting.specs.Rows.{MatchesFirsts, AllMatch, rows_of}
@@ -55,12 +56,6 @@ first_left k n =
         above : (a b : ℕ) → b < a → a ≢ b
         above a b h e = absurd (omega (arith, h, e))
 
-pub cons_head : (a b : ℕ) (xs ys : List ℕ) → a ∷ xs ≡ b ∷ ys → a ≡ b
-cons_head a b xs ys e = cc
-
-pub cons_tail : (a b : ℕ) (xs ys : List ℕ) → a ∷ xs ≡ b ∷ ys → xs ≡ ys
-cons_tail a b xs ys e = cc
-
 rest_numbers : (a : Account) (k : ℕ) (ns : List ℕ) → map (λ (p : PeerValue). p.site) a.peers ≡ k ∷ ns
     → map (λ (p : PeerValue). p.site) (without_first a).peers ≡ ns
 rest_numbers a k ns e = at a.peers e
@@ -68,7 +63,7 @@ rest_numbers a k ns e = at a.peers e
     at : (ps : List PeerValue) → map (λ (p : PeerValue). p.site) ps ≡ k ∷ ns
         → map (λ (p : PeerValue). p.site) (drop 1 ps) ≡ ns
     at [] f = absurd (cc f)
-    at (p ∷ ps) f = cons_tail p.site k (map (λ (q : PeerValue). q.site) ps) ns f
+    at (p ∷ ps) f = same_tail p.site (map (λ (q : PeerValue). q.site) ps) k ns f
 
 -- a worker behind the first has a first peer for it, and its others for those behind
 record Behind (k n : ℕ) (a : Account) : Type 0 where
@@ -114,7 +109,7 @@ in_rest : (ps : List PeerValue) (k : ℕ) (ns : List ℕ) (p : PeerValue) → ma
     → In p ps → p.site ≢ k → In p (drop 1 ps)
 in_rest [] k ns p e i other = absurd i
 in_rest (q ∷ ps) k ns p e (inl f) other =
-    absurd (other (ap (λ (x : PeerValue). x.site) f ∙ cons_head q.site k (map (λ (x : PeerValue). x.site) ps) ns e))
+    absurd (other (ap (λ (x : PeerValue). x.site) f ∙ same_head q.site (map (λ (x : PeerValue). x.site) ps) k ns e))
 in_rest (q ∷ ps) k ns p e (inr i) other = i
 
 -- and one that is for the first is the first
@@ -122,7 +117,7 @@ in_first : (ps : List PeerValue) (q : PeerValue) (k n site : ℕ) (p : PeerValue
     → map (λ (x : PeerValue). x.site) (q ∷ ps) ≡ k ∷ others_from (k + 1) n site → In p (q ∷ ps) → p.site ≡ k → p ≡ q
 in_first ps q k n site p e (inl f) is = f
 in_first ps q k n site p e (inr i) is =
-    let tail = cons_tail q.site k (map (λ (x : PeerValue). x.site) ps) (others_from (k + 1) n site) e in
+    let tail = same_tail q.site (map (λ (x : PeerValue). x.site) ps) k (others_from (k + 1) n site) e in
     let j : In p.site (others_from (k + 1) n site) =
     subst (λ (ns : List ℕ). In p.site ns) tail (In-map (λ (x : PeerValue). x.site) p ps i) in
     let f = In-filter (λ (x : ℕ). not (nat_eq x site)) p.site (range_with_len (k + 1) n) j in
@@ -140,7 +135,7 @@ met_firsts k n j site [] (a ∷ accounts) is e h m place b at p q ip ep iq eq = 
 met_firsts k n j site (x ∷ ps) (a ∷ accounts) is e h m zero b at p q ip ep iq eq =
     let same : a ≡ b = same_Some a b at in
     let ha = h zero a refl in
-    let tail = cons_tail x.site j (map (λ (v : PeerValue). v.site) ps) (range_with_len (j + 1) (length accounts)) e in
+    let tail = same_tail x.site (map (λ (v : PeerValue). v.site) ps) j (range_with_len (j + 1) (length accounts)) e in
     let number : p.site ≡ j = ep ∙ ap (λ (c : Account). c.site) (sym same) ∙ ha.0 ∙ zero_right j in
     first a.peers ha.1.numbers m (subst (λ (c : Account). In q c.peers) (sym same) iq) (is_x tail number ip)
   where
@@ -163,8 +158,8 @@ met_firsts k n j site (x ∷ ps) (a ∷ accounts) is e h m zero b at p q ip ep i
         subst (λ (v : PeerValue × PeerValue). Met v.0 v.1) (λ r. (sym ex r, sym ey r)) w.0
 met_firsts k n j site (x ∷ ps) (a ∷ accounts) is e h m (suc place) b at p q ip ep iq eq =
     let hb = h (suc place) b at in
-    let tail = cons_tail x.site j (map (λ (v : PeerValue). v.site) ps) (range_with_len (j + 1) (length accounts)) e in
-    let head = cons_head x.site j (map (λ (v : PeerValue). v.site) ps) (range_with_len (j + 1) (length accounts)) e in
+    let tail = same_tail x.site (map (λ (v : PeerValue). v.site) ps) j (range_with_len (j + 1) (length accounts)) e in
+    let head = same_head x.site (map (λ (v : PeerValue). v.site) ps) j (range_with_len (j + 1) (length accounts)) e in
     met_firsts k n (j + 1) site ps accounts is tail
     (λ place' c f. let g = h (suc place') c f in (g.0 ∙ shift j place', g.1))
     (split a.peers m) place b at p q (behind_x head hb.0 ip) ep iq eq
