@@ -18,6 +18,7 @@ use Rattle.td_path.proofs.InfixOrder.{equal_paths}
 use Rattle.td_base.proofs.Orders.{is_eq_true}
 use Rattle.td_path.proofs.SlotOverlap.{apart_where_no_overlap}
 use Rattle.std.proofs.Math.Bool.{or_comm}
+use Rattle.std.proofs.lemmas.Option.{none-some, same_Some}
 use Rattle.td_doc.specs.Document.{DocRow, last_id, find_row, live_rows, IsDocument}
 use Rattle.td_doc.specs.Slots.{slot_path, rows_below, rows_in_slot, is_within, contains_slot, overlaps}
 use Rattle.td_path.specs.Slot.{same_slot, is_root}
@@ -32,12 +33,6 @@ use Rattle.td_doc.proofs.Flattened.{stays_beside, flatten_document}
 use Rattle.td_doc.proofs.SubtreeRows.{was, find_in, within_is, row_of}
 use Rattle.td_base.proofs.Equals.{same_id_refl}
 use Rattle.td_base.specs.Equality.{same_bit, same_id}
-
-none_some : (s : SlotPath) → None ≡ Some s → ⊥
-none_some s h = cc
-
-same_slot_path : (s t : SlotPath) → Some s ≡ Some t → s ≡ t
-same_slot_path s t h = cc
 
 -- overlap by paths is overlap by identities
 
@@ -60,16 +55,16 @@ module _ (rows : List DocRow) (d : IsDocument rows) where
       (or_cases _ _ h)
 
   contains_at : (x : AtomIdValue) (bit : Bit) (t : Slot) (a b : SlotPath) (o : Option DocRow) → find_row x rows ≡ o → option_map (λ (q : DocRow). Below q.path bit) o ≡ Some a → slot_path rows t ≡ Some b → slot_contains_slot a b ≡ true → contains_slot rows (At x bit) t ≡ true
-  contains_at x bit t a b None e f g h = absurd (none_some a f)
+  contains_at x bit t a b None e f g h = absurd (none-some a f)
   contains_at x bit Root a b (Some r) e f g h =
-      let first = same_slot_path (Below r.path bit) a f in
-      let second = same_slot_path Whole b g in
+      let first = same_Some (Below r.path bit) a f in
+      let second = same_Some Whole b g in
       absurd (true≢false (sym h ∙ (λ i. slot_contains_slot (sym first i) (sym second i))))
   contains_at x bit (At y side) a b (Some r) e f g h = second (find_row y rows) refl g
     where
       second : (o : Option DocRow) → find_row y rows ≡ o → option_map (λ (q : DocRow). Below q.path side) o ≡ Some b → contains_slot rows (At x bit) (At y side) ≡ true
-      second None k l = absurd (none_some b l)
-      second (Some s) k l = contains_by_path x y bit side r s e k ((λ i. slot_contains_slot (same_slot_path (Below r.path bit) a f i) (same_slot_path (Below s.path side) b l i)) ∙ h)
+      second None k l = absurd (none-some b l)
+      second (Some s) k l = contains_by_path x y bit side r s e k ((λ i. slot_contains_slot (same_Some (Below r.path bit) a f i) (same_Some (Below s.path side) b l i)) ∙ h)
 
   contains_path : (s t : Slot) (a b : SlotPath) → slot_path rows s ≡ Some a → slot_path rows t ≡ Some b → slot_contains_slot a b ≡ true → contains_slot rows s t ≡ true
   contains_path Root t a b e f h = or_left (same_slot Root t || true) _ (or_right (same_slot Root t) true refl)

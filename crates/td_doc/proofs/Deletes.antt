@@ -7,7 +7,7 @@ use Rattle.std.specs.declared.cmp.Ordering.TheVariants.{Less, Equal, Greater}
 use Rattle.std.specs.Ordering.{is_eq, is_lt, is_le}
 use Rattle.std.proofs.lemmas.Cmp.{tied_itself}
 use Rattle.std.proofs.lemmas.List.{length-set}
-use Rattle.std.proofs.lemmas.Option.{cond_some}
+use Rattle.std.proofs.lemmas.Option.{cond_some, none-some}
 use Rattle.td_base.specs.Value.{DotValue, AtomIdValue}
 use Rattle.td_base.specs.Order.{dot_cmp}
 use Rattle.td_path.specs.Infix.{Pairs}
@@ -40,11 +40,8 @@ there_at d e dots k Less h ih is = absurd (less_is_other d e h is)
 there_at d e dots k Equal h ih is = refl
 there_at d e dots k Greater h ih is = ap (λ (rest : List DotValue). e ∷ rest) (ih (ap (λ (i : ℕ). slice_get (e ∷ dots) i) (sym (next_place k)) ∙ is))
 
-none_is_not_some : (d : DotValue) → None ≡ Some d → ⊥
-none_is_not_some d is = cc
-
 pub there : (d : DotValue) (dots : List DotValue) → slice_get dots (position_or_len (λ (e : DotValue). is_le (dot_cmp d e)) dots) ≡ Some d → dots ≡ add_dot d dots
-there d [] is = absurd (none_is_not_some d is)
+there d [] is = absurd (none-some d is)
 there d (e ∷ dots) is = there_at d e dots (position_or_len (from_dot d) dots) (dot_cmp d e) refl (there d dots) is
 
 -- the dot is put at its place

@@ -6,6 +6,7 @@ use Rattle.td_base.specs.declared.bit.Bit.{Bit}
 use Rattle.td_base.specs.declared.bit.Bit.TheVariants.{Right}
 use Rattle.std.proofs.lemmas.List.{append-nil}
 use Rattle.std.specs.declared.cmp.Ordering.TheVariants.{Less}
+use Rattle.std.proofs.lemmas.Option.{none-some}
 use Rattle.td_base.specs.Value.{DotValue, AtomIdValue}
 use Rattle.td_base.specs.Order.{dot_cmp}
 use Rattle.td_base.specs.Lists.{In, Successive}
@@ -48,11 +49,8 @@ found_at x r s rows true e h ih = let q : r ≡ s = some_same r s h in (inl (sym
     some_same r s h = cc
 found_at x r s rows false e h ih = let k = ih h in (inr k.0, k.1)
 
-none_is_not_some : (s : DocRow) → None ≡ Some s → ⊥
-none_is_not_some s h = cc
-
 pub found : (x : AtomIdValue) (s : DocRow) (rows : List DocRow) → find_row x rows ≡ Some s → In s rows × (row_id s ≡ x)
-found x s [] h = absurd (none_is_not_some s h)
+found x s [] h = absurd (none-some s h)
 found x s (r ∷ rows) h = found_at x r s rows (has_id x r) refl h (found x s rows)
 
 -- rows put in a document

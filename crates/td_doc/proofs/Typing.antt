@@ -4,7 +4,7 @@ use Rattle.std.specs.Prelude.{insert, slice_get}
 use Rattle.std.specs.Option.{ForSome, option_map}
 use Rattle.std.proofs.Math.Seq.{get_or-append_seam}
 use Rattle.std.proofs.lemmas.Bool.Decides.{nat_tests}
-use Rattle.std.proofs.lemmas.Option.{slice_get-get_or, same_Some}
+use Rattle.std.proofs.lemmas.Option.{slice_get-get_or, same_Some, none-some}
 use Rattle.std.proofs.lemmas.List.{map-append, take_at, drop_at}
 use Rattle.std.proofs.lemmas.List.Elements.{filter-append}
 use Rattle.td_base.specs.Value.{DotValue, AtomIdValue}
@@ -126,12 +126,9 @@ typed rows (suc i) id atom d h =
     let s = live_split rows i (omega arith) in
     ap (λ (after : Option AtomIdValue). live_atoms (insert_atom (alloc rows after) id atom rows)) (anchor_further rows i ∙ live_id rows i s) ∙ typed_after rows i id atom d s
 
-none_is_some : (x : AtomIdValue) → None ≡ Some x → ⊥
-none_is_some x e = cc
-
 -- what is before an index is a row, or the start
 pub anchor_row : (rows : List DocRow) (index : ℕ) → index ≤ length (live_rows rows) → ForSome (anchor rows index) (IsRow rows)
-anchor_row rows zero h = λ x e. absurd (none_is_some x e)
+anchor_row rows zero h = λ x e. absurd (none-some x e)
 anchor_row rows (suc i) h =
     let s = live_split rows i (omega arith) in
     let there = in_found s.row rows (subst (In s.row) (sym s.is) (In-back s.row s.front (s.row ∷ s.back) (inl refl))) in

@@ -1,9 +1,10 @@
-use Rattle.std.proofs.Common.{◌≡◌, List, [], ◌∷◌, length, true, Result, Ok, sym, refl, ap, ◌∙◌, arith}
+use Rattle.std.proofs.Common.{◌≡◌, List, length, true, Result, Ok, sym, refl, ap, ◌∙◌, arith}
 use Rattle.std.specs.Prelude.{insert}
 use Rattle.std.specs.List.{position_or_len}
 use Rattle.std.specs.Ordering.{is_lt}
 use Rattle.std.specs.Result.{is_ok}
 use Rattle.std.specs.Vec.Iter.{into_iter_items}
+use Rattle.std.proofs.lemmas.List.{nil_from_length}
 use Rattle.td_path.specs.Infix.{path_cmp}
 use Rattle.td_doc.specs.Document.{DocRow}
 use Rattle.td_doc.specs.Insertion.{put_row, put_rows}
@@ -33,11 +34,7 @@ loop-row-preserved c =
       room = rw (c.insert.ensures.len, ok) (omega (arith, c.insert.ensures.capacity, c.loop-row.invariant.room, left));
     }
 
-none_left : (rows : List DocRow) → length rows ≡ 0 → rows ≡ []
-none_left [] e = refl
-none_left (r ∷ rows) e = absurd (omega (arith, e))
-
 pub returns : goal.returns
 returns c =
-    let none = none_left (into_iter_items c.loop-row.row-iterator) (omega (arith, c.in-None.ensures.steps.0, c.loop-row.row-iterator.rest.ok.0)) in
+    let none = nil_from_length (into_iter_items c.loop-row.row-iterator) (omega (arith, c.in-None.ensures.steps.0, c.loop-row.row-iterator.rest.ok.0)) in
     ap (λ (q : List DocRow). put_rows q c.loop-row.rows.items) (sym none) ∙ c.loop-row.invariant.rows
