@@ -35,13 +35,13 @@ use Rattle.td_machine.specs.Vote.{is_apart, votes_yes}
 use Rattle.td_doc.specs.Answers.{is_rooted}
 use Rattle.td_machine.specs.Counts.{IsInTurn}
 use Rattle.td_machine.specs.History.{Family, IsConsistent, IsOpOf, machine, log_of}
-use Rattle.td_base.proofs.Elements.{cut_at, CutAt}
+use Rattle.td_base.proofs.Elements.{cut_at, CutAt, same_head}
 use Rattle.td_machine.proofs.Family.{not_older, made_at, inserted_in_past}
 use Rattle.td_logs.proofs.Moments.{log_causal}
 use Rattle.td_base.proofs.Searches.{each_passes}
 use Rattle.td_machine.specs.Replay.{doc_of}
 use Rattle.td_logs.proofs.DocumentFacts.{by_id, by_path, id_at}
-use Rattle.td_logs.proofs.Paths.{IsBelow, fork, head_pair, cancel}
+use Rattle.td_logs.proofs.Paths.{IsBelow, fork, cancel}
 use Rattle.td_decide.proofs.SiteWords.{SiteWords, Overlap as SlotsMeet, one_slot, in_first, in_second, Held, Site}
 use Rattle.td_logs.specs.Logs.{IsLogOf, since, before, log_at, base_from, base, origin, slot_of, IsCommit}
 use Rattle.td_logs.specs.Places.{passes, slot_holds, place_of, at}
@@ -879,7 +879,7 @@ module _ (family : Family) (c : IsConsistent family) (site : ℕ) (some : 0 < si
                   no_empty (t ∷ x) u r g = cc
 
                   first_pair_is : (x : Pairs) (u v : Pair) (r t : Pairs) → x ++ u ∷ r ≡ x ++ v ∷ t → u ≡ v
-                  first_pair_is x u v r t g = head_pair u v r t (cancel x (u ∷ r) (v ∷ t) g)
+                  first_pair_is x u v r t g = same_head u r v t (cancel x (u ∷ r) (v ∷ t) g)
 
                   below : (r : Pairs) → h.base ≡ (a.front ++ (a.side, z) ∷ []) ++ r → (x : DocRow) → In x (doc_of log)
                       → t ≡ At (row_id x) h.side → h.base ≡ x.path → contains_slot (doc_of log) (At z bit) se ≡ true

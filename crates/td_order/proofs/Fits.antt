@@ -12,6 +12,7 @@ use Rattle.td_path.specs.declared.slot.Slot.TheVariants.{Root, At}
 use Rattle.td_op.specs.declared.insertion.Insertion.{Insertion}
 use Rattle.td_base.specs.Equality.{same_dot}
 use Rattle.td_base.specs.RunAtoms.{run_ids_from}
+use Rattle.td_base.proofs.Elements.{same_head, same_tail}
 pub use Rattle.td_order.proofs.Family.{Names, IsRooted}
 use Rattle.td_order.specs.Under.{under, names_under}
 use Rattle.td_order.specs.Place.{precedes, has_some}
@@ -57,21 +58,15 @@ nil_append : (q : Key) (w0 : List ℕ) (w : Key) → [] ≡ q ++ (w0 ∷ w) → 
 nil_append [] w0 w e = cc
 nil_append (x ∷ q) w0 w e = cc
 
-tail_same : (x y : List ℕ) (xs ys : Key) → x ∷ xs ≡ y ∷ ys → xs ≡ ys
-tail_same x y xs ys e = cc
-
-head_same : (x y : List ℕ) (xs ys : Key) → x ∷ xs ≡ y ∷ ys → x ≡ y
-head_same x y xs ys e = cc
-
 cut_more : (x y : List ℕ) (xs : Key) (z : List ℕ) (q : Key) (w0 : List ℕ) (w : Key) → x ≡ y → Cut xs z q w0 w → Cut (x ∷ xs) z (y ∷ q) w0 w
 cut_more x y xs z q w0 w e (at_end a b c) = at_end a (λ i. e i ∷ b i) c
 cut_more x y xs z q w0 w e (before v a b) = before v a (λ i. e i ∷ b i)
 
 pub cut : (xs : Key) (z : List ℕ) (q : Key) (w0 : List ℕ) (w : Key) → xs ++ (z ∷ []) ≡ q ++ (w0 ∷ w) → Cut xs z q w0 w
-cut [] z [] w0 w e = at_end (sym (tail_same _ _ _ _ e)) refl (head_same _ _ _ _ e)
-cut [] z (y ∷ q) w0 w e = absurd (nil_append q w0 w (tail_same _ _ _ _ e))
-cut (x ∷ xs) z [] w0 w e = before xs (sym (tail_same _ _ _ _ e)) (λ i. head_same _ _ _ _ e i ∷ xs)
-cut (x ∷ xs) z (y ∷ q) w0 w e = cut_more x y xs z q w0 w (head_same _ _ _ _ e) (cut xs z q w0 w (tail_same _ _ _ _ e))
+cut [] z [] w0 w e = at_end (sym (same_tail _ _ _ _ e)) refl (same_head _ _ _ _ e)
+cut [] z (y ∷ q) w0 w e = absurd (nil_append q w0 w (same_tail _ _ _ _ e))
+cut (x ∷ xs) z [] w0 w e = before xs (sym (same_tail _ _ _ _ e)) (λ i. same_head _ _ _ _ e i ∷ xs)
+cut (x ∷ xs) z (y ∷ q) w0 w e = cut_more x y xs z q w0 w (same_head _ _ _ _ e) (cut xs z q w0 w (same_tail _ _ _ _ e))
 
 pub under_head : (a : Insertion) (os : List Insertion) (b y : DotValue) → a.dot ≡ y → (same_dot y b || names_under (under os b) a.slot) ≡ true → under (a ∷ os) b y ≡ true
 under_head a os b y e h = ap (λ v. cond v (same_dot y b || names_under (under os b) a.slot) (under os b y)) (subst (λ d. same_dot a.dot d ≡ true) e (same_dot_refl a.dot)) ∙ h
