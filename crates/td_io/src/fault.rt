@@ -3,7 +3,8 @@ use td_base::Memory;
 use thiserror::Error;
 
 /// A source or a sink failed, and has counted it.
-#[derive(Clone, Copy, Debug, PartialEq, Eq)]
+#[derive(Clone, Copy, Debug, PartialEq, Eq, Error)]
+#[error("a source or a sink failed")]
 pub struct Failed;
 
 /// Why a source was not read whole.
