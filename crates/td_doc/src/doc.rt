@@ -13,13 +13,16 @@ use std::alloc::Global;
 use td_base::{Atom, AtomId, Bytes, Dot, Memory, Run};
 use td_clock::Vector;
 use td_path::Slot;
+use thiserror::Error;
 
 /// Why a document refuses a change. It is as before then.
-#[derive(Clone, Copy, Debug, PartialEq, Eq)]
+#[derive(Clone, Copy, Debug, PartialEq, Eq, Error)]
 pub enum DocFault {
     /// The atom is no row.
+    #[error("the atom is not in the document")]
     Gone { id: AtomId },
     /// Want of memory, or more than `u32::MAX` rows.
+    #[error("out of memory")]
     Memory,
 }
 

@@ -7,17 +7,20 @@ use crate::places::ReadTrace;
 use crate::reached::Reached;
 use crate::read_line::line;
 use std::alloc::Global;
+use thiserror::Error;
 
 /// The greatest length of a trace in bytes.
 pub const MAX_TRACE: usize = 536_870_912;
 
 /// Why bytes were not read as a trace.
-#[derive(Clone, Copy, Debug, PartialEq, Eq)]
+#[derive(Clone, Copy, Debug, PartialEq, Eq, Error)]
 pub enum ReadTraceFault {
     /// The line with this number, from 1, is the first that is not of the form of a trace. It is the line behind the
     /// last where the end is missing.
+    #[error("line {line} is not of the form of a trace")]
     Form { line: u32 },
     /// There was no memory.
+    #[error("out of memory")]
     Memory,
 }
 

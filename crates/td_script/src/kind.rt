@@ -3,6 +3,7 @@ ghost use Rattle.td_script.specs.Kinds.{kind_name};
 
 use std::fmt;
 use td_base::Memory;
+use thiserror::Error;
 
 /// What is wrong with a line. `Editor`, `Turns`, `Loss` and `Calls` are faults of live scripts alone.
 #[derive(Clone, Copy, Debug, PartialEq, Eq)]
@@ -71,11 +72,13 @@ impl fmt::Display for Kind {
 }
 
 /// Why bytes were not read as a script.
-#[derive(Clone, Copy, Debug, PartialEq, Eq)]
+#[derive(Clone, Copy, Debug, PartialEq, Eq, Error)]
 pub enum ScriptFault {
     /// The first faulty line, counted from 1, with the first thing wrong with it. Line 0 is the script as a whole.
+    #[error("line {line}: {kind}")]
     Fault { line: u32, kind: Kind },
     /// Want of memory.
+    #[error("out of memory")]
     Memory,
 }
 

@@ -1,8 +1,12 @@
+use thiserror::Error;
+
 /// Why there are no views.
-#[derive(Clone, Copy, Debug, PartialEq, Eq)]
+#[derive(Clone, Copy, Debug, PartialEq, Eq, Error)]
 pub enum ViewsFault {
     /// `left_right` refused a reader, and does not say why. The opener has counted it.
+    #[error("a reader was refused")]
     Refused,
     /// Want of memory.
+    #[error("out of memory")]
     Memory,
 }
