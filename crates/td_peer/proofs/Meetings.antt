@@ -1,13 +1,8 @@
 -- Rows of peers as their links end.
-use Rattle.std.proofs.Common.{◌≡◌, ◌<◌, ◌++◌, ℕ, suc, List, [], ◌∷◌, length, map, drop, remove, get_or, refl, sym, ap, ◌∙◌, subst, append_assoc, arith}
+use Rattle.std.proofs.Common.{◌≡◌, ◌<◌, ◌++◌, ℕ, suc, List, [], ◌∷◌, length, map, drop, refl, sym, ap, ◌∙◌, subst, append_assoc, arith}
 use Rattle.td_meeting.specs.Rows.{MatchesFirsts, AllMatch}
 use Rattle.td_peer.specs.Peers.{PeerState, Linked, PeersMet}
 use Rattle.td_peer.specs.Meeting.{MetNext}
-
-pub first_out : {X : Type 0} (xs next : List X) (x : X) → 0 < length xs → x ≡ get_or xs 0 x → next ≡ remove xs 0
-    → xs ≡ x ∷ next
-first_out [] next x some is rest = absurd (omega (arith, some))
-first_out (y ∷ xs) next x some is rest = λ i. sym is i ∷ sym rest i
 
 -- there is a row behind for each of the row, and it has a first
 pub some_row : (row : List PeerState) (rows : List (List PeerState)) → 0 < length row → MatchesFirsts Linked row rows

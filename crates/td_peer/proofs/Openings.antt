@@ -9,6 +9,7 @@ use Rattle.td_meeting.proofs.Matching.{others_from, first_kept, first_left}
 use Rattle.td_peer.specs.Peers.{PeerState, Linked}
 use Rattle.td_peer.specs.declared.opening.TheConstants.{PLACES}
 use Rattle.td_peer.specs.Opening.{IsFresh, IsFreshRow, AreFreshRows, Paired, OpensNext, OpensFirst}
+use Rattle.td_base.proofs.Elements.{same_head, same_tail}
 
 abbrev pub sites : List PeerState → List ℕ
 sites row = map (λ (p : PeerState). p.site) row
@@ -125,12 +126,6 @@ mine_fresh first lost (p ∷ row) [] m = absurd m
 mine_fresh first lost (p ∷ row) ([] ∷ rows) m = absurd m
 mine_fresh first lost (p ∷ row) ((q ∷ qs) ∷ rows) m = (m.0.mine, mine_fresh first lost row rows m.1)
 
-head_same : {X : Type 0} (x y : X) (xs ys : List X) → x ∷ xs ≡ y ∷ ys → x ≡ y
-head_same x y xs ys e = cc
-
-tail_same : {X : Type 0} (x y : X) (xs ys : List X) → x ∷ xs ≡ y ∷ ys → xs ≡ ys
-tail_same x y xs ys e = cc
-
 module _ (first m : ℕ) (lost : Loss) where
   -- the row of a site behind the first, which it has something for in front now
   one_fresh : (site other : ℕ) (q : PeerState) (qs : List PeerState) → first < site → other ≡ site
@@ -162,18 +157,18 @@ module _ (first m : ℕ) (lost : Loss) where
       subst (λ (w : List PeerState). IsFreshFrom first (suc m) (k + 0) lost w) (same_Some (q ∷ qs) r at)
       (one_fresh (k + 0) x.site q qs (omega (arith, below)) (number ∙ right k) p.0.theirs
       (subst (λ (w : List PeerState). IsFreshFrom (first + 1) m (k + 0) lost w)
-      (sym (head_same qs y (map (drop 1) theirs) rows d)) (h zero y refl)))
+      (sym (same_head qs (map (drop 1) theirs) y rows d)) (h zero y refl)))
     where
       number : x.site ≡ k
-      number = head_same x.site k (sites row) (range_with_len (k + 1) (length rows)) s
+      number = same_head x.site (sites row) k (range_with_len (k + 1) (length rows)) s
 
       right : (a : ℕ) → a ≡ a + 0
       right a = omega arith
   theirs_fresh k (x ∷ row) ((q ∷ qs) ∷ theirs) (y ∷ rows) p s d below h (suc place) r at =
       subst (λ (j : ℕ). IsFreshFrom first (suc m) j lost r) (sym (shift k place))
       (theirs_fresh (k + 1) row theirs rows p.1
-      (tail_same x.site k (sites row) (range_with_len (k + 1) (length rows)) s)
-      (tail_same qs y (map (drop 1) theirs) rows d) (omega (arith, below))
+      (same_tail x.site (sites row) k (range_with_len (k + 1) (length rows)) s)
+      (same_tail qs (map (drop 1) theirs) y rows d) (omega (arith, below))
       (λ place' r' at'. subst (λ (j : ℕ). IsFreshFrom (first + 1) m j lost r') (shift k place') (h (suc place') r' at'))
       place r at)
     where

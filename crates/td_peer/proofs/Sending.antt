@@ -3,6 +3,7 @@ use Rattle.std.proofs.Common.{◌≡◌, ◌<◌, ◌≤◌, ◌+◌, ◌-◌, �
 use Rattle.std.proofs.lemmas.Bool.Decides.{nat_tests}
 use Rattle.td_base.proofs.Elements.{In-slice_get}
 use Rattle.std.proofs.lemmas.Option.{slice_get_within}
+use Rattle.std.proofs.lemmas.Bool.{false_from_ne_true}
 use Rattle.td_op.specs.declared.message.Message.{Message}
 use Rattle.td_wire.specs.Spelling.{SpellsIn}
 use Rattle.td_wire.proofs.Decoding.{one_message}
@@ -45,10 +46,6 @@ pub fits_own : (m other : Message) (packet : List ℕ) (site : ℕ) → SpellsIn
 fits_own m other packet site h k e = ap sender (one_message packet k.0 h.0 other m k.1 h.1) ∙ e
 
 -- ---- one message
-
-off : (b : Bool) → (b ≡ true → ⊥) → b ≡ false
-off true h = absurd (h refl)
-off false h = refl
 
 -- how often the message is sent, for one that is for the peer
 copies_of : (p : PeerState) (m : Message) → is_addressed p.site m ≡ true → copies p.loss (p.addressed + 1) ≡ times p m
@@ -115,7 +112,7 @@ serves_skip sent p m at none s =
     (subst (λ (l : List Message). ArePackets l ps) (e ∙ ap (λ (b : Bool). sent_to p.loss p.site p.dealt b sent) rests ∙ sym (same (is_addressed p.site m) refl)) h))
   where
     rests : p.again ≡ false
-    rests = off p.again (λ a. let t = s.twice m at a in
+    rests = false_from_ne_true p.again (λ a. let t = s.twice m at a in
         two_zero (copies p.loss (p.addressed + 1)) t.1 (copies_of p m t.0 ∙ none))
       where
         two_zero : (k : ℕ) → k ≡ 2 → k ≡ 0 → ⊥
