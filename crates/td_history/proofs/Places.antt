@@ -25,11 +25,6 @@ replaced f g xs i e v lt is same =
 pub replaced_same : {V L : Type 0} (f : V → List L) (xs : List V) (i : ℕ) (e v : V) → e ≡ get_or xs i e → f v ≡ f e → map f (set xs i v) ≡ map f xs
 replaced_same f xs i e v is same = map-set_same f xs i v e (same ∙ ap f is)
 
-pub set_past : {X : Type 0} (xs : List X) (i : ℕ) (x : X) → length xs ≤ i → set xs i x ≡ xs
-set_past [] i x h = refl
-set_past (y ∷ xs) zero x h = absurd (omega arith)
-set_past (y ∷ xs) (suc i) x h = ap (λ q. y ∷ q) (set_past xs i x (omega arith))
-
 pub set_get : {X : Type 0} (xs : List X) (i : ℕ) (x : X) → i < length xs → slice_get (set xs i x) i ≡ Some x
 set_get [] i x h = absurd (omega arith)
 set_get (y ∷ xs) zero x h = refl

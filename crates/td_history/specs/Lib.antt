@@ -10,6 +10,7 @@ pub mod IndexValue
 pub mod Index
 pub mod LogValue
 pub mod Logs
+pub mod AsideValue
 pub mod EntriesValue
 pub mod Entries
 pub mod EntriesParts

@@ -1,4 +1,4 @@
-ghost use Rattle.std.specs.Prelude.{◌≡◌, ◌<◌, ◌≤◌, ◌-◌, ◌∷◌, ◌++◌, [], List, length, IfSome, OnOk};
+ghost use Rattle.std.specs.Prelude.{◌≡◌, ◌≤◌, ◌-◌, ◌∷◌, ◌++◌, [], List, length, IfSome, OnOk};
 ghost use Rattle.std.specs.List.{slice_get};
 ghost use Rattle.std.specs.Option.{option_and_then};
 ghost use Rattle.td_op.specs.declared.entry.Entry.{Entry};
@@ -6,22 +6,20 @@ ghost use Rattle.td_history.specs.Past.{IsDoneAs};
 ghost use Rattle.td_history.specs.Standing.{StandFor};
 ghost use Rattle.td_history.specs.Entries.{entry_of};
 
-use crate::entry::{CompactEntry, WholeEntry, keep_entry};
+use crate::aside::Aside;
+use crate::entry::{CompactEntry, keep_entry};
 use crate::log::Log;
 use std::alloc::Global;
 use std::marker::Model;
 use td_base::Memory;
-use td_op::{Entry, Input, Op, Reply};
-use td_store::Runs;
+use td_op::{Entry, Input, Reply};
 
-/// The entries of a history: those by the number of an operation, and the others, which are kept whole, with the texts
-/// that no operation has and the operations that were offered alone. There is room for so many more entries.
+/// The entries of a history: those by the number of an operation, and what they keep beside themselves. There is room
+/// for so many more entries.
 #[derive(Drop)]
 pub struct Entries {
     entries: Vec<CompactEntry>,
-    wholes: Vec<WholeEntry>,
-    texts: Runs,
-    offered: Vec<Op>,
+    aside: Aside,
     room: u32,
 }
 
@@ -35,14 +33,13 @@ impl Model for Entries {
 
     ghost view = { λ e. record {
       entries = e.entries.items;
-      wholes = e.wholes.items;
-      texts = e.texts.runs;
-      offered = e.offered.items;
+      wholes = e.aside.wholes;
+      texts = e.aside.texts;
+      offered = e.aside.offered;
       room = e.room;
     } };
 
-    ghost invariant = { λ e. AreEntriesParts (vec_len e.entries) (vec_capacity e.entries)
-        (vec_len e.wholes) (vec_capacity e.wholes) e.texts.room (vec_len e.offered) (vec_capacity e.offered) e.room };
+    ghost invariant = { λ e. AreEntriesParts (vec_len e.entries) (vec_capacity e.entries) e.aside.room e.room };
 }
 
 impl Entries {
@@ -52,9 +49,7 @@ impl Entries {
     {
         Entries {
             entries: Vec::new(alloc),
-            wholes: Vec::new(alloc),
-            texts: Runs::new(alloc),
-            offered: Vec::new(alloc),
+            aside: Aside::new(alloc),
             room: 0,
         }
     }
@@ -65,14 +60,8 @@ impl Entries {
         ensures room { OnOk result (self.new.room ≡ more) }
     {
         self.room = 0;
-        let most = (u32::MAX - more) as usize;
-        if self.offered.len() > most || self.wholes.len() > most {
-            return Err(Memory);
-        }
         self.entries.reserve(more as usize)?;
-        self.wholes.reserve(more as usize)?;
-        self.texts.reserve(more)?;
-        self.offered.reserve(more as usize)?;
+        self.aside.reserve(more)?;
         self.room = more;
         Ok(())
     }
@@ -86,15 +75,7 @@ impl Entries {
             (list ++ record { input = input.now; reply = reply.now } ∷ []) }
         ensures room { self.new.room ≡ self.old.room - 1 }
     {
-        let entry = keep_entry(
-            log,
-            &mut self.wholes,
-            &mut self.texts,
-            &mut self.offered,
-            input,
-            reply,
-            number,
-        );
+        let entry = keep_entry(log, &mut self.aside, input, reply, number);
         self.entries.push_reserved(entry);
         self.room -= 1;
     }
@@ -111,7 +92,7 @@ impl Entries {
         ensures { result ≡ option_and_then (entry_of log.now.ops self.now) (slice_get self.now.entries k) }
     {
         let kept = self.kept_at(k)?;
-        kept.entry(log, &self.texts, &self.offered, &self.wholes)
+        kept.entry(log, &self.aside)
     }
 
     // The compact entry at a place.

@@ -1,15 +1,16 @@
 // An entry of a history as it is kept.
-ghost use Rattle.std.specs.Prelude.{◌≡◌, ◌<◌, ◌≤◌, ◌+◌, ◌^◌, List, ℕ, IfSome, IsTrue, Some, vec_len, vec_capacity};
+ghost use Rattle.std.specs.Prelude.{◌≡◌, ◌≤◌, ◌+◌, List, ℕ, IfSome, IsTrue, Some};
 ghost use Rattle.std.specs.List.{slice_get};
 ghost use Rattle.std.specs.Option.{option_map};
 ghost use Rattle.td_op.specs.declared.reply.Reply.TheVariants.{Made, Taken};
 ghost use Rattle.td_op.specs.Op.{OpValue};
 ghost use Rattle.td_history.specs.declared.entry.WholeEntry.{WholeEntry};
 ghost use Rattle.td_history.specs.Past.{IsDoneAs};
-ghost use Rattle.td_history.specs.Standing.{IsGrown};
+ghost use Rattle.td_history.specs.AsideValue.{HasGrown};
 ghost use Rattle.td_history.specs.Entries.{entry_among, whole_among};
 
-use crate::input::{CompactInput, keep_input, put_input};
+use crate::aside::Aside;
+use crate::input::{CompactInput, put_input};
 use crate::log::Log;
 use crate::put::CompactPut;
 use crate::reply::CompactReply;
@@ -39,8 +40,8 @@ pub enum CompactEntry {
 /// An entry in 28 bytes, with its reply. It stands for `whole_among` it.
 #[derive(Clone, Copy, Debug, PartialEq, Eq)]
 pub struct WholeEntry {
-    input: CompactInput,
-    reply: CompactReply,
+    pub input: CompactInput,
+    pub reply: CompactReply,
 }
 
 const _: () = prove!(size_of::<CompactEntry>() == 12);
@@ -49,14 +50,8 @@ const _: () = prove!(size_of::<WholeEntry>() == 28);
 
 impl CompactEntry {
     /// The entry that it stands for.
-    pub fn entry(
-        &self,
-        log: &Log,
-        texts: &Runs,
-        offered: &[Op],
-        wholes: &[WholeEntry],
-    ) -> Option<Entry>
-        ensures { result ≡ entry_among log.now.ops texts.now.runs offered.now wholes.now self.now }
+    pub fn entry(&self, log: &Log, aside: &Aside) -> Option<Entry>
+        ensures { result ≡ entry_among log.now.ops aside.now.texts aside.now.offered aside.now.wholes self.now }
     {
         match *self {
             CompactEntry::Inserted { index, number } => {
@@ -95,17 +90,14 @@ impl CompactEntry {
                     reply: Reply::Taken { dot },
                 })
             }
-            CompactEntry::Whole { place } => {
-                let whole = wholes.get(place as usize)?;
-                whole.entry(log, texts, offered)
-            }
+            CompactEntry::Whole { place } => aside.entry(log, place),
         }
     }
 }
 
 impl WholeEntry {
-    // The entry that it stands for.
-    fn entry(&self, log: &Log, texts: &Runs, offered: &[Op]) -> Option<Entry>
+    /// The entry that it stands for.
+    pub fn entry(&self, log: &Log, texts: &Runs, offered: &[Op]) -> Option<Entry>
         ensures { result ≡ whole_among log.now.ops texts.now.runs offered.now self.now }
     {
         let input = self.input.input(log, texts, offered)?;
@@ -117,36 +109,26 @@ impl WholeEntry {
 }
 
 /// The entry, made compact. Where there is no number of the operation that it makes or takes, or its reply does not
-/// follow from that, it is added to those that are kept whole, in the room that there is.
+/// follow from that, it is kept whole, in the room that there is.
 pub fn keep_entry(
     log: &Log,
-    wholes: &mut Vec<WholeEntry>,
-    texts: &mut Runs,
-    offered: &mut Vec<Op>,
+    aside: &mut Aside,
     input: &Input,
     reply: &Reply,
     number: Option<u32>,
 ) -> CompactEntry
-    requires wholes_room { vec_len wholes.old < vec_capacity wholes.old }
-    requires wholes_few { vec_len wholes.old < 2 ^ 32 }
-    requires texts_room { 1 ≤ texts.old.room }
-    requires offered_room { vec_len offered.old < vec_capacity offered.old }
-    requires few { vec_len offered.old < 2 ^ 32 }
+    requires { 1 ≤ aside.old.room }
     ensures entry { IfSome number (IsDoneAs log.now.ops input.now)
-        → entry_among log.now.ops texts.new.runs offered.new.items wholes.new.items result
+        → entry_among log.now.ops aside.new.texts aside.new.offered aside.new.wholes result
         ≡ Some (record { input = input.now; reply = reply.now }) }
-    ensures wholes { IsGrown wholes.old.items wholes.new.items }
-    ensures wholes_len { vec_len wholes.new ≤ vec_len wholes.old + 1 }
-    ensures wholes_capacity { vec_capacity wholes.new ≡ vec_capacity wholes.old }
-    ensures texts { IsGrown texts.old.runs texts.new.runs }
-    ensures texts_room { texts.old.room ≤ texts.new.room + 1 }
-    ensures offered { IsGrown offered.old.items offered.new.items }
-    ensures offered_len { vec_len offered.new ≤ vec_len offered.old + 1 }
-    ensures capacity { vec_capacity offered.new ≡ vec_capacity offered.old }
+    ensures grown { HasGrown aside.old aside.new }
+    ensures room { aside.old.room ≤ aside.new.room + 1 }
 {
     match by_number(log, input, reply, number) {
         Some(entry) => entry,
-        None => keep_whole(wholes, texts, offered, input, reply, number),
+        None => CompactEntry::Whole {
+            place: aside.keep(input, reply, number),
+        },
     }
 }
 
@@ -216,37 +198,4 @@ fn is_of(log: &Log, number: u32, dot: Dot) -> bool
         Some(other) => other == dot,
         None => false,
     }
-}
-
-// The entry, kept whole.
-fn keep_whole(
-    wholes: &mut Vec<WholeEntry>,
-    texts: &mut Runs,
-    offered: &mut Vec<Op>,
-    input: &Input,
-    reply: &Reply,
-    number: Option<u32>,
-) -> CompactEntry
-    requires wholes_room { vec_len wholes.old < vec_capacity wholes.old }
-    requires wholes_few { vec_len wholes.old < 2 ^ 32 }
-    requires texts_room { 1 ≤ texts.old.room }
-    requires offered_room { vec_len offered.old < vec_capacity offered.old }
-    requires few { vec_len offered.old < 2 ^ 32 }
-    ensures entry { (ops : List OpValue) → IfSome number (IsDoneAs ops input.now)
-        → entry_among ops texts.new.runs offered.new.items wholes.new.items result
-        ≡ Some (record { input = input.now; reply = reply.now }) }
-    ensures wholes { IsGrown wholes.old.items wholes.new.items }
-    ensures wholes_len { vec_len wholes.new ≤ vec_len wholes.old + 1 }
-    ensures wholes_capacity { vec_capacity wholes.new ≡ vec_capacity wholes.old }
-    ensures texts { IsGrown texts.old.runs texts.new.runs }
-    ensures texts_room { texts.old.room ≤ texts.new.room + 1 }
-    ensures offered { IsGrown offered.old.items offered.new.items }
-    ensures offered_len { vec_len offered.new ≤ vec_len offered.old + 1 }
-    ensures capacity { vec_capacity offered.new ≡ vec_capacity offered.old }
-{
-    let input = keep_input(texts, offered, input, number);
-    let reply = CompactReply::of(reply);
-    let place = wholes.len() as u32;
-    wholes.push_reserved(WholeEntry { input, reply });
-    CompactEntry::Whole { place }
 }

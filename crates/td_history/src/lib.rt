@@ -4,9 +4,10 @@
 //! Contracts see the whole past as plain lists. Begin at `history` and at `specs/Past.antt`. How each kind of thing is
 //! kept, and what it stands for, is told beside it: requests for text (`put`), inputs, replies, votes, messages and
 //! entries (`entry`) as compact values, the operations of each site in their order (`index`), the log (`log`) and the
-//! list of the entries (`entries`).
+//! list of the entries (`entries`), with what they keep beside themselves (`aside`).
 #![tactic(auto)]
 
+mod aside;
 mod entries;
 mod entry;
 mod history;

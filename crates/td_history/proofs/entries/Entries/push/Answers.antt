@@ -11,6 +11,7 @@ returns-clause-entries c =
     let ops = c.args.log.now.ops in
     let kept = c.keep_entry-entry in
     let was = subst (λ v. StandFor (entry_of ops v) v.entries list) (sym c.self.view_is) stands in
-    let still = stand_on _ (entry_among ops kept.new.texts.runs kept.new.offered.items kept.new.wholes.items)
-    (λ x y e. entry_grown ops ops _ _ _ _ _ _ x y (grown_none ops) kept.ensures.texts kept.ensures.offered kept.ensures.wholes e) _ _ was in
+    let grown = kept.ensures.grown in
+    let still = stand_on _ (entry_among ops kept.new.aside.texts kept.new.aside.offered kept.new.aside.wholes)
+    (λ x y e. entry_grown ops ops _ _ _ _ _ _ x y (grown_none ops) grown.texts grown.offered grown.wholes e) _ _ was in
     rw c.push_reserved.ensures.items (stand_push _ _ _ _ _ still (kept.ensures.entry done))

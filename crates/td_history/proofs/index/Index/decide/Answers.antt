@@ -1,7 +1,7 @@
 use Rattle.std.proofs.Common.{◌≡◌, ◌≤◌, ◌<◌, ◌-◌, length, arith, ap, sym, refl}
-use Rattle.std.proofs.lemmas.List.{length-map}
+use Rattle.std.proofs.lemmas.List.{length-map, set_past}
 use Rattle.td_history.specs.Index.{decided_in}
-use Rattle.td_history.proofs.Places.{replaced, set_past, not_within}
+use Rattle.td_history.proofs.Places.{replaced, not_within}
 use Rattle.td_history.proofs.index.Index.decide.Goals.{in-Some, in_default}
 use Rattle.td_history.proofs.index.Index.decide.Goals as goal
 
