@@ -1,21 +1,18 @@
 -- What fits in a live script that bytes spell: its sites, its editors and their lines.
-use Rattle.std.proofs.Common.{◌≡◌, ◌≤◌, ℕ, List, [], ◌∷◌, ◌++◌, length, sym, ap, ◌∙◌, subst, arith}
+use Rattle.std.proofs.Common.{◌≡◌, ◌≤◌, ℕ, List, [], ◌∷◌, length, sym, ap, ◌∙◌, subst, arith}
 use Rattle.std.specs.Prelude.{All}
 use Rattle.std.specs.List.{AllByRecursion, range_with_len}
 use Rattle.std.proofs.lemmas.List.{length-map}
 use Rattle.std.proofs.lemmas.List.Elements.{All-head, All-tail}
 use Rattle.std.proofs.lemmas.List.FromFn.{length-range_with_len}
 use Rattle.td_base.specs.declared.site.TheConstants.{MAX_SITE}
+use Rattle.td_base.proofs.Passing.{all_append}
 use Rattle.td_script.specs.declared.live.command.LiveCommand.{LiveCommand}
 use Rattle.td_script.specs.declared.live.command.LiveCommand.TheVariants.{Sites, Turns, Loss, Editor, Line}
 use Rattle.td_script.specs.declared.live.script.Live.{Live}
 use Rattle.td_script.specs.declared.live.script.TheConstants.{MAX_EDITORS}
 use Rattle.td_script.specs.LiveScript.{AreLiveCommands, IsLiveCommand, SpellsLive, home_of_command, homes_in, lines_at}
 use Rattle.td_script.specs.Script.{IsSiteOf}
-
-both : (P : ℕ → Type 0) (xs ys : List ℕ) → AllByRecursion P xs → AllByRecursion P ys → AllByRecursion P (xs ++ ys)
-both P [] ys h k = k
-both P (x ∷ xs) ys h k = (h.0, both P xs ys h.1 k)
 
 home_fits : (sites : ℕ) (c : LiveCommand) → IsLiveCommand sites c
     → AllByRecursion (IsSiteOf sites) (home_of_command c)
@@ -29,7 +26,7 @@ homes_fit : (sites : ℕ) (cs : List LiveCommand) → All (IsLiveCommand sites) 
     → AllByRecursion (IsSiteOf sites) (homes_in cs)
 homes_fit sites [] all = tt
 homes_fit sites (c ∷ cs) all =
-    both (IsSiteOf sites) (home_of_command c) (homes_in cs) (home_fits sites c (All-head (IsLiveCommand sites) c cs all))
+    all_append (IsSiteOf sites) (home_of_command c) (homes_in cs) (home_fits sites c (All-head (IsLiveCommand sites) c cs all))
     (homes_fit sites cs (All-tail (IsLiveCommand sites) c cs all))
 
 commands_fit : (sites : ℕ) (cs : List LiveCommand) → AreLiveCommands sites cs
