@@ -35,7 +35,7 @@ impl Path {
     /// Goes one step further down.
     pub fn push(&mut self, bit: Bit, id: AtomId) -> Result<(), Memory>
         ensures ok { OnOk result (self.new ≡ self.old ++ (bit, id) ∷ []) }
-        ensures memory { OnErr result (self.new ≡ self.old) }
+        ensures err { OnErr result (self.new ≡ self.old) }
     {
         if self.pairs.len() >= u32::MAX as usize {
             return Err(Memory);

@@ -80,7 +80,7 @@ impl Ops {
         ensures ok { OnOk result (more ≤ self.new.room) }
         ensures ops { self.new ≡ record self.old { room = self.new.room } }
         ensures room { self.old.room ≤ self.new.room }
-        ensures memory { OnErr result (self.new ≡ self.old) }
+        ensures err { OnErr result (self.new ≡ self.old) }
     {
         if more > u32::MAX - self.len() {
             return Err(Memory);

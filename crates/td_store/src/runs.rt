@@ -52,7 +52,7 @@ impl Runs {
         ensures ok { OnOk result (more ≤ self.new.room) }
         ensures runs { self.new ≡ record self.old { room = self.new.room } }
         ensures room { self.old.room ≤ self.new.room }
-        ensures memory { OnErr result (self.new ≡ self.old) }
+        ensures err { OnErr result (self.new ≡ self.old) }
     {
         let len = more as usize * MAX_STORED_LEN;
         if self.bytes.len() + len > u32::MAX as usize {

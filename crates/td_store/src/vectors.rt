@@ -50,7 +50,7 @@ impl Vectors {
         ensures ok { OnOk result (more ≤ self.new.room) }
         ensures rows { self.new ≡ record self.old { room = self.new.room } }
         ensures room { self.old.room ≤ self.new.room }
-        ensures memory { OnErr result (self.new ≡ self.old) }
+        ensures err { OnErr result (self.new ≡ self.old) }
     {
         if more > u32::MAX - self.len {
             return Err(Memory);

@@ -48,7 +48,7 @@ impl DidList {
     /// Adds what was done at the end.
     pub fn push(&mut self, did: Did) -> Result<(), Memory>
         ensures ok { OnOk result (self.new ≡ self.old ++ did ∷ []) }
-        ensures memory { OnErr result (self.new ≡ self.old) }
+        ensures err { OnErr result (self.new ≡ self.old) }
     {
         self.items.push(did)?;
         Ok(())
