@@ -57,7 +57,7 @@ impl Buffer {
         ensures answer { IfOk result (λ answer. answer ≡ offer_answer have.now op.now (ops_waiting self.old)) }
         ensures kept { IfOk result (λ answer.
             self.new ≡ kept_after answer (record { op = op.now; number = number }) self.old) }
-        ensures memory { OnErr result (self.new ≡ self.old) }
+        ensures err { OnErr result (self.new ≡ self.old) }
         ensures alike { AreOfSize (length have.now) self.new }
     {
         if have.has(op.dot()) || self.waits(op.dot()) {

@@ -59,7 +59,7 @@ impl AtomList {
     /// Adds the atom at the end.
     pub fn push(&mut self, atom: Atom) -> Result<(), Memory>
         ensures ok { OnOk result (self.new ≡ self.old ++ atom ∷ []) }
-        ensures memory { OnErr result (self.new ≡ self.old) }
+        ensures err { OnErr result (self.new ≡ self.old) }
     {
         self.push_bytes(atom.bytes())
     }
@@ -68,7 +68,7 @@ impl AtomList {
     pub(crate) fn push_bytes(&mut self, atom: &[u8]) -> Result<(), Memory>
         requires { IsAtom atom.now }
         ensures ok { OnOk result (self.new ≡ self.old ++ atom.now ∷ []) }
-        ensures memory { OnErr result (self.new ≡ self.old) }
+        ensures err { OnErr result (self.new ≡ self.old) }
     {
         if self.lengths.len() >= u32::MAX as usize {
             return Err(Memory);

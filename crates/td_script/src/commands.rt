@@ -33,7 +33,7 @@ impl Commands {
     /// Adds the command at the end.
     pub fn push(&mut self, command: Command) -> Result<(), Memory>
         ensures ok { OnOk result (self.new ≡ self.old ++ command ∷ []) }
-        ensures memory { OnErr result (self.new ≡ self.old) }
+        ensures err { OnErr result (self.new ≡ self.old) }
     {
         self.items.push(command)?;
         Ok(())

@@ -43,7 +43,7 @@ impl EditorLines {
     pub fn push(&mut self, line: EditorLine) -> Result<(), Memory>
         requires { sum_by calls self.old + calls line ≤ MAX_CALLS }
         ensures ok { OnOk result (self.new ≡ self.old ++ line ∷ []) }
-        ensures memory { OnErr result (self.new ≡ self.old) }
+        ensures err { OnErr result (self.new ≡ self.old) }
     {
         let calls = line.calls();
         self.items.push(line)?;

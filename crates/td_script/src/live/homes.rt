@@ -36,7 +36,7 @@ impl Homes {
     pub fn push(&mut self, site: Site) -> Result<(), Memory>
         requires { length self.old < MAX_EDITORS }
         ensures ok { OnOk result (self.new ≡ self.old ++ site ∷ []) }
-        ensures memory { OnErr result (self.new ≡ self.old) }
+        ensures err { OnErr result (self.new ≡ self.old) }
     {
         self.items.push(site)?;
         Ok(())
