@@ -7,9 +7,10 @@ use Rattle.std.specs.Option.{option_and_then}
 use Rattle.std.specs.Prelude.{slice_get}
 use Rattle.std.proofs.Math.Seq.{drop-append-add}
 use Rattle.std.proofs.lemmas.Bool.{eqb-true}
-use Rattle.std.proofs.lemmas.List.{length-map}
+use Rattle.std.proofs.lemmas.List.{length-map, nil_from_length}
 use Rattle.std.proofs.lemmas.List.Concat.{flat_map-append}
 use Rattle.std.proofs.lemmas.Option.{none-some, same_Some, slice_get_past, some_pair_parts}
+use Rattle.td_base.proofs.Passing.{all_append}
 use Rattle.td_report.specs.Trace.{all_written}
 use Rattle.td_report.specs.TraceLines.{TraceLine, written}
 use Rattle.td_reader.specs.declared.reached.Reached.{Reached}
@@ -20,7 +21,6 @@ use Rattle.td_reader.specs.Reached.{nothing_read, reached_by}
 use Rattle.td_reader.specs.Values.{TraceValue, IsTraceValue}
 use Rattle.td_reader.proofs.Feeds.{cut_written, first_piece, pieces_whole, written_some}
 use Rattle.td_reader.proofs.Fitting.{trace_fits}
-use Rattle.td_reader.proofs.Lasts.{all_behind, nil_of}
 use Rattle.td_reader.proofs.LineLaws.{FitsLine, line_back, line_there}
 use Rattle.td_reader.proofs.Reaching.{IsAt, at_first, at_line, run, run_behind}
 use Rattle.td_reader.proofs.Running.{AreWhole, can_end, nothing_begins, trace_run, whole_lines}
@@ -73,7 +73,7 @@ read_more bytes rest starts behind r s line start h e step is =
       record {
         lines = h.lines ++ line ∷ [];
         opened = inr (opened_by r s h.lines line h.opened back.fits step);
-        fit = all_behind FitsLine h.lines (line ∷ []) h.fit (back.fits, tt);
+        fit = all_append FitsLine h.lines (line ∷ []) h.fit (back.fits, tt);
         placed = (λ i. h.placed i ++ place i ∷ []) ∙ sym (starts_more 0 h.lines line);
         whole = h.whole ∙ ap (λ (t : List ℕ). all_written h.lines ++ t) back.whole
             ∙ sym (append_assoc (all_written h.lines) (written line) behind)
@@ -398,7 +398,7 @@ pub missing_rest : (bytes rest starts : List ℕ) (r : Reached) (number : ℕ) �
     → number ≡ length starts + 1 → IsFaultyForm (cut_lines bytes) number
 missing_rest bytes rest starts r number h none open_end e =
     subst (IsFaultyForm (cut_lines bytes)) (sym e) (missing_end bytes rest starts r h
-    (nil_of rest (eqb-true (length rest) 0 none)) open_end)
+    (nil_from_length rest (eqb-true (length rest) 0 none)) open_end)
 
 pub line_is : (bytes starts rest : List ℕ) (h : IsPlaced bytes starts) (k start : ℕ) (line : TraceLine)
     (more : List ℕ) → slice_get starts k ≡ Some start

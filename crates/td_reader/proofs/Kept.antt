@@ -6,6 +6,7 @@ use Rattle.std.proofs.Common.{length-append, arith}
 use Rattle.std.specs.List.{AllByRecursion}
 use Rattle.std.proofs.Math.Seq.{drop-append-add}
 use Rattle.std.proofs.lemmas.Bool.{eqb-true}
+use Rattle.std.proofs.lemmas.List.{nil_from_length}
 use Rattle.td_trace.specs.declared.entry.TraceEntry.{TraceEntry}
 use Rattle.td_trace.specs.declared.log.Did.{Did}
 use Rattle.td_trace.specs.declared.log.Did.TheVariants.{Call, Look}
@@ -23,7 +24,6 @@ use Rattle.td_reader.specs.Values.{TraceValue}
 use Rattle.td_reader.proofs.Collecting.{value_again}
 use Rattle.td_reader.proofs.Faults.{HasRead, count_of, read_more, whole_read}
 use Rattle.td_reader.proofs.Fitting.{trace_fits}
-use Rattle.td_reader.proofs.Lasts.{nil_of}
 use Rattle.td_reader.proofs.LineLaws.{FitsLine, line_there}
 use Rattle.td_reader.proofs.PartLines.{as_many, lines_mapped, lines_behind, said_length}
 
@@ -221,7 +221,7 @@ pub all_read : (bytes rest starts parts : List ℕ) (r : Reached) (sites : ℕ) 
 all_read bytes rest starts parts r sites h none ended e =
     let whole = whole_read bytes rest starts r h.read ended in
     let v : TraceValue = whole.value in
-    let empty : rest ≡ [] = nil_of rest (eqb-true (length rest) 0 none) in
+    let empty : rest ≡ [] = nil_from_length rest (eqb-true (length rest) 0 none) in
     let count : length starts ≡ length (said v) =
     count_of h.read.lines starts 0 h.read.placed ∙ ap length whole.lines_are in
     record {

@@ -50,18 +50,9 @@ all_on_last P Good f step [] h all = absurd h
 all_on_last P Good f step (x ∷ []) h all = (step x h all.0, tt)
 all_on_last P Good f step (x ∷ y ∷ ys) h all = (all.0, all_on_last P Good f step (y ∷ ys) h all.1)
 
-pub all_behind : {X : Type 0} (P : X → Type 0) (xs ys : List X) → AllByRecursion P xs → AllByRecursion P ys
-    → AllByRecursion P (xs ++ ys)
-all_behind P [] ys h k = k
-all_behind P (x ∷ xs) ys h k = (h.0, all_behind P xs ys h.1 k)
-
 pub all_same : {X : Type 0} (P : X → Type 0) (n : ℕ) (x : X) → P x → AllByRecursion P (replicate n x)
 all_same P zero x h = tt
 all_same P (suc n) x h = (h, all_same P n x h)
-
-pub nil_of : {X : Type 0} (xs : List X) → length xs ≡ 0 → xs ≡ []
-nil_of [] e = refl
-nil_of (x ∷ xs) e = absurd (omega arith)
 
 -- ---- by their numbers
 

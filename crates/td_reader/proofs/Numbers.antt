@@ -112,11 +112,6 @@ parsed_other most v ds few only other = at_read (number_of most ds) refl
 
 -- ---- by few digits
 
--- no digits are those of two numbers
-pub one_number : (v n : ℕ) → v < 2 ^ 64 → n < 2 ^ 64 → decimal v ≡ decimal n → v ≡ n
-one_number v n small also e =
-    sym (decimal_is_IsNumeral v small).1 ∙ ap (digits_value 10) e ∙ (decimal_is_IsNumeral n also).1
-
 -- digits that are few are those of no great number
 pub few_none : (ds : List ℕ) → length ds ≤ 9 → ((n : ℕ) → n < 10 ^ 9 → ds ≢ decimal n) → (n : ℕ) → n < 2 ^ 64
     → ds ≢ decimal n

@@ -6,6 +6,8 @@ use Rattle.std.specs.Prelude.{MatchOption, get_or, is_some, option_and_then, opt
 use Rattle.std.proofs.lemmas.List.{length-map}
 use Rattle.std.proofs.lemmas.Option.{none-some, same_Some, slice_get-map}
 use Rattle.std.proofs.lemmas.Option.{slice_get_within}
+use Rattle.td_base.proofs.Elements.{get_front}
+use Rattle.td_base.proofs.Places.{some_at}
 use Rattle.td_trace.specs.declared.entry.TraceEntry.{TraceEntry}
 use Rattle.td_trace.specs.declared.log.Did.{Did}
 use Rattle.td_trace.specs.declared.log.Did.TheVariants.{Call, Look}
@@ -19,11 +21,6 @@ use Rattle.td_reader.specs.Said.{did_in, entry_in, home_in, text_in}
 use Rattle.td_reader.specs.Values.{TraceValue, IsTraceValue}
 
 -- ---- lists
-
-get_front : {X : Type 0} (xs ys : List X) (k : ℕ) → k < length xs → slice_get (xs ++ ys) k ≡ slice_get xs k
-get_front [] ys k h = absurd (omega arith)
-get_front (x ∷ xs) ys zero h = refl
-get_front (x ∷ xs) ys (suc k) h = get_front xs ys k (omega arith)
 
 get_behind : {X : Type 0} (xs ys : List X) (k : ℕ) → slice_get (xs ++ ys) (length xs + k) ≡ slice_get ys k
 get_behind [] ys k = let same : 0 + k ≡ k = omega arith in ap (slice_get ys) same
@@ -366,11 +363,6 @@ some_within : {X : Type 0} (xss : List (List X)) (k : ℕ) → 0 < length (get_o
 some_within [] k h = absurd (omega arith)
 some_within (xs ∷ xss) zero h = omega arith
 some_within (xs ∷ xss) (suc k) h = omega (arith, some_within xss k h)
-
-some_at : {X : Type 0} (xs : List X) (k : ℕ) → k < length xs → (x : X) × (slice_get xs k ≡ Some x)
-some_at [] k h = absurd (omega arith)
-some_at (x ∷ xs) zero h = (x, refl)
-some_at (x ∷ xs) (suc k) h = some_at xs k (omega arith)
 
 -- where the history of a site begins
 pub history_found : (t : TraceValue) (site part : ℕ) (o : Option ℕ) → part ≡ site - 1

@@ -7,7 +7,9 @@ use Rattle.std.specs.Option.{option_and_then}
 use Rattle.std.specs.Str.{IsUtf8}
 use Rattle.std.proofs.lemmas.Bool.{eqb-true, leb-true, ltb-true, and_parts, false≢true, false_from_ne_true, cond-true}
 use Rattle.std.proofs.lemmas.Option.{none-some, same_Some, cond_some}
+use Rattle.std.proofs.lemmas.List.{nil_from_length}
 use Rattle.td_base.specs.declared.site.TheConstants.{MAX_SITE}
+use Rattle.td_base.proofs.Passing.{all_append}
 use Rattle.td_trace.specs.declared.entry.TraceEntry.{TraceEntry}
 use Rattle.td_trace.specs.declared.log.Did.{Did}
 use Rattle.td_trace.specs.declared.log.Did.TheVariants.{Call, Look}
@@ -19,7 +21,7 @@ use Rattle.td_reader.specs.declared.reached.Reached.{Reached}
 use Rattle.td_reader.specs.Reached.{nothing_read, reached_by}
 use Rattle.td_reader.specs.Values.{TraceValue, FitsEntry, FitsHistory, FitsDid, FitsLog, IsShort}
 use Rattle.td_reader.proofs.Lasts.{on_last, LastIs, last_pushed, last_changed, last_weaker, last_any, length_on_last}
-use Rattle.td_reader.proofs.Lasts.{all_on_last, all_behind, nil_of}
+use Rattle.td_reader.proofs.Lasts.{all_on_last}
 use Rattle.td_reader.proofs.LineLaws.{FitsLine}
 use Rattle.td_reader.proofs.Openings.{opening, with_history, push_entry, with_entry, with_log, push_did, with_did}
 use Rattle.td_reader.proofs.Openings.{with_text, open_history, open_entry, open_log, open_did, open_text, open_end}
@@ -74,9 +76,6 @@ more_said : (r : Reached) (v w : TraceValue) (lines : List TraceLine) (line : Tr
 more_said r v w lines line still e step =
     ap (λ (xs : List TraceLine). xs ++ line ∷ []) (e ∙ ap (opening v) still) ∙ step ∙ ap (opening w) (sym still)
 
-open_at : (b : Bool) → (b ≡ true → ⊥) → b ≡ false
-open_at b h = false_from_ne_true b h
-
 no_end : {A : Type 0} (b : Bool) → b ≡ false → b ≡ true → A
 no_end b e f = absurd (true≢false (sym f ∙ e))
 
@@ -87,7 +86,7 @@ at_history r lines site h is room reached =
     let v : TraceValue = h.value in
     let fewer : length v.histories < v.sites = omega (arith, h.site, h.sites) in
     let none = h.first fewer in
-    let still : r.is_ended ≡ false = open_at r.is_ended (λ (e : r.is_ended ≡ true). let full : length v.histories ≡
+    let still : r.is_ended ≡ false = false_from_ne_true r.is_ended (λ (e : r.is_ended ≡ true). let full : length v.histories ≡
     v.sites = (h.ended e).0 in absurd (omega arith)) in
     let one_more : length (v.histories ++ [] ∷ []) ≡ length v.histories + 1 = length-append v.histories ([] ∷ []) in
     let number : site ≡ 1 + length v.histories = omega (arith, h.site) in
@@ -104,13 +103,13 @@ at_history r lines site h is room reached =
       texts_within = h.texts_within;
       first = λ _. none;
       ended = λ e. no_end r.is_ended still e;
-      histories = all_behind FitsHistory v.histories ([] ∷ []) h.histories
+      histories = all_append FitsHistory v.histories ([] ∷ []) h.histories
           (record { each = tt; few = omega arith }, tt);
       logs = h.logs;
       few_logs = h.few_logs;
       utf8 = h.utf8;
       said = more_said r v (with_history v) lines (HistoryOf site) still h.said
-          (open_history v site (nil_of v.logs none.0) (nil_of v.texts none.1) number);
+          (open_history v site (nil_from_length v.logs none.0) (nil_from_length v.texts none.1) number);
       reached = reached;
     }
 
@@ -121,7 +120,7 @@ at_entry : (r : Reached) (lines : List TraceLine) (number : ℕ) (e : TraceEntry
     → IsAt (record r { entries = number }) (lines ++ EntryIs number e ∷ [])
 at_entry r lines number e h small fits is some no_logs no_texts reached =
     let v : TraceValue = h.value in
-    let still : r.is_ended ≡ false = open_at r.is_ended (λ (x : r.is_ended ≡ true).
+    let still : r.is_ended ≡ false = false_from_ne_true r.is_ended (λ (x : r.is_ended ≡ true).
     let full : length v.histories ≡ v.sites = (h.ended x).0 in let none : length v.texts ≡ v.sites = (h.ended x).1 in
     absurd (omega (arith, h.site, h.texts))) in
     let same : length (on_last (push_entry e) v.histories) ≡ length v.histories = length_on_last
@@ -143,14 +142,14 @@ at_entry r lines number e h small fits is some no_logs no_texts reached =
       ended = λ x. no_end r.is_ended still x;
       histories = all_on_last FitsHistory (λ x. r.entries ≡ length x) (push_entry e)
           (λ x (l : r.entries ≡ length x) (f : FitsHistory x). record {
-            each = all_behind FitsEntry x (e ∷ []) f.each (fits, tt);
+            each = all_append FitsEntry x (e ∷ []) f.each (fits, tt);
             few = omega (arith, length-append x (e ∷ []));
           }) v.histories last h.histories;
       logs = h.logs;
       few_logs = h.few_logs;
       utf8 = h.utf8;
       said = more_said r v (with_entry v e) lines (EntryIs number e) still h.said
-          (open_entry v number e (nil_of v.logs (omega (arith, h.editors))) (nil_of v.texts (omega (arith, h.texts)))
+          (open_entry v number e (nil_from_length v.logs (omega (arith, h.editors))) (nil_from_length v.texts (omega (arith, h.texts)))
           (last_weaker (λ x. r.entries ≡ length x) (λ x. number ≡ 1 + length x)
           (λ x (l : r.entries ≡ length x). omega arith) v.histories last));
       reached = reached;
@@ -162,7 +161,7 @@ at_editor : (r : Reached) (lines : List TraceLine) (number home : ℕ) → IsAt 
     → IsAt (record r { editors = number }) (lines ++ EditorAt number home ∷ [])
 at_editor r lines number home h small least is within full no_texts reached =
     let v : TraceValue = h.value in
-    let still : r.is_ended ≡ false = open_at r.is_ended (λ (x : r.is_ended ≡ true).
+    let still : r.is_ended ≡ false = false_from_ne_true r.is_ended (λ (x : r.is_ended ≡ true).
     let none : length v.texts ≡ v.sites = (h.ended x).1 in absurd (omega (arith, h.sites, h.texts))) in
     let one_more : length (v.logs ++ record { home = home; did = [] } ∷ []) ≡ length v.logs + 1 = length-append v.logs
     (record { home = home; did = [] } ∷ []) in
@@ -180,12 +179,12 @@ at_editor r lines number home h small least is within full no_texts reached =
       first = λ (x : length v.histories < v.sites). absurd (omega (arith, h.site, h.sites));
       ended = λ x. no_end r.is_ended still x;
       histories = h.histories;
-      logs = all_behind (FitsLog v.sites) v.logs (record { home = home; did = [] } ∷ []) h.logs
+      logs = all_append (FitsLog v.sites) v.logs (record { home = home; did = [] } ∷ []) h.logs
           (record { some = least; within = omega (arith, h.sites); did = tt }, tt);
       few_logs = omega (arith, h.editors);
       utf8 = h.utf8;
       said = more_said r v (with_log v home) lines (EditorAt number home) still h.said
-          (open_log v number home (nil_of v.texts (omega (arith, h.texts))) (omega (arith, h.editors)));
+          (open_log v number home (nil_from_length v.texts (omega (arith, h.texts))) (omega (arith, h.editors)));
       reached = reached;
     }
 
@@ -198,7 +197,7 @@ at_did : (r : Reached) (lines : List TraceLine) (d : Did) → IsAt r lines → F
     → run nothing_read (lines ++ did_said d ∷ []) ≡ Some r → IsAt r (lines ++ did_said d ∷ [])
 at_did r lines d h fits some no_texts reached =
     let v : TraceValue = h.value in
-    let still : r.is_ended ≡ false = open_at r.is_ended (λ (x : r.is_ended ≡ true).
+    let still : r.is_ended ≡ false = false_from_ne_true r.is_ended (λ (x : r.is_ended ≡ true).
     let none : length v.texts ≡ v.sites = (h.ended x).1 in
     let no_logs : length v.logs ≡ 0 = no_logs_at_none v.sites v.logs (omega (arith, h.texts)) h.logs in absurd
     (omega (arith, h.editors))) in
@@ -223,14 +222,14 @@ at_did r lines d h fits some no_texts reached =
           (λ log _ (f : FitsLog v.sites log). record {
             some = f.some;
             within = f.within;
-            did = all_behind FitsDid
+            did = all_append FitsDid
                 log.did (d ∷ []) f.did (fits, tt);
           })
           v.logs (last_any v.logs there) h.logs;
       few_logs = omega (arith, h.few_logs);
       utf8 = h.utf8;
       said = more_said r v (with_did v d) lines (did_said d) still h.said
-          (open_did v d (nil_of v.texts (omega (arith, h.texts))) there);
+          (open_did v d (nil_from_length v.texts (omega (arith, h.texts))) there);
       reached = reached;
     }
 
@@ -240,7 +239,7 @@ at_text : (r : Reached) (lines : List TraceLine) (site : ℕ) (text : List ℕ) 
     → IsAt (record r { texts = site }) (lines ++ TextIs site text ∷ [])
 at_text r lines site text h fits is room full reached =
     let v : TraceValue = h.value in
-    let still : r.is_ended ≡ false = open_at r.is_ended (λ (x : r.is_ended ≡ true).
+    let still : r.is_ended ≡ false = false_from_ne_true r.is_ended (λ (x : r.is_ended ≡ true).
     let none : length v.texts ≡ v.sites = (h.ended x).1 in absurd (omega (arith, h.sites, h.texts))) in
     let one_more : length (v.texts ++ text ∷ []) ≡ length v.texts + 1 = length-append v.texts (text ∷ []) in
     record {
@@ -259,7 +258,7 @@ at_text r lines site text h fits is room full reached =
       histories = h.histories;
       logs = h.logs;
       few_logs = h.few_logs;
-      utf8 = all_behind IsUtf8 v.texts (text ∷ []) h.utf8 (fits, tt);
+      utf8 = all_append IsUtf8 v.texts (text ∷ []) h.utf8 (fits, tt);
       said = more_said r v (with_text v text) lines (TextIs site text) still h.said
           (open_text v site text (omega (arith, h.texts)));
       reached = reached;

@@ -7,8 +7,9 @@ use Rattle.std.specs.List.{AllByRecursion}
 use Rattle.std.specs.Option.{option_and_then}
 use Rattle.std.specs.Str.{IsUtf8}
 use Rattle.std.proofs.lemmas.Bool.{cond-true, and_from, eq-eqb, le-leb, lt-ltb, cases_lt}
-use Rattle.std.proofs.lemmas.List.{length-replicate}
+use Rattle.std.proofs.lemmas.List.{length-replicate, nil_from_length}
 use Rattle.std.proofs.lemmas.Str.{IsUtf8-nil}
+use Rattle.td_base.proofs.Passing.{all_append}
 use Rattle.td_trace.specs.declared.entry.TraceEntry.{TraceEntry}
 use Rattle.td_trace.specs.declared.log.Did.{Did}
 use Rattle.td_trace.specs.declared.log.Did.TheVariants.{Call, Look}
@@ -20,7 +21,7 @@ use Rattle.td_reader.specs.declared.reached.Reached.{Reached}
 use Rattle.td_reader.specs.Form.{IsBeginning, said}
 use Rattle.td_reader.specs.Reached.{nothing_read, reached_by}
 use Rattle.td_reader.specs.Values.{TraceValue, IsTraceValue, FitsHistory, FitsLog}
-use Rattle.td_reader.proofs.Lasts.{all_behind, all_same, nil_of, numbered_behind}
+use Rattle.td_reader.proofs.Lasts.{all_same, numbered_behind}
 use Rattle.td_reader.proofs.Openings.{opening, map_behind}
 use Rattle.td_reader.proofs.Reaching.{IsAt, run}
 
@@ -203,7 +204,7 @@ begins_early r lines h still early =
     let valid : IsTraceValue t = record {
       few = h.few;
       each_history = omega (arith, length-append v.histories (replicate m no_entries), length-replicate m no_entries);
-      histories = all_behind FitsHistory v.histories (replicate m no_entries) h.histories
+      histories = all_append FitsHistory v.histories (replicate m no_entries) h.histories
           (all_same FitsHistory m no_entries (record { each = tt; few = omega arith }));
       logs = h.logs;
       few_logs = h.few_logs;
@@ -214,14 +215,14 @@ begins_early r lines h still early =
             (replicate k no_text),
         length-replicate k no_text,
       );
-      texts = all_behind IsUtf8 v.texts (replicate k no_text) h.utf8 (all_same IsUtf8 k no_text IsUtf8-nil);
+      texts = all_append IsUtf8 v.texts (replicate k no_text) h.utf8 (all_same IsUtf8 k no_text IsUtf8-nil);
     } in
     beginning_by lines (b ++ (d ++ Ended ∷ [])) t valid
     (ap (λ (s : List TraceLine). SitesAre v.sites ∷ s)
     ((λ i. numbered_behind history_said 1 v.histories (replicate m no_entries) i
     ++ (numbered log_said 1 v.logs ++ (numbered_behind text_said 1 v.texts (replicate k no_text) i ++ Ended ∷ [])))
-    ∙ front_split a b (numbered log_said 1 v.logs) c d (Ended ∷ []) (ap (numbered log_said 1) (nil_of v.logs none.0))
-    (ap (numbered text_said 1) (nil_of v.texts none.1)))
+    ∙ front_split a b (numbered log_said 1 v.logs) c d (Ended ∷ []) (ap (numbered log_said 1) (nil_from_length v.logs none.0))
+    (ap (numbered text_said 1) (nil_from_length v.texts none.1)))
     ∙ ap (λ (s : List TraceLine). s ++ (b ++ (d ++ Ended ∷ []))) (sym (h.said ∙ ap (opening v) still)))
 
 begins_late : (r : Reached) (lines : List TraceLine) (h : IsAt r lines) → r.is_ended ≡ false
@@ -247,7 +248,7 @@ begins_late r lines h still late =
             (replicate k no_text),
         length-replicate k no_text,
       );
-      texts = all_behind IsUtf8 v.texts (replicate k no_text) h.utf8 (all_same IsUtf8 k no_text IsUtf8-nil);
+      texts = all_append IsUtf8 v.texts (replicate k no_text) h.utf8 (all_same IsUtf8 k no_text IsUtf8-nil);
     } in
     beginning_by lines (d ++ Ended ∷ []) t valid
     (ap (λ (s : List TraceLine). SitesAre v.sites ∷ s)

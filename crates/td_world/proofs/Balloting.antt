@@ -9,6 +9,7 @@ use Rattle.td_base.specs.Equality.{same_dot}
 use Rattle.td_base.proofs.Equals.{same_dot_refl, same_dot_true}
 use Rattle.td_base.specs.Lists.{In, Successive}
 use Rattle.td_base.proofs.Lists.{filter_In, map_In, all_of, all_in, successive_imp, successive_map}
+use Rattle.td_base.proofs.Passing.{filter_fewer}
 use Rattle.td_clock.specs.Vector.{vector_has}
 use Rattle.td_path.specs.declared.slot.Slot.{Slot}
 use Rattle.td_op.specs.declared.body.Body.{Body}
@@ -34,30 +35,6 @@ use Rattle.td_machine.proofs.StepKinds.{by_kinds}
 use Rattle.td_machine.proofs.Induction.{Anything, built_of, by_steps}
 
 -- ---- numbers
-
-pub filter_fewer : {X : Type 0} (test : X → Bool) (x : X) (xs : List X) → In x xs → test x ≡ false
-    → length (filter test xs) < length xs
-filter_fewer test x [] i e = absurd i
-filter_fewer {X = X} test x (y ∷ xs) (inl k) e = at (test y) (sym (ap test k) ∙ e)
-  where
-    no_more : (ys : List X) → length (filter test ys) ≤ length ys
-    no_more [] = omega arith
-    no_more (z ∷ ys) = cases (test z) (no_more ys)
-      where
-        cases : (b : Bool) → length (filter test ys) ≤ length ys
-            → length (if b then z ∷ filter test ys else filter test ys) ≤ suc (length ys)
-        cases true h = omega (arith, h)
-        cases false h = omega (arith, h)
-
-    at : (b : Bool) → b ≡ false → length (if b then y ∷ filter test xs else filter test xs) < suc (length xs)
-    at true f = absurd (true≢false f)
-    at false f = let h : length (filter test xs) ≤ length xs = no_more xs in omega (arith, h)
-filter_fewer test x (y ∷ xs) (inr i) e = at (test y) (filter_fewer test x xs i e)
-  where
-    at : (b : Bool) → length (filter test xs) < length xs
-        → length (if b then y ∷ filter test xs else filter test xs) < suc (length xs)
-    at true h = omega (arith, h)
-    at false h = omega (arith, h)
 
 -- a list that has all numbers from 1 to n is as long
 pub as_many : (n : ℕ) (xs : List ℕ) → ((k : ℕ) → 0 < k → k ≤ n → In k xs) → n ≤ length xs

@@ -3,6 +3,7 @@ use Rattle.std.proofs.Common.{◌≡◌, ◌<◌, ◌≤◌, ◌+◌, ◌-◌, �
 use Rattle.std.proofs.lemmas.Bool.{eqb-true, eqb-false, eq-eqb}
 use Rattle.std.proofs.lemmas.List.{length-replicate}
 use Rattle.std.specs.List.{filter_map, slice_get}
+use Rattle.std.proofs.lemmas.List.Elements.{filter-append}
 use Rattle.td_base.specs.declared.site.TheConstants.{MAX_SITE}
 use Rattle.td_base.specs.Lists.{In}
 use Rattle.td_base.proofs.Lists.{In-append}
@@ -20,7 +21,7 @@ use Rattle.td_world.specs.World.{WorldValue, IsWorld, AreSites, replica, replica
 use Rattle.td_world.specs.Parts.{posted, world_value, new_posts, ArePassed, IsWorldParts}
 use Rattle.td_world.specs.Calls.{is_ready}
 use Rattle.td_world.specs.Promises.{NobodyReady}
-use Rattle.td_world.proofs.Moves.{filter_both, size_family}
+use Rattle.td_world.proofs.Moves.{size_family}
 use Rattle.td_world.proofs.Posts.{news_stand, stand_both}
 use Rattle.td_world.proofs.Replicas.{history_from, new_from, new_length}
 use Rattle.td_world.proofs.Sending.{sending}
@@ -104,7 +105,7 @@ own_sent : (site s : ℕ) (replicas : List ReplicaValue) → AreOwn site replica
     → filter (is_sent_by s) (all_sent replicas) ≡ []
 own_sent site s [] own less = refl
 own_sent site s (r ∷ replicas) own less =
-    filter_both (is_sent_by s) r.machine.sent (all_sent replicas)
+    filter-append (is_sent_by s) r.machine.sent (all_sent replicas)
     ∙ (λ i. none i ++ own_sent (suc site) s replicas own.1 (omega (arith, less)) i)
   where
     off : (message : Message) → sender message ≡ site → (b : Bool) → nat_eq (sender message) s ≡ b
@@ -122,7 +123,7 @@ pub sent_there : (site k : ℕ) (replicas : List ReplicaValue) → AreOwn site r
 sent_there site k [] own less = absurd (omega (arith, less))
 sent_there site zero (r ∷ replicas) own less =
     let same : site + 0 ≡ site = omega arith in
-    filter_both (is_sent_by (site + 0)) r.machine.sent (all_sent replicas)
+    filter-append (is_sent_by (site + 0)) r.machine.sent (all_sent replicas)
     ∙ (λ i. all i ++ none i) ∙ append-nil r.machine.sent
   where
     all : filter (is_sent_by (site + 0)) r.machine.sent ≡ r.machine.sent
@@ -134,7 +135,7 @@ sent_there site zero (r ∷ replicas) own less =
     none = own_sent (suc site) (site + 0) replicas own.1 (omega arith)
 sent_there site (suc k) (r ∷ replicas) own less =
     let same : suc site + k ≡ site + suc k = omega arith in
-    filter_both (is_sent_by (site + suc k)) r.machine.sent (all_sent replicas)
+    filter-append (is_sent_by (site + suc k)) r.machine.sent (all_sent replicas)
     ∙ (λ i. none i ++ filter (is_sent_by (site + suc k)) (all_sent replicas))
     ∙ ap (λ (s : ℕ). filter (is_sent_by s) (all_sent replicas)) (sym same)
     ∙ sent_there (suc site) k replicas own.1 (omega (arith, less))

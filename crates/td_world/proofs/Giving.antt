@@ -2,6 +2,7 @@
 use Rattle.std.proofs.Common.{◌≡◌, ◌<◌, ◌≤◌, ◌+◌, ◌++◌, ℕ, zero, suc, List, [], ◌∷◌, Bool, true, false, if◌then◌else◌, length, drop, Option, Some, None, refl, sym, ap, ◌∙◌, subst, append-nil, append_assoc, length-append, arith}
 use Rattle.std.specs.List.{slice_get}
 use Rattle.std.specs.Option.{is_some}
+use Rattle.std.proofs.lemmas.List.{drop_all}
 use Rattle.td_op.specs.declared.message.Message.{Message}
 use Rattle.td_replica.specs.declared.given.Given.{Given}
 use Rattle.td_world.specs.World.{WorldValue, Move, size, moved_all}
@@ -93,12 +94,6 @@ module _ (to k : ℕ) (old now new : WorldValue) (given more : List (ℕ × Give
       doing_now
       (stopped_before (wanted_moves to m now) (moves_of to (drop (k + 1) old.sent) (moved_all (wanted_moves to m now) now)) now
       new c)
-
-drop_all : (k : ℕ) (messages : List Message) → length messages ≤ k → drop k messages ≡ []
-drop_all zero [] h = refl
-drop_all zero (x ∷ messages) h = absurd (omega (arith, h))
-drop_all (suc k) [] h = refl
-drop_all (suc k) (x ∷ messages) h = drop_all k messages (omega (arith, h))
 
 pub giving_all : (to k : ℕ) (old now : WorldValue) (given : List (ℕ × Given)) → IsGiving to k old now given
     → length old.sent ≤ k

@@ -3,6 +3,7 @@ use Rattle.std.proofs.Common.{◌≡◌, ◌<◌, ◌≤◌, ◌+◌, ◌-◌, �
 use Rattle.std.proofs.lemmas.Bool.{eqb-true, eqb-false}
 use Rattle.std.proofs.lemmas.List.{length-set, length-append, length-drop}
 use Rattle.std.specs.List.{filter_map, slice_get}
+use Rattle.std.proofs.lemmas.Option.{same_Some}
 use Rattle.td_base.specs.Lists.{In}
 use Rattle.td_base.proofs.Elements.{get_front, In-slice_get}
 use Rattle.td_op.specs.declared.input.Input.{Input}
@@ -41,14 +42,6 @@ pub set_value : {X : Type 0} (xs : List X) (k : ℕ) (x y : X) → slice_get (se
 set_value [] k x y e = absurd cc
 set_value (z ∷ xs) zero x y e = cc
 set_value (z ∷ xs) (suc k) x y e = set_value xs k x y e
-
-pub get_within : {X : Type 0} (xs : List X) (k : ℕ) (x : X) → slice_get xs k ≡ Some x → k < length xs
-get_within [] k x e = absurd cc
-get_within (y ∷ xs) zero x e = omega arith
-get_within (y ∷ xs) (suc k) x e = let h : k < length xs = get_within xs k x e in omega (arith, h)
-
-pub same_some : {X : Type 0} (x y : X) → Some x ≡ Some y → x ≡ y
-same_some x y e = cc
 
 -- ---- what was passed over stays passed over
 
@@ -231,7 +224,7 @@ pub some_get : {X Y : Type 0} (f : X → Option Y) (xs : List X) (ys : List Y) (
     → slice_get xs k ≡ Some x → (y : Y) × (f x ≡ Some y) × (slice_get ys k ≡ Some y)
 some_get f [] ys k x h e = absurd cc
 some_get f (z ∷ xs) [] k x h e = absurd h
-some_get f (z ∷ xs) (y ∷ ys) zero x h e = (y, subst (λ (v : _). f v ≡ Some y) (same_some z x e) h.0, refl)
+some_get f (z ∷ xs) (y ∷ ys) zero x h e = (y, subst (λ (v : _). f v ≡ Some y) (same_Some z x e) h.0, refl)
 some_get f (z ∷ xs) (y ∷ ys) (suc k) x h e = some_get f xs ys k x h.1 e
 
 -- no replica stands past the sites

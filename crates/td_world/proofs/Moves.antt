@@ -1,7 +1,8 @@
 -- A move that fits a world leads to a world.
-use Rattle.std.proofs.Common.{◌≡◌, ◌≢◌, ◌<◌, ◌≤◌, ◌-◌, ◌++◌, ℕ, suc, List, [], ◌∷◌, Bool, true, false, if◌then◌else◌, not, nat_eq, length, map, filter, drop, set, refl, sym, ap, ◌∙◌, subst, ⊎_elim, append-nil, true≢false, arith}
+use Rattle.std.proofs.Common.{◌≡◌, ◌≢◌, ◌<◌, ◌≤◌, ◌-◌, ◌++◌, ℕ, suc, List, [], ◌∷◌, Bool, true, false, not, nat_eq, length, map, filter, drop, set, refl, sym, ap, ◌∙◌, subst, ⊎_elim, append-nil, true≢false, arith}
 use Rattle.std.proofs.lemmas.Bool.{eqb-true, eqb-false, eq-eqb, and_parts}
 use Rattle.std.proofs.lemmas.List.{length-set}
+use Rattle.std.proofs.lemmas.List.Elements.{filter-append}
 use Rattle.td_base.specs.Lists.{In}
 use Rattle.td_base.proofs.Lists.{In-append, In-front, filter_In}
 use Rattle.td_base.proofs.Searches.{In-drop, filter_all, filter_none}
@@ -45,16 +46,6 @@ size_family w = at w.replicas
 pub drop_front : {X : Type 0} (xs ys : List X) → drop (length xs) (xs ++ ys) ≡ ys
 drop_front [] ys = refl
 drop_front (x ∷ xs) ys = drop_front xs ys
-
-pub filter_both : {X : Type 0} (test : X → Bool) (xs ys : List X) → filter test (xs ++ ys) ≡ filter test xs ++ filter test ys
-filter_both test [] ys = refl
-filter_both {X = X} test (x ∷ xs) ys = at (test x) (filter_both test xs ys)
-  where
-    at : (b : Bool) → filter test (xs ++ ys) ≡ filter test xs ++ filter test ys
-        → (if b then x ∷ filter test (xs ++ ys) else filter test (xs ++ ys))
-        ≡ (if b then x ∷ filter test xs else filter test xs) ++ filter test ys
-    at true e = ap (λ (l : List X). x ∷ l) e
-    at false e = e
 
 -- ---- the replicas after a move
 
@@ -198,7 +189,7 @@ module _ (w : WorldValue) (i : IsWorld w) (move : Move) (fit : IsFit w move) whe
       at : (b : Bool) → nat_eq s move.site ≡ b → filter (is_sent_by s) now.sent ≡ (machine_of now s).sent
       at true e =
           let same : s ≡ move.site = eqb-true s move.site e in
-          filter_both (is_sent_by s) w.sent (sent_by move w)
+          filter-append (is_sent_by s) w.sent (sent_by move w)
           ∙ ap (λ (l : List Message). l ++ filter (is_sent_by s) (sent_by move w)) (i.sent s up few)
           ∙ ap (λ (l : List Message). (machine_of w s).sent ++ l)
           (filter_all (is_sent_by s) (sent_by move w) (λ message j. eq-eqb (sender message) s (own_sent message j ∙ sym same)))
@@ -206,7 +197,7 @@ module _ (w : WorldValue) (i : IsWorld w) (move : Move) (fit : IsFit w move) whe
           ∙ sym (ap (λ (t : ℕ). (machine_of now t).sent) same ∙ ap (λ (r : ReplicaValue). r.machine.sent) here ∙ more_sent)
       at false e =
           let other : s ≢ move.site = eqb-false s move.site e in
-          filter_both (is_sent_by s) w.sent (sent_by move w)
+          filter-append (is_sent_by s) w.sent (sent_by move w)
           ∙ ap (λ (l : List Message). l ++ filter (is_sent_by s) (sent_by move w)) (i.sent s up few)
           ∙ ap (λ (l : List Message). (machine_of w s).sent ++ l)
           (filter_none (is_sent_by s) (sent_by move w)

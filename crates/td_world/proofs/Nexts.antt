@@ -5,6 +5,7 @@ use Rattle.std.specs.List.{AllByRecursion}
 use Rattle.td_base.proofs.Equals.{same_dot_refl}
 use Rattle.td_base.specs.Lists.{In}
 use Rattle.td_base.proofs.Lists.{In-filter, filter_In}
+use Rattle.td_base.proofs.Passing.{filter_fewer}
 use Rattle.td_path.specs.declared.slot.Slot.{Slot}
 use Rattle.td_op.specs.declared.input.Input.TheVariants.{Next}
 use Rattle.td_op.specs.declared.message.Message.{Message}
@@ -21,7 +22,6 @@ use Rattle.td_replica.specs.Replica.{ReplicaValue, is_idle}
 use Rattle.td_world.specs.World.{WorldValue, Move, size, replica, machine_of, moved, moved_all, is_for}
 use Rattle.td_world.specs.Calls.{is_ready, next, take, nexts, nexts_after, give_moves, found_moves, wanted_moves, is_wanted, moves_of, give_all_moves, pass_from, pass, passes}
 use Rattle.td_world.specs.Promises.{NobodyReady}
-use Rattle.td_world.proofs.Balloting.{filter_fewer}
 use Rattle.td_world.proofs.Moves.{size_moved, size_after, moved_here, moved_there, moved_both}
 
 -- ---- one machine

@@ -4,6 +4,7 @@ use Rattle.std.proofs.lemmas.Bool.{eqb-true, eqb-false, and_from}
 use Rattle.std.proofs.lemmas.Bool.Decides.{eqb_tells}
 use Rattle.std.proofs.lemmas.List.{length-set}
 use Rattle.std.specs.List.{slice_get}
+use Rattle.std.proofs.lemmas.Option.{same_Some}
 use Rattle.td_op.specs.declared.message.Message.{Message}
 use Rattle.td_op.specs.declared.message.Message.TheVariants.{Op, Vote}
 use Rattle.td_machine.specs.History.{sender}
@@ -12,7 +13,7 @@ use Rattle.td_world.specs.declared.post.Post.{Post}
 use Rattle.td_world.specs.World.{WorldValue, machine_of, moved_all, is_for}
 use Rattle.td_world.specs.Calls.{is_known, is_wanted, give_moves, took, wanted_moves, wanted_answer, moves_of, given_of}
 use Rattle.td_world.specs.Parts.{IsPassed, ArePassed, IsWorldParts, world_value}
-use Rattle.td_world.proofs.Kept.{get_found, same_some, set_there, set_value}
+use Rattle.td_world.proofs.Kept.{get_found, set_there, set_value}
 
 pub passed_at : (replicas : List ReplicaValue) (posts : List Post) (passed : List ℕ) → IsWorldParts replicas posts passed
     → (w : WorldValue) → world_value replicas posts ≡ w
@@ -36,15 +37,10 @@ unwanted_known site message w e to = at (is_known message (machine_of w site)) r
         absurd (true≢false (sym (and_from (is_for site message) (not (is_known message (machine_of w site))) to
         (ap (λ (b : Bool). not b) f)) ∙ e))
 
-pub get_less : {X : Type 0} (xs : List X) (k : ℕ) (x : X) → slice_get xs k ≡ Some x → k < length xs
-get_less [] k x e = absurd cc
-get_less (y ∷ xs) zero x e = omega arith
-get_less (y ∷ xs) (suc k) x e = let h : k < length xs = get_less xs k x e in omega (arith, h)
-
 pub unwanted_passed : (site k : ℕ) (message : Message) (w : WorldValue) → slice_get w.sent k ≡ Some message
     → is_wanted site message w ≡ false → IsPassed site w k
 unwanted_passed site k message w sent unwanted = λ m f to.
-    let same : message ≡ m = same_some message m (sym sent ∙ f) in
+    let same : message ≡ m = same_Some message m (sym sent ∙ f) in
     subst (λ (z : Message). is_known z (machine_of w site) ≡ true) same
     (unwanted_known site message w unwanted (subst (λ (z : Message). is_for site z ≡ true) (sym same) to))
 

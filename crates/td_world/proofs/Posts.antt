@@ -1,8 +1,9 @@
 -- Messages kept by their site and their number there.
-use Rattle.std.proofs.Common.{◌≡◌, ◌<◌, ◌≤◌, ◌+◌, ◌-◌, ◌++◌, ℕ, zero, suc, List, [], ◌∷◌, Bool, true, false, nat_eq, length, drop, set, Option, Some, None, refl, sym, ap, ◌∙◌, subst, append_assoc, arith}
+use Rattle.std.proofs.Common.{◌≡◌, ◌<◌, ◌≤◌, ◌+◌, ◌-◌, ◌++◌, ℕ, suc, List, [], ◌∷◌, Bool, true, false, nat_eq, length, drop, set, Option, Some, None, refl, sym, ap, ◌∙◌, subst, append_assoc, arith}
 use Rattle.std.proofs.lemmas.Bool.{eqb-true, eqb-false, eq-eqb}
 use Rattle.std.specs.Prelude.{if◌then◌else◌}
 use Rattle.std.specs.List.{filter_map, slice_get}
+use Rattle.td_base.proofs.Places.{get_more, get_behind}
 use Rattle.td_op.specs.declared.input.Input.{Input}
 use Rattle.td_op.specs.declared.message.Message.{Message}
 use Rattle.td_history.specs.Past.{kth}
@@ -28,11 +29,6 @@ posts_next site before after less =
 
 -- ---- what they stand for
 
-pub get_more : {X : Type 0} (xs ys : List X) (k : ℕ) (x : X) → slice_get xs k ≡ Some x → slice_get (xs ++ ys) k ≡ Some x
-get_more [] ys k x e = absurd cc
-get_more (y ∷ xs) ys zero x e = e
-get_more (y ∷ xs) ys (suc k) x e = get_more xs ys k x e
-
 -- the k-th from 1 is the one at the place before
 pub kth_is : {X : Type 0} (k : ℕ) (xs : List X) → (k ≡ 0 → ⊥) → kth k xs ≡ slice_get xs (k - 1)
 kth_is k xs some = at (nat_eq k 0) refl
@@ -56,15 +52,11 @@ kth_more {X = X} k xs ys x e = at (nat_eq k 0) refl e
         kth_is k (xs ++ ys) (eqb-false k 0 f)
         ∙ get_more xs ys (k - 1) x (sym (kth_is k xs (eqb-false k 0 f)) ∙ h)
 
-get_past : {X : Type 0} (xs : List X) (y : X) (ys : List X) → slice_get (xs ++ y ∷ ys) (length xs) ≡ Some y
-get_past [] y ys = refl
-get_past (x ∷ xs) y ys = get_past xs y ys
-
 kth_past : {X : Type 0} (xs : List X) (y : X) (ys : List X) → kth (length xs + 1) (xs ++ y ∷ ys) ≡ Some y
 kth_past xs y ys =
     let one : length xs + 1 - 1 ≡ length xs = omega arith in
     kth_is (length xs + 1) (xs ++ y ∷ ys) (λ (e : length xs + 1 ≡ 0). omega (arith, e))
-    ∙ (ap (λ (k : ℕ). slice_get (xs ++ y ∷ ys) k) one ∙ get_past xs y ys)
+    ∙ (ap (λ (k : ℕ). slice_get (xs ++ y ∷ ys) k) one ∙ get_behind xs y ys)
 
 -- what a site sends, where its replica has sent that
 pub news_stand : (replicas : List ReplicaValue) (site : ℕ) (front more : List Message)

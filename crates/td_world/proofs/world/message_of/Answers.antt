@@ -1,9 +1,10 @@
 use Rattle.std.proofs.Common.{◌≤◌, ◌-◌, ◌∙◌, ℕ, length, ap, sym, arith}
+use Rattle.std.proofs.lemmas.Option.{slice_get_within}
 use Rattle.td_base.proofs.Elements.{some_of}
 use Rattle.td_history.specs.Past.{kth}
 use Rattle.td_replica.specs.Replica.{ReplicaValue}
 use Rattle.td_world.specs.Parts.{posted}
-use Rattle.td_world.proofs.Kept.{get_within, kth_get, past_sites}
+use Rattle.td_world.proofs.Kept.{kth_get, past_sites}
 use Rattle.td_world.proofs.Replicas.{at_site}
 use Rattle.td_world.proofs.world.message_of.Goals as goal
 
@@ -31,7 +32,7 @@ message-requires-clause-within g c =
     let is = at_site c.args.replicas.now post.site c.place.result r c.place.ensures.place c.place.ensures.least within c.index-replicas-place.is in
     let there = kth_get post.number r.machine.sent s.0 (ap (λ (q : ReplicaValue). kth post.number q.machine.sent) is ∙ s.1) in
     let some = there.0 in
-    let few = get_within r.machine.sent (post.number - 1) s.0 there.1 in
+    let few = slice_get_within r.machine.sent (post.number - 1) s.0 there.1 in
     omega (arith, c.from.ensures)
 
 pub returns-clause-message : goal.returns-clause-message

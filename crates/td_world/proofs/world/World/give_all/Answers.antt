@@ -1,4 +1,5 @@
 use Rattle.std.proofs.Common.{◌≡◌, ◌≤◌, ◌<◌, ℕ, List, length, sym, ap, ◌∙◌, subst, vec_len, arith}
+use Rattle.std.proofs.lemmas.Option.{slice_get_within}
 use Rattle.td_replica.specs.declared.given.Given.{Given}
 use Rattle.td_world.specs.World.{WorldValue, IsWorld, size}
 use Rattle.td_world.specs.Promises.{NobodyReady}
@@ -6,7 +7,6 @@ use Rattle.td_world.proofs.Cuts.{err_always}
 use Rattle.td_world.proofs.Giving.{IsGiving, giving_none, giving_size, giving_more, giving_cut, giving_all, some_at, still_numbered}
 use Rattle.td_world.proofs.Kept.{as_many_posts}
 use Rattle.td_world.proofs.Nexts.{all_nobody}
-use Rattle.td_world.proofs.Passed.{get_less}
 use Rattle.td_world.proofs.world.World.give_all.Goals as goal
 
 pub loop-k-init : goal.loop-k-init
@@ -31,7 +31,7 @@ pub note_given-requires-clause-sent : goal.note_given-requires-clause-sent
 note_given-requires-clause-sent g c =
     let less : c.loop-k.k < length c.args.self.now.sent = omega (arith, c.loop-k-test.true, c.loop-k.invariant.2) in
     let m = some_at c.args.self.now.sent c.loop-k.k less in
-    get_less c.loop-k.self.sent c.loop-k.k m.0
+    slice_get_within c.loop-k.self.sent c.loop-k.k m.0
     (still_numbered c.args.to c.loop-k.k c.args.self.now c.loop-k.self c.loop-k.given.items c.loop-k.invariant.0 c.loop-k.k m.0 m.1)
 
 pub returns-in_err-note_given-clause-err : goal.returns-in_err-note_given-clause-err

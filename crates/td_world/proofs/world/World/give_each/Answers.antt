@@ -1,9 +1,9 @@
 use Rattle.std.proofs.Common.{◌≡◌, ◌<◌, ◌+◌, ℕ, Bool, if◌then◌else◌, length, sym, ap, ◌∙◌, subst, vec_len, arith}
+use Rattle.std.proofs.lemmas.Option.{slice_get_within}
 use Rattle.td_world.specs.World.{WorldValue, IsWorld, size}
 use Rattle.td_world.proofs.Cuts.{err_always}
 use Rattle.td_world.proofs.Giving.{giving_size, giving_stopped, some_at, still_numbered, counting_none, counting_next}
 use Rattle.td_world.proofs.Kept.{as_many_posts}
-use Rattle.td_world.proofs.Passed.{get_less}
 use Rattle.td_world.proofs.world.World.give_each.Goals as goal
 use Rattle.td_world.proofs.world.World.give_each.Goals.{then-is_some, else-is_some}
 
@@ -27,7 +27,7 @@ pub give_at-requires-clause-sent : goal.give_at-requires-clause-sent
 give_at-requires-clause-sent g c =
     let less : c.loop-k.k < length c.args.self.now.sent = omega (arith, c.loop-k-test.true, c.loop-k.invariant.2) in
     let m = some_at c.args.self.now.sent c.loop-k.k less in
-    get_less c.loop-k.self.sent c.loop-k.k m.0
+    slice_get_within c.loop-k.self.sent c.loop-k.k m.0
     (still_numbered c.args.to c.loop-k.k c.args.self.now c.loop-k.self c.loop-k.invariant.0.given c.loop-k.invariant.0.giving c.loop-k.k m.0 m.1)
 
 pub returns-in_err-give_at-clause-err : goal.returns-in_err-give_at-clause-err

@@ -1,10 +1,11 @@
 use Rattle.std.proofs.Common.{◌≡◌, List, Some, ap, ◌∙◌, sym}
 use Rattle.std.proofs.lemmas.Bool.{eqb-true}
 use Rattle.std.specs.List.{slice_get}
+use Rattle.std.proofs.lemmas.Option.{same_Some}
 use Rattle.td_machine.specs.History.{sender}
 use Rattle.td_world.specs.declared.post.Post.{Post}
 use Rattle.td_world.specs.World.{WorldValue}
-use Rattle.td_world.proofs.Kept.{get_found, posted_at, same_some}
+use Rattle.td_world.proofs.Kept.{get_found, posted_at}
 use Rattle.td_world.proofs.world.World.is_from.Goals as goal
 
 pub returns-in-Some : goal.returns-in-Some
@@ -15,6 +16,6 @@ returns-in-Some g c = λ own m sent.
     let here = posted_at c.self.inside.replicas.items c.self.inside.posts.items c.self.inside.passed.items c.self.invariant
     c.args.k c.in-Some.post.now c.number.ensures.least found in
     let same : here.message ≡ m =
-    same_some here.message m (sym here.sent ∙ ap (λ (w : WorldValue). slice_get w.sent c.args.k) c.self.view_is ∙ sent) in
+    same_Some here.message m (sym here.sent ∙ ap (λ (w : WorldValue). slice_get w.sent c.args.k) c.self.view_is ∙ sent) in
     ap sender (sym same) ∙ here.from ∙ sym c.number.ensures.value ∙ eqb-true c.number.result c.number-in-Some.result own
     ∙ c.number-in-Some.ensures.value
