@@ -2,8 +2,8 @@
 use Rattle.std.proofs.Common.{◌≡◌, ◌<◌, ◌+◌, ℕ, zero, suc, List, [], ◌∷◌, Bool, true, false, drop, Option, Some, None, ap, sym, refl, ◌∙◌, if◌then◌else◌, arith}
 use Rattle.std.specs.Prelude.{◌&&◌, not}
 use Rattle.std.specs.List.{slice_get}
-use Rattle.std.proofs.lemmas.List.{append-nil, append_assoc, drop_more}
-use Rattle.std.proofs.lemmas.Option.{slice_get_within, get_or_from_slice_get}
+use Rattle.std.proofs.lemmas.List.{append-nil, append_assoc}
+use Rattle.td_base.proofs.Places.{drop_there}
 use Rattle.td_op.specs.declared.message.Message.{Message}
 use Rattle.td_history.specs.Past.{kth}
 use Rattle.td_replica.specs.declared.given.Given.{Given}
@@ -115,12 +115,6 @@ next_given site number m rest p q is =
     then_then p given (give_each site (suc number) rest (moved_all (wanted_moves site m p.world) p.world))
     ∙ (λ i. and_then (sym is i) (give_each site (suc number) rest (world i)))
 
--- what stands at a place is the first behind those before it
-pub drop_at : {X : Type 0} (xs : List X) (k : ℕ) (x : X) → slice_get xs k ≡ Some x → drop k xs ≡ x ∷ drop (k + 1) xs
-drop_at xs k x there =
-    drop_more xs k x (slice_get_within xs k x there)
-    ∙ ap (λ z. z ∷ drop (k + 1) xs) (get_or_from_slice_get xs k x x there)
-
 -- one more of those that were sent when it began
 pub one_given : (site n : ℕ) (m : Message) (sent : List Message) (all p q : Printed) → slice_get sent n ≡ Some m
     → q ≡ and_then p (give_wanted site (n + 1) m p.world)
@@ -128,7 +122,7 @@ pub one_given : (site n : ℕ) (m : Message) (sent : List Message) (all p q : Pr
     → all ≡ and_then q (give_each site (n + 1 + 1) (drop (n + 1) sent) q.world)
 one_given site n m sent all p q there is all_is =
     let next : suc (n + 1) ≡ n + 1 + 1 = omega arith in
-    all_is ∙ ap (λ (l : List Message). and_then p (give_each site (n + 1) l p.world)) (drop_at sent n m there)
+    all_is ∙ ap (λ (l : List Message). and_then p (give_each site (n + 1) l p.world)) (drop_there sent n m there)
     ∙ next_given site (n + 1) m (drop (n + 1) sent) p q is
     ∙ ap (λ (k : ℕ). and_then q (give_each site k (drop (n + 1) sent) q.world)) next
 
