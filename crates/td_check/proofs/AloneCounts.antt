@@ -9,6 +9,7 @@ use Rattle.std.specs.Prelude.{slice_get}
 use Rattle.std.specs.declared.alloc.Global.{Global}
 use Rattle.std.specs.declared.vec.Vec.{Vec}
 use Rattle.td_base.proofs.Elements.{get_front}
+use Rattle.td_base.proofs.Places.{take_there}
 use Rattle.td_history.proofs.Places.{set_get}
 use Rattle.td_trace.specs.Editors.{calls_at, site_calls_at}
 use Rattle.td_trace.specs.declared.log.Did.{Did}
@@ -16,7 +17,6 @@ use Rattle.td_trace.specs.declared.log.Did.TheVariants.{Call, Look}
 use Rattle.td_trace.specs.declared.log.EditorLog.{EditorLog}
 use Rattle.td_reader.specs.LineNumbers.{did_count}
 use Rattle.td_reader.specs.Values.{TraceValue}
-use Rattle.td_check.proofs.DeedsJudged.{take_more}
 use Rattle.td_check.specs.Alone.{AreCounts, AreRows, IsRowOf, counted_at}
 
 -- ---- one element is set
@@ -75,7 +75,7 @@ did_counted log index did before row e a =
     (λ i.
     add_assoc (before i) (calls_at (i + 1) (take index log.did)) (calls_at (i + 1) (did ∷ []))
     ∙ ap (λ (n : ℕ). before i + n) (sym (calls_more (i + 1) (take index log.did) did))
-    ∙ ap (λ (deeds : List Did). before i + calls_at (i + 1) deeds) (sym (take_more log.did index did e)))
+    ∙ ap (λ (deeds : List Did). before i + calls_at (i + 1) deeds) (sym (take_there log.did index did e)))
     a
 
 -- one call, and a look
@@ -117,7 +117,7 @@ calls_here site k logs editor log e home =
     ap (λ (b : Bool). site_calls_at site k (take editor logs) + (if b then calls_at k log.did else 0))
     (sym (eq-eqb log.home site home))
     ∙ sym (site_calls_more site k (take editor logs) log)
-    ∙ ap (site_calls_at site k) (sym (take_more logs editor log e))
+    ∙ ap (site_calls_at site k) (sym (take_there logs editor log e))
 
 calls_there : (site k : ℕ) (logs : List EditorLog) (editor : ℕ) (log : EditorLog) → slice_get logs editor ≡ Some log
     → ¬ (log.home ≡ site)
@@ -127,7 +127,7 @@ calls_there site k logs editor log e other =
     ∙ ap (λ (b : Bool). site_calls_at site k (take editor logs) + (if b then calls_at k log.did else 0))
     (sym (ne_eqb log.home site other))
     ∙ sym (site_calls_more site k (take editor logs) log)
-    ∙ ap (site_calls_at site k) (sym (take_more logs editor log e))
+    ∙ ap (site_calls_at site k) (sym (take_there logs editor log e))
 
 row_passed : (t : TraceValue) (editor : ℕ) (log : EditorLog) (site : ℕ) (row : List ℕ)
     → slice_get t.logs editor ≡ Some log → ¬ (log.home ≡ site)

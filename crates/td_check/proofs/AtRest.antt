@@ -9,13 +9,13 @@ use Rattle.std.specs.List.{list_all}
 use Rattle.td_base.specs.Lists.{In}
 use Rattle.td_base.proofs.Elements.{In-slice_get}
 use Rattle.td_base.proofs.Searches.{each_passes, all_pass}
+use Rattle.td_base.proofs.Places.{place_of}
 use Rattle.td_machine.specs.Machine.{Machine, undecided}
 use Rattle.td_replay.specs.Judging.{States}
 use Rattle.td_check.specs.AtRest.{is_at_rest}
 use Rattle.td_check.specs.Findings.{IsSettled}
 use Rattle.td_check.specs.Seated.{AreSeated}
 use Rattle.td_reader.specs.Values.{TraceValue}
-use Rattle.td_check.proofs.SitePlaces.{place_of}
 
 rests : (have : List ℕ) (m : Machine) → is_at_rest have m ≡ true → (m.have ≡ have) × (undecided m ≡ 0)
 rests have m h =

@@ -1,14 +1,13 @@
 -- What an editor did, deed by deed.
 use Rattle.std.proofs.Common.{◌≡◌, ◌↔◌, ◌≤◌, ◌+◌, ◌++◌, ◌∷◌, ℕ, List, [], Bool, true, Option, Some, None, option_map}
 use Rattle.std.proofs.Common.{option_and_then, length, take, refl, sym, ap, ◌∙◌, subst, inl, inr, ⊎_elim, arith}
-use Rattle.std.proofs.lemmas.Grind.{take_at_read}
 use Rattle.std.proofs.lemmas.List.{take_all}
-use Rattle.std.proofs.lemmas.Option.{get_or_from_slice_get, slice_get_within}
 use Rattle.std.specs.List.{AllByRecursion}
 use Rattle.std.specs.Prelude.{slice_get}
 use Rattle.td_base.proofs.Elements.{In-slice_get}
 use Rattle.td_base.proofs.Lists.{In-append, all_in, all_of}
 use Rattle.td_base.specs.Lists.{In}
+use Rattle.td_base.proofs.Places.{take_there}
 use Rattle.td_trace.specs.Editors.{AreDid, IsDid, Sofar, further, nothing_yet}
 use Rattle.td_trace.specs.declared.entry.TraceEntry.{TraceEntry}
 use Rattle.td_trace.specs.declared.log.Did.{Did}
@@ -104,12 +103,6 @@ are_did_more entries text_at s [] did are is = (is, tt)
 are_did_more entries text_at s (first ∷ deeds) did are is =
     (are.0, are_did_more entries text_at (further s first) deeds did are.1 is)
 
-pub take_more : {X : Type 0} (xs : List X) (i : ℕ) (x : X) → slice_get xs i ≡ Some x
-    → take (i + 1) xs ≡ take i xs ++ x ∷ []
-take_more xs i x e =
-    (take_at_read xs i x (slice_get_within xs i x e)).1
-    ∙ ap (λ y. take i xs ++ y ∷ []) (get_or_from_slice_get xs i x x e)
-
 -- the first so many deeds of the editor are so, and come to this
 pub record IsSoFar (t : TraceValue) (text_at : ℕ → ℕ → List ℕ) (log : EditorLog) (index : ℕ) (s : Sofar) : Type 0 where
   pub good : AreDid (site_entries t.histories log.home) (text_at log.home) nothing_yet (take index log.did)
@@ -134,14 +127,14 @@ more_so_far t text_at log index s next did at is new b = record {
     entries = site_entries t.histories log.home
 
     more : take (index + 1) log.did ≡ take index log.did ++ did ∷ []
-    more = take_more log.did index did at
+    more = take_there log.did index did at
 
 -- ---- one more editor
 
 pub editor_more : {X : Type 0} (P : X → Type 0) (xs : List X) (i : ℕ) (x : X) → slice_get xs i ≡ Some x
     → AllByRecursion P (take i xs) → P x → AllByRecursion P (take (i + 1) xs)
 editor_more {X = X} P xs i x e front here =
-    subst (AllByRecursion P) (sym (take_more xs i x e))
+    subst (AllByRecursion P) (sym (take_there xs i x e))
     (all_of P (take i xs ++ x ∷ []) (λ y k.
     ⊎_elim
     (λ j. all_in P (take i xs) front y j)

@@ -2,6 +2,8 @@
 use Rattle.std.proofs.Common.{◌≡◌, ◌<◌, ◌≤◌, ◌+◌, ◌-◌, List, ◌∷◌, ℕ, length, drop}
 use Rattle.std.proofs.Common.{Some, None, slice_get, slice_set, refl, sym, ap, ◌∙◌, subst, arith}
 use Rattle.std.proofs.lemmas.List.{set-get_or}
+use Rattle.std.proofs.lemmas.Option.{slice_get_within}
+use Rattle.td_base.proofs.Places.{drop_there}
 use Rattle.td_machine.specs.Machine.{Machine, start}
 use Rattle.td_trace.specs.declared.entry.TraceEntry.{TraceEntry}
 use Rattle.td_replay.specs.Judging.{SiteState, Judgement, Steps, judge}
@@ -13,7 +15,7 @@ use Rattle.td_check.specs.Sites.{HasStopped, IsNext}
 use Rattle.td_check.specs.States.{state_in}
 use Rattle.td_check.specs.declared.judged.Judged.{Judged}
 use Rattle.td_check.specs.declared.judged.Judged.TheVariants as judged
-use Rattle.td_check.proofs.States.{state_is, next_entry, no_entry, entry_within, states_put, done_there}
+use Rattle.td_check.proofs.States.{state_is, no_entry, states_put, done_there}
 use Rattle.td_check.proofs.States.{done_elsewhere, one_less}
 
 module _ (old : ReplayValue) (site : ℕ) (some : 0 < site) (within : site ≤ length (histories_of old)) where
@@ -33,7 +35,7 @@ module _ (old : ReplayValue) (site : ℕ) (some : 0 < site) (within : site ≤ l
 
     left : (states_of old site).left ≡ entry ∷ rest
     left =
-        ap (λ (s : SiteState). s.left) there ∙ next_entry (site_entries all site) (done_of old site) entry is
+        ap (λ (s : SiteState). s.left) there ∙ drop_there (site_entries all site) (done_of old site) entry is
 
     abbrev judgement : Judgement
     judgement = judge all (states_of old) site (machine_of old site) entry.told entry.reply
@@ -105,7 +107,7 @@ module _ (old : ReplayValue) (site : ℕ) (some : 0 < site) (within : site ≤ l
           };
           fewer = one_less all old.done (site - 1) (omega (arith, some, within)) (omega
               (arith, some, within, each_done))
-              (entry_within (site_entries all site) k entry is);
+              (slice_get_within (site_entries all site) k entry is);
           here = done_there all old.machines old.done site some within each_machine each_done m;
           others = done_elsewhere all old.machines old.done site some within each_machine each_done m;
         })
@@ -117,4 +119,4 @@ pub is_left : (old mid : ReplayValue) (site : ℕ) (entry : TraceEntry)
     → done_of mid site < length (site_entries (histories_of mid) site)
 is_left old mid site entry is same =
     subst (λ (r : ReplayValue). done_of r site < length (site_entries (histories_of r) site)) (sym same)
-    (entry_within (site_entries (histories_of old) site) (done_of old site) entry is)
+    (slice_get_within (site_entries (histories_of old) site) (done_of old site) entry is)

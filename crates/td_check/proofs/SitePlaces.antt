@@ -1,24 +1,11 @@
 -- What stands at a place of a list.
-use Rattle.std.proofs.Common.{◌≡◌, ◌+◌, ◌-◌, ◌<◌, ◌||◌, ℕ, zero, suc, List, [], ◌∷◌, length, take, Bool}
-use Rattle.std.proofs.Common.{if◌then◌else◌}
-use Rattle.std.proofs.Common.{Option, Some, None, slice_get, sym, ap, ◌∙◌, inl, inr, arith}
-use Rattle.std.proofs.lemmas.Bool.{ne_eqb}
+use Rattle.std.proofs.Common.{◌≡◌, ◌+◌, ◌<◌, ◌||◌, ℕ, zero, suc, List, [], ◌∷◌, length, take, Bool}
+use Rattle.std.proofs.Common.{Option, Some, None, slice_get, sym, ap, ◌∙◌, arith}
 use Rattle.std.proofs.lemmas.List.Folds.{list_any_more}
 use Rattle.std.proofs.lemmas.Option.{slice_get_within, get_or_from_slice_get}
 use Rattle.std.specs.List.{list_any}
-use Rattle.td_base.specs.Lists.{In}
+use Rattle.td_base.proofs.Places.{kth_next}
 use Rattle.td_history.specs.Past.{kth}
-
--- the place of what is in a list
-pub place_of : {X : Type 0} (xs : List X) (x : X) → In x xs → (k : ℕ) × (slice_get xs k ≡ Some x)
-place_of [] x i = absurd i
-place_of (y ∷ ys) x (inl e) = (0, ap Some (sym e))
-place_of (y ∷ ys) x (inr i) = let p = place_of ys x i in (suc p.0, p.1)
-
-kth_next : {X : Type 0} (xs : List X) (k : ℕ) → kth (k + 1) xs ≡ slice_get xs k
-kth_next xs k =
-    ap (λ (b : Bool). if b then None else slice_get xs (k + 1 - 1)) (ne_eqb (k + 1) 0 (λ (e : k + 1 ≡ 0). omega arith))
-    ∙ ap (λ (j : ℕ). slice_get xs j) (omega arith)
 
 -- what stands at a place, asked for by its number
 pub next_of : {X : Type 0} (xs : List X) (k : ℕ) (x : X) {o : Option X} → o ≡ kth (k + 1) xs → o ≡ Some x

@@ -1,8 +1,10 @@
 -- The replay before its first entry.
 use Rattle.std.proofs.Common.{◌≡◌, ◌<◌, ◌≤◌, ◌+◌, ◌-◌, ◌++◌, ◌⊎◌, List, [], ◌∷◌, ℕ, zero, suc, Some, None, slice_get}
-use Rattle.std.proofs.Common.{length, take, get_or, replicate, inl, inr, refl, sym, ap, ◌∙◌, subst, arith}
+use Rattle.std.proofs.Common.{length, take, get_or, replicate, inl, inr, sym, ap, ◌∙◌, subst, arith}
 use Rattle.std.proofs.lemmas.Bool.{cases_order}
 use Rattle.std.proofs.lemmas.List.{length-take-le, length-append, get_or_append_left, get_or_push}
+use Rattle.std.proofs.lemmas.Option.{slice_get-get_or}
+use Rattle.td_base.proofs.Places.{take_there}
 use Rattle.td_machine.specs.Machine.{Machine, start}
 use Rattle.td_trace.specs.declared.entry.TraceEntry.{TraceEntry}
 use Rattle.td_reader.specs.Values.{TraceValue, IsTraceValue}
@@ -16,25 +18,10 @@ use Rattle.td_check.specs.ReplayParts.{AreStarted}
 use Rattle.td_check.specs.States.{states_in}
 use Rattle.td_check.proofs.States.{states_begin}
 
--- one more of a list
-pub taken_on : {X : Type 0} (xs : List X) (k : ℕ) (x : X) → slice_get xs k ≡ Some x
-    → take (k + 1) xs ≡ take k xs ++ x ∷ []
-taken_on xs k x e = let one : k + 1 ≡ suc k = omega arith in ap (λ (j : ℕ). take j xs) one ∙ on xs k e
-  where
-    on : (ys : List _) (j : ℕ) → slice_get ys j ≡ Some x → take (suc j) ys ≡ take j ys ++ x ∷ []
-    on [] j f = absurd cc
-    on (y ∷ ys) zero f = cc
-    on (y ∷ ys) (suc j) f = ap (λ (l : List _). y ∷ l) (on ys j f)
-
 pub not_past : {X : Type 0} (xs : List X) (k : ℕ) → slice_get xs k ≡ None → k < length xs → ⊥
 not_past [] k e less = omega (arith, less)
 not_past (x ∷ xs) zero e less = cc
 not_past (x ∷ xs) (suc k) e less = not_past xs k e (omega (arith, less))
-
-there_is : {X : Type 0} (xs : List X) (k : ℕ) (d : X) → k < length xs → slice_get xs k ≡ Some (get_or xs k d)
-there_is [] k d less = absurd (omega (arith, less))
-there_is (x ∷ xs) zero d less = refl
-there_is (x ∷ xs) (suc k) d less = there_is xs k d (omega (arith, less))
 
 -- what is counted of the next site is added
 pub made_on : (t : TraceValue) → IsTraceValue t → (k site : ℕ) → k < t.sites → site ≡ k + 1 → (old new : Made)
@@ -50,10 +37,10 @@ made_on t is k site less number old new counted push made_so_far it =
     let place : k ≡ site - 1 = omega (arith, number) in
     let within : k < n = omega (arith, less, is.each_history) in
     let there : slice_get t.histories k ≡ Some entries =
-    there_is t.histories k [] within ∙ ap (λ (j : ℕ). Some (get_or t.histories j [])) place in
+    slice_get-get_or t.histories k [] within ∙ ap (λ (j : ℕ). Some (get_or t.histories j [])) place in
     let front : length (take k t.histories) ≡ k = length-take-le k t.histories (omega (arith, within)) in
     let its : site ≡ length (take k t.histories) + 1 = omega (arith, number, front) in
-    subst (λ (all : List (List TraceEntry)). AreMade n all new) (sym (taken_on t.histories k entries there))
+    subst (λ (all : List (List TraceEntry)). AreMade n all new) (sym (take_there t.histories k entries there))
     (push n (take k t.histories) entries made_so_far
     (subst (λ (s : ℕ). AreCounted s n entries counted) its
     (subst (λ (m : ℕ). AreCounted site m entries counted) (sym is.each_history) it)))

@@ -1,8 +1,7 @@
 -- How far the sites of a replay are, when one does its next entry.
 use Rattle.std.proofs.Common.{true≢false, ◌==◌, ◌≡◌, ◌≢◌, ◌<◌, ◌≤◌, ◌+◌, ◌-◌, ◌&&◌, List, [], ◌∷◌, ℕ, zero, suc, Bool}
-use Rattle.std.proofs.Common.{true, false, nat_eq, nat_lt, nat_le, length, drop, get_or, replicate, set, Some}
+use Rattle.std.proofs.Common.{true, false, nat_eq, nat_lt, nat_le, length, drop, get_or, replicate, set}
 use Rattle.std.proofs.Common.{None, slice_get, if◌then◌else◌, refl, sym, ap, ◌∙◌, subst, arith}
-use Rattle.std.proofs.lemmas.Option.{same_Some}
 use Rattle.std.proofs.lemmas.Bool.{and_from, eqb-true, eqb-false, leb-true, le-leb, and_parts}
 use Rattle.std.proofs.lemmas.List.{get_or-set_same, get_or-set_other}
 use Rattle.td_machine.specs.Machine.{Machine, start}
@@ -44,26 +43,11 @@ states_begin all machines started n = λ i site. at site (nat_lt 0 site && nat_l
           left = drop (none_done n (site - 1) i) (site_entries all site);
         }
 
--- the next entry, and none
-pub next_entry : {X : Type 0} (xs : List X) (k : ℕ) (x : X) → slice_get xs k ≡ Some x → drop k xs ≡ x ∷ drop (k + 1) xs
-next_entry xs k x e =
-    let one : suc k ≡ k + 1 = omega arith in front xs k e ∙ ap (λ (j : ℕ). x ∷ drop j xs) one
-  where
-    front : (ys : List _) (j : ℕ) → slice_get ys j ≡ Some x → drop j ys ≡ x ∷ drop (suc j) ys
-    front [] j f = absurd cc
-    front (y ∷ ys) zero f = ap (λ (z : _). z ∷ ys) (same_Some y x f)
-    front (y ∷ ys) (suc j) f = front ys j f
-
 pub no_entry : {X : Type 0} (xs : List X) (k : ℕ) → slice_get xs k ≡ None → drop k xs ≡ []
 no_entry [] zero e = refl
 no_entry [] (suc k) e = refl
 no_entry (y ∷ ys) zero e = absurd cc
 no_entry (y ∷ ys) (suc k) e = no_entry ys k e
-
-pub entry_within : {X : Type 0} (xs : List X) (k : ℕ) (x : X) → slice_get xs k ≡ Some x → k < length xs
-entry_within [] k x e = absurd cc
-entry_within (y ∷ ys) zero x e = omega arith
-entry_within (y ∷ ys) (suc k) x e = let rest = entry_within ys k x e in omega (arith, rest)
 
 -- ---- a site goes on
 

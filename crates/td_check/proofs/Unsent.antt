@@ -9,6 +9,7 @@ use Rattle.std.specs.Option.{MatchOption}
 use Rattle.td_base.specs.Lists.{In}
 use Rattle.td_base.proofs.Lists.{all_in}
 use Rattle.td_base.proofs.Elements.{In-slice_get}
+use Rattle.td_base.proofs.Places.{place_of}
 use Rattle.td_op.specs.Message.{IsVote}
 use Rattle.td_op.specs.declared.message.Message.TheVariants.{Vote as AVote}
 use Rattle.td_op.specs.declared.vote.Vote.{Vote}
@@ -26,7 +27,6 @@ use Rattle.td_check.specs.FirstUnsent.{IsFirstUnsent}
 use Rattle.td_check.specs.Stops.{IsUnsentAt, IsBefore}
 use Rattle.td_check.specs.Unsent.{is_unknown, tells_unknown, AreKnown, IsFirstUnknown}
 use Rattle.td_reader.specs.Values.{TraceValue, IsTraceValue, FitsEntry, FitsHistory, FitsTold}
-use Rattle.td_check.proofs.SitePlaces.{place_of}
 use Rattle.td_check.proofs.SentVotes.{sent_in, in_sent}
 
 -- the set has exactly the votes that the sites with these machines sent

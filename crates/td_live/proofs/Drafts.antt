@@ -1,8 +1,8 @@
 -- The desks taken apart, one after the other, and the books brought up.
-use Rattle.std.proofs.Common.{◌≡◌, ◌<◌, ◌+◌, ◌++◌, ℕ, zero, suc, List, [], ◌∷◌, length, map, take, get_or, remove, Some, slice_get, refl, sym, ap, ◌∙◌, subst, append_assoc, append-nil, arith}
+use Rattle.std.proofs.Common.{◌≡◌, ◌<◌, ◌+◌, ◌++◌, ℕ, zero, suc, List, [], ◌∷◌, length, map, take, get_or, refl, sym, ap, ◌∙◌, subst, append_assoc, append-nil, arith}
 use Rattle.std.specs.List.{AllByRecursion, AllZip}
-use Rattle.std.proofs.lemmas.List.{map-append}
-use Rattle.td_site.proofs.Lists.{all_both}
+use Rattle.std.proofs.lemmas.List.{map-append, nil_from_length}
+use Rattle.td_base.proofs.Passing.{all_append}
 use Rattle.td_line.specs.declared.answer.Answer.{Answer}
 use Rattle.td_line.specs.Editors.{EditorValue}
 use Rattle.td_trace.specs.declared.log.Did.{Did}
@@ -40,17 +40,13 @@ taking_next all left next editors more books others t n =
           ∙ sym (map-append (λ (d : DeskValue). d.editor) t.done (n.desk ∷ []));
       books_are = n.book ∙ ap (λ (l : List BookValue). l ++ book_of n.desk ∷ []) t.books_are
           ∙ sym (map-append book_of t.done (n.desk ∷ []));
-      desks = all_both IsDesk t.done (n.desk ∷ []) t.desks (n.is, tt);
+      desks = all_append IsDesk t.done (n.desk ∷ []) t.desks (n.is, tt);
     }
-
-no_more : {X : Type 0} (xs : List X) → length xs ≡ 0 → xs ≡ []
-no_more [] e = refl
-no_more (x ∷ xs) e = absurd (omega (arith, e))
 
 pub taking_last : (all left : List DeskValue) (editors : List EditorValue) (books : List BookValue) → length left ≡ 0
     → IsTaking all left editors books → IsTaking all [] editors books
 taking_last all left editors books none t =
-    subst (λ (l : List DeskValue). IsTaking all l editors books) (no_more left none) t
+    subst (λ (l : List DeskValue). IsTaking all l editors books) (nil_from_length left none) t
 
 pub taking_all : (all : List DeskValue) (editors : List EditorValue) (books : List BookValue)
     → IsTaking all [] editors books → (t : List DeskValue) × (all ≡ t) × AllByRecursion IsDesk t

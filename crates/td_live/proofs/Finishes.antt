@@ -1,17 +1,17 @@
 -- The books of all editors, done one after the other.
-use Rattle.std.proofs.Common.{◌≡◌, ◌<◌, ◌≤◌, ◌+◌, ◌++◌, ℕ, List, [], ◌∷◌, length, map, refl, sym, ap, ◌∙◌, subst, append_assoc, append-nil, arith}
+use Rattle.std.proofs.Common.{◌≡◌, ◌≤◌, ◌+◌, ◌++◌, ℕ, List, [], ◌∷◌, length, map, refl, sym, ap, ◌∙◌, subst, append_assoc, arith}
 use Rattle.std.specs.List.{AllZip, AllByRecursion}
 use Rattle.std.proofs.lemmas.List.{map-append}
-use mathlib.Core.List.{IsPrefix}
+use Rattle.td_base.proofs.Passing.{zip_weaker, all_append}
 use Rattle.td_machine.specs.History.{Family, history}
-use Rattle.td_site.proofs.Lists.{prefix_self, prefix_then, all_both}
+use Rattle.td_site.proofs.Lists.{prefix_self, prefix_then}
 use Rattle.td_line.specs.Calls.{local_at}
-use Rattle.td_room.proofs.Walks.{zip_self, zip_on}
+use Rattle.td_room.proofs.Walks.{zip_self}
 use Rattle.td_script.specs.declared.live.editor_line.EditorLine.{EditorLine}
 use Rattle.td_trace.specs.declared.log.EditorLog.{EditorLog}
 use Rattle.td_trace.specs.Editors.{site_calls_at}
-use Rattle.td_live.specs.Following.{Rest, Act, Leads, Stays, Calls, Looks, Begins, IsOver}
-use Rattle.td_live.specs.Books.{BookValue, IsBook, AreBooks, AreCounted, IsGrown, GoesFurther, log_of}
+use Rattle.td_live.specs.Following.{IsOver}
+use Rattle.td_live.specs.Books.{BookValue, IsBook, AreBooks, AreCounted, GoesFurther, log_of}
 use Rattle.td_live.specs.Finishing.{LaterBook, IsFinishing, FinishedNext}
 use Rattle.td_live.proofs.Recording.{grown_self, grown_then, book_grown, site_calls_both}
 
@@ -39,7 +39,7 @@ module _ (old : Family) (b : BookValue) (new : Family) (c : BookValue) (g : Goes
   each_replaced [] [] left z = absurd z
   each_replaced [] (d ∷ done) left z = absurd z
   each_replaced (l ∷ lines) [] left z =
-      (g.follows l z.0, zip_on (IsBook old) (IsBook new) lines left (λ own x i. book_grown old new g.grown own x i) z.1)
+      (g.follows l z.0, zip_weaker (IsBook old) (IsBook new) lines left (λ own x i. book_grown old new g.grown own x i) z.1)
   each_replaced (l ∷ lines) (d ∷ done) left z = (book_grown old new g.grown l d z.0, each_replaced lines done left z.1)
 
   parts : (site k : ℕ) (done left : List BookValue) (x : BookValue)
@@ -96,7 +96,7 @@ finishing_next old all now new logs more books left f n =
       done = f.done ++ n.last ∷ [];
       logs_are = n.one ∙ ap (λ (ls : List EditorLog). ls ++ log_of n.last ∷ []) f.logs_are
           ∙ sym (map-append log_of f.done (n.last ∷ []));
-      over = all_both (λ (b : BookValue). IsOver b.rest) f.done (n.last ∷ []) f.over (n.over, tt);
+      over = all_append (λ (b : BookValue). IsOver b.rest) f.done (n.last ∷ []) f.over (n.over, tt);
       later = subst (λ (bs : List BookValue). AllZip LaterBook all bs) assoc
           (later_replaced now n.book new n.last n.further all f.done left
           (subst (λ (bs : List BookValue). AllZip LaterBook all (f.done ++ bs)) n.first f.later));

@@ -1,8 +1,9 @@
 -- What was done, and one thing more.
-use Rattle.std.proofs.Common.{◌≡◌, ◌≤◌, ◌+◌, ◌-◌, ◌++◌, ℕ, suc, List, [], ◌∷◌, length, drop, refl, sym, ap, ◌∙◌, subst, inl, inr, arith}
+use Rattle.std.proofs.Common.{◌≡◌, ◌≤◌, ◌+◌, ◌-◌, ◌++◌, ℕ, suc, List, [], ◌∷◌, length, drop, refl, ap, subst, inl, inr, arith}
 use Rattle.std.specs.List.{concat}
 use mathlib.Core.List.{IsPrefix}
 use Rattle.td_base.specs.Lists.{In}
+use Rattle.td_base.proofs.Lists.{In-front}
 use Rattle.td_view.specs.declared.publish.Publish.{Publish}
 use Rattle.td_view.specs.Publishes.{EndsWith}
 use Rattle.td_line.specs.declared.ask.Ask.{Ask as Sent}
@@ -89,11 +90,6 @@ sofar_more s (d ∷ did) x = sofar_more (further s d) did x
 
 -- ---- what was seen
 
-in_more : {X : Type 0} (x : X) (xs more : List X) → In x xs → In x (xs ++ more)
-in_more x [] more i = absurd i
-in_more x (y ∷ xs) more (inl e) = inl e
-in_more x (y ∷ xs) more (inr i) = inr (in_more x xs more i)
-
 -- the last publish is one of them
 pub in_last : (seen : List Publish) (p : Publish) → EndsWith seen p → In p seen
 in_last [] p e = let e' : ◌≡◌ {A = List Publish} [] (p ∷ []) = e in absurd cc
@@ -112,7 +108,7 @@ seen_on : (seen more : List Publish) (entry upto : ℕ) (did : List Did) → Are
 seen_on seen more entry upto [] are = tt
 seen_on seen more entry upto (Call c k ∷ did) are = seen_on seen more k upto did are
 seen_on seen more entry upto (Look c u t ∷ did) are =
-    (are.0, are.1, (are.2.0, in_more are.2.0 seen more are.2.1, are.2.2, are.2.3), seen_on seen more entry u did are.3)
+    (are.0, are.1, (are.2.0, In-front are.2.0 seen more are.2.1, are.2.2, are.2.3), seen_on seen more entry u did are.3)
 
 -- who sees more has seen the same
 pub seen_later : (seen new : List Publish) (entry upto : ℕ) (did : List Did) → IsPrefix seen new

@@ -1,15 +1,14 @@
 -- The books of editors that did nothing yet, in a world of sites that did nothing.
-use Rattle.std.proofs.Common.{◌≡◌, ◌<◌, ◌≤◌, ◌+◌, ◌-◌, ◌++◌, ℕ, zero, suc, Bool, true, false, List, [], ◌∷◌, length, map, take, drop, get_or, All, if◌then◌else◌, ◌==◌, refl, sym, ap, ◌∙◌, subst, append-nil, append_assoc, arith}
+use Rattle.std.proofs.Common.{◌≡◌, ◌<◌, ◌≤◌, ◌+◌, ◌-◌, ◌++◌, ℕ, zero, suc, Bool, true, false, List, [], ◌∷◌, length, map, drop, get_or, if◌then◌else◌, ◌==◌, refl, sym, ap, ◌∙◌, subst, append-nil, append_assoc, arith}
 use Rattle.std.specs.List.{AllZip, AllByRecursion}
-use Rattle.std.proofs.lemmas.List.{length-map}
+use Rattle.std.proofs.lemmas.List.{length-map, drop_more}
 use Rattle.td_machine.specs.History.{History, history}
-use Rattle.td_replica.specs.Replica.{ReplicaValue, new_replica}
+use Rattle.td_replica.specs.Replica.{ReplicaValue}
 use Rattle.td_line.specs.Calls.{local_at}
-use Rattle.td_room.proofs.Opens.{drop_one, drop_whole}
+use Rattle.td_room.proofs.Opens.{drop_whole}
 use Rattle.td_script.specs.declared.live.editor_line.EditorLine.{EditorLine}
-use Rattle.td_trace.specs.declared.log.EditorLog.{EditorLog}
 use Rattle.td_trace.specs.Editors.{site_calls_at}
-use Rattle.td_world.specs.World.{new_world, new_replicas, family_of, size, replica_from}
+use Rattle.td_world.specs.World.{new_world, new_replicas, family_of, size}
 use Rattle.td_world.proofs.Replicas.{history_from, new_length, new_from}
 use Rattle.td_live.specs.Following.{all_of, Stays}
 use Rattle.td_live.specs.Live.{IsTraceAmong, IsLiveFamilyOf}
@@ -111,7 +110,7 @@ pub open_next : (homes : List ℕ) (i home : ℕ) (lines left : List (List Edito
     → more ++ new_books (drop (i + 1) homes) left ≡ all
 open_next homes i home lines left own books more all less at first was is =
     let hs : drop i homes ≡ home ∷ drop (i + 1) homes =
-    drop_one homes i home less ∙ ap (λ (h : ℕ). h ∷ drop (i + 1) homes) (sym at) in
+    drop_more homes i home less ∙ ap (λ (h : ℕ). h ∷ drop (i + 1) homes) (sym at) in
     ap (λ (bs : List BookValue). bs ++ new_books (drop (i + 1) homes) left) is
     ∙ append_assoc books (record { home = home; rest = all_of own; did = [] } ∷ []) (new_books (drop (i + 1) homes) left)
     ∙ ap (λ (x : List ℕ × List (List EditorLine)). books ++ new_books x.0 x.1) (λ k. (sym hs k, sym first k)) ∙ was

@@ -1,25 +1,23 @@
 -- What the moves of a world do to the histories of its sites.
-use Rattle.std.proofs.Common.{◌≡◌, ◌≢◌, ◌<◌, ◌≤◌, ◌-◌, ◌+◌, ◌++◌, ℕ, zero, suc, Bool, true, false, List, [], ◌∷◌, if◌then◌else◌, length, map, set, nat_eq, refl, sym, ap, ◌∙◌, subst, append-nil, append_assoc, arith}
+use Rattle.std.proofs.Common.{◌≡◌, ◌≢◌, ◌<◌, ◌≤◌, ◌-◌, ◌+◌, ◌++◌, ℕ, zero, suc, Bool, true, false, List, [], ◌∷◌, if◌then◌else◌, length, set, nat_eq, refl, sym, ap, ◌∙◌, subst, append-nil, append_assoc}
 use Rattle.std.proofs.lemmas.Bool.{eqb-true, eqb-false}
-use Rattle.std.specs.List.{AllZip, AllByRecursion}
+use Rattle.std.specs.List.{AllByRecursion}
+use Rattle.td_base.proofs.Passing.{zip_weaker, all_append}
 use mathlib.Core.List.{IsPrefix}
 use Rattle.td_op.specs.declared.entry.Entry.{Entry}
 use Rattle.td_op.specs.declared.input.Input.{Input}
 use Rattle.td_op.specs.declared.message.Message.{Message}
-use Rattle.td_machine.specs.History.{Family, History, history}
+use Rattle.td_machine.specs.History.{History, history}
 use Rattle.td_machine.specs.Step.{step}
 use Rattle.td_replica.specs.Replica.{ReplicaValue, after_step}
-use Rattle.td_site.proofs.Lists.{all_both}
 use Rattle.td_line.specs.Calls.{local_in, local_at}
 use Rattle.td_line.proofs.Calling.{local_same}
-use Rattle.td_room.proofs.Walks.{zip_on}
 use Rattle.td_script.specs.declared.live.editor_line.EditorLine.{EditorLine}
-use Rattle.td_trace.specs.Editors.{site_calls_at}
 use Rattle.td_world.specs.World.{WorldValue, Move, size, replica, replica_from, machine_of, family_of, moved, moved_all}
-use Rattle.td_world.specs.Calls.{is_ready, is_wanted, next, nexts, nexts_after, take, give_moves, wanted_moves, moves_of, give_all_moves, pass_from, pass, passes, IsSettled}
+use Rattle.td_world.specs.Calls.{is_ready, is_wanted, next, nexts, take, give_moves, wanted_moves, moves_of, give_all_moves, pass_from, pass, passes, IsSettled}
 use Rattle.td_world.proofs.Moves.{size_family, size_moved, size_after, moved_here, moved_there}
 use Rattle.td_world.proofs.Replicas.{history_from}
-use Rattle.td_live.specs.Books.{BookValue, IsBook, AreBooks, AreCounted, IsGrown, log_of}
+use Rattle.td_live.specs.Books.{BookValue, IsBook, AreBooks, IsGrown}
 use Rattle.td_live.proofs.Recording.{book_grown}
 
 pub history_of : (w : WorldValue) (site : ℕ) → history (family_of w) site ≡ (replica w site).entries
@@ -41,7 +39,7 @@ quietly_then f g h a b =
     record {
       more = a.more ++ b.more;
       goes_on = sym (append_assoc f a.more b.more) ∙ ap (λ (x : History). x ++ b.more) a.goes_on ∙ b.goes_on;
-      quiet = all_both (λ (e : Entry). local_in e.input ≡ 0) a.more b.more a.quiet b.quiet;
+      quiet = all_append (λ (e : Entry). local_in e.input ≡ 0) a.more b.more a.quiet b.quiet;
     }
 
 quietly_stepped : (replicas : List ReplicaValue) (k j : ℕ) (input : Input) → local_in input ≡ 0
@@ -94,20 +92,20 @@ wanted_quiet site message w = at (is_wanted site message w)
 all_quiet : (site : ℕ) (messages : List Message) (w : WorldValue) → AllByRecursion IsQuiet (moves_of site messages w)
 all_quiet site [] w = tt
 all_quiet site (message ∷ messages) w =
-    all_both IsQuiet (wanted_moves site message w)
+    all_append IsQuiet (wanted_moves site message w)
     (moves_of site messages (moved_all (wanted_moves site message w) w)) (wanted_quiet site message w)
     (all_quiet site messages (moved_all (wanted_moves site message w) w))
 
 pass_quiet : (k site : ℕ) (w : WorldValue) → AllByRecursion IsQuiet (pass_from k site w)
 pass_quiet zero site w = tt
 pass_quiet (suc k) site w =
-    all_both IsQuiet (give_all_moves site w) (pass_from k (suc site) (moved_all (give_all_moves site w) w))
+    all_append IsQuiet (give_all_moves site w) (pass_from k (suc site) (moved_all (give_all_moves site w) w))
     (all_quiet site w.sent w) (pass_quiet k (suc site) (moved_all (give_all_moves site w) w))
 
 passes_quiet : (k : ℕ) (w : WorldValue) → AllByRecursion IsQuiet (passes k w)
 passes_quiet zero w = tt
 passes_quiet (suc k) w =
-    all_both IsQuiet (pass w) (passes k (moved_all (pass w) w)) (pass_quiet (size w) 1 w)
+    all_append IsQuiet (pass w) (passes k (moved_all (pass w) w)) (pass_quiet (size w) 1 w)
     (passes_quiet k (moved_all (pass w) w))
 
 -- ---- what is settled
@@ -134,7 +132,7 @@ module _ (old new : WorldValue) (given : ℕ) (s : IsSettled old new given) wher
       → AreBooks (family_of new) lines books
   books_settled lines books h =
       record {
-        each = zip_on (IsBook (family_of old)) (IsBook (family_of new)) lines books
+        each = zip_weaker (IsBook (family_of old)) (IsBook (family_of new)) lines books
             (λ own x i. book_grown (family_of old) (family_of new) grown_settled own x i) h.each;
         counted = λ site k some within.
             let q = quietly site in

@@ -379,10 +379,6 @@ waits_off none = (λ t. absurd (true≢false (sym t)), λ p. absurd (none p))
 pub not_waiting : (waits : Bool) (P : Type 0) → IsTrue waits ↔ P → waits ≡ false → P → ⊥
 not_waiting waits P is off p = absurd (true≢false (sym (is.1 p) ∙ off))
 
-pub on_err : {T E P Q : Type 0} (r : Result T E) → (P → Q) → OnErr r P → OnErr r Q
-on_err (Ok x) f p = tt
-on_err (Err e) f p = f p
-
 pub always_err : {T E P : Type 0} (r : Result T E) → P → OnErr r P
 always_err (Ok x) p = tt
 always_err (Err e) p = p

@@ -2,6 +2,8 @@
 use Rattle.std.proofs.Common.{◌≡◌, ◌<◌, ◌+◌, ℕ, suc, List, [], ◌∷◌, ◌++◌, Bool, true, false, ◌&&◌, length, take, drop, get_or, map, Option, Some, None, refl, sym, ap, ◌∙◌, append_assoc, take-append-drop, drop-cons}
 use Rattle.std.specs.List.{list_all}
 use Rattle.std.proofs.lemmas.List.{append-nil}
+use Rattle.std.proofs.lemmas.List.Folds.{list_all-append}
+use Rattle.std.proofs.lemmas.Bool.{and_from}
 use Rattle.td_doc.specs.Slots.{rows_in_slot, is_known}
 use Rattle.td_base.specs.declared.bit.Bit.{Bit}
 use Rattle.td_path.specs.declared.slot.Slot.{Slot}
@@ -17,17 +19,6 @@ use Rattle.td_tree.proofs.Shown.{shown-append, shown_more, entries}
 use Rattle.td_doc.proofs.RootRows.{all_in_root}
 use Rattle.td_tree.proofs.SideItems.{SideItems, after_is_at}
 
-pub all-append : (test : ℕ → Bool) (xs ys : List ℕ) → list_all test (xs ++ ys) ≡ (list_all test xs && list_all test ys)
-all-append test [] ys = refl
-all-append test (x ∷ xs) ys = ap (λ (b : Bool). test x && b) (all-append test xs ys) ∙ regroup (test x) (list_all test xs) (list_all test ys)
-  where
-    regroup : (a b c : Bool) → (a && (b && c)) ≡ ((a && b) && c)
-    regroup true b c = refl
-    regroup false b c = refl
-
-both : (a b : Bool) → a ≡ true → b ≡ true → (a && b) ≡ true
-both a b e f = ap (λ (c : Bool). c && b) e ∙ f
-
 second_false : (a b c : Bool) → b ≡ false → (a && (b && c)) ≡ false
 second_false true b c e = ap (λ (d : Bool). d && c) e
 second_false false b c e = refl
@@ -35,19 +26,19 @@ second_false false b c e = refl
 module _ (test : ℕ → Bool) (p : Parts) where
   -- all of some items, and of those that follow them
   pub known_more : (xs ys : List Item) → list_all test (shown p xs) ≡ true → list_all test (shown p ys) ≡ true → list_all test (shown p (xs ++ ys)) ≡ true
-  known_more xs ys e f = ap (list_all test) (shown-append p xs ys) ∙ all-append test (shown p xs) (shown p ys) ∙ both (list_all test (shown p xs)) (list_all test (shown p ys)) e f
+  known_more xs ys e f = ap (list_all test) (shown-append p xs ys) ∙ list_all-append test (shown p xs) (shown p ys) ∙ and_from (list_all test (shown p xs)) (list_all test (shown p ys)) e f
 
   pub known_next : (items : List Item) (k : ℕ) → k < length items → list_all test (shown p (take k items)) ≡ true → list_all test (shown_at p (get_or items k nothing)) ≡ true
       → list_all test (shown p (take (k + 1) items)) ≡ true
   known_next items k b e f =
-      ap (list_all test) (shown_more p items k b) ∙ all-append test (shown p (take k items)) (shown_at p (get_or items k nothing))
-      ∙ both (list_all test (shown p (take k items))) (list_all test (shown_at p (get_or items k nothing))) e f
+      ap (list_all test) (shown_more p items k b) ∙ list_all-append test (shown p (take k items)) (shown_at p (get_or items k nothing))
+      ∙ and_from (list_all test (shown p (take k items))) (list_all test (shown_at p (get_or items k nothing))) e f
 
   -- not all, where not all of some of them
   pub unknown_within : (all xs ys zs : List Item) → all ≡ xs ++ (ys ++ zs) → list_all test (shown p ys) ≡ false → list_all test (shown p all) ≡ false
   unknown_within all xs ys zs is e =
-      ap (λ (q : List Item). list_all test (shown p q)) is ∙ ap (list_all test) (shown-append p xs (ys ++ zs)) ∙ all-append test (shown p xs) (shown p (ys ++ zs))
-      ∙ ap (λ (b : Bool). list_all test (shown p xs) && b) (ap (list_all test) (shown-append p ys zs) ∙ all-append test (shown p ys) (shown p zs))
+      ap (λ (q : List Item). list_all test (shown p q)) is ∙ ap (list_all test) (shown-append p xs (ys ++ zs)) ∙ list_all-append test (shown p xs) (shown p (ys ++ zs))
+      ∙ ap (λ (b : Bool). list_all test (shown p xs) && b) (ap (list_all test) (shown-append p ys zs) ∙ list_all-append test (shown p ys) (shown p zs))
       ∙ second_false (list_all test (shown p xs)) (list_all test (shown p ys)) (list_all test (shown p zs)) e
 
   pub unknown_at : (items : List Item) (k : ℕ) → k < length items → list_all test (shown_at p (get_or items k nothing)) ≡ false → list_all test (shown p items) ≡ false

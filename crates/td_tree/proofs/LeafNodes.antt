@@ -1,5 +1,6 @@
 -- How many nodes an edit at an atom of a leaf adds.
 use Rattle.std.proofs.Common.{◌≡◌, ◌≢◌, ◌<◌, ◌≤◌, ◌+◌, ◌^◌, ◌∙◌, ℕ, List, [], ◌∷◌, length, Some, None, sym, ap, subst, ⊎_elim, arith}
+use Rattle.std.proofs.lemmas.Option.{same_Some}
 use Rattle.td_base.specs.Lists.{In}
 use Rattle.td_base.specs.Value.{AtomIdValue}
 use Rattle.td_base.proofs.Lists.{In-front, In-back}
@@ -15,7 +16,6 @@ use Rattle.td_tree.specs.declared.tree_row.RowState.TheVariants.{Gone, Node}
 use Rattle.td_tree.specs.Parts.{Parts, state_at, table, tokens, nodes_of, IsTree}
 use Rattle.td_tree.specs.Whole.{IsWhole}
 use Rattle.td_tree.specs.Nodes.{AddsFew, AddsFewIn}
-use Rattle.td_tree.proofs.Lists.{same_some}
 use Rattle.td_tree.proofs.Shown.{shown_stays}
 
 leaf_shown : (rs : List ℕ) (r : ℕ) (ts : List Token) → In (Leaf rs) ts → In r rs → In r (row_numbers ts)
@@ -31,7 +31,7 @@ one_row p identities seen w r s l m g h e =
     ⊎_elim (λ (k : state_at p r ≡ Gone). absurd (g k))
     (λ (f : number_of identities (table p r).id ≡ Some r).
     ⊎_elim (λ (k : state_at p s ≡ Gone). absurd (h k))
-    (λ (k : number_of identities (table p s).id ≡ Some s). same_some r s (sym f ∙ ap (number_of identities) e ∙ k)) (w.named.here s m)) (w.named.here r l)
+    (λ (k : number_of identities (table p s).id ≡ Some s). same_Some r s (sym f ∙ ap (number_of identities) e ∙ k)) (w.named.here s m)) (w.named.here r l)
 
 -- a row, to which its leaf was opened, where it was in one
 pub opened_few : (p q : Parts) (identities : Identities) (seen : List ℕ) → IsWhole p identities seen → (row : ℕ) → row < length p.rows → state_at p row ≢ Gone → (x : AtomIdValue) → (table p row).id ≡ x → IsTree q

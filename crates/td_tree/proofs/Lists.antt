@@ -1,13 +1,10 @@
 -- Items of a list that is parted at one of them.
-use Rattle.std.proofs.Common.{◌≡◌, ℕ, List, [], ◌∷◌, ◌++◌, length, refl, sym, ap, ◌∙◌, subst, inl, Option, Some}
+use Rattle.std.proofs.Common.{◌≡◌, ℕ, List, [], ◌∷◌, ◌++◌, length, refl, sym, ap, ◌∙◌, subst, inl, Option}
 use Rattle.td_base.specs.Lists.{In}
 use Rattle.td_base.proofs.Lists.{In-back}
 use Rattle.td_list.specs.Items.{Item, IsItem, AreApart, items_before, items_after, items_from_end, first_name}
 use Rattle.td_list.proofs.Names.{apart-parts}
 use Rattle.td_list.proofs.Parted.{parted, from_at, before_is, after_is}
-
-pub same_some : (x y : ℕ) → Some x ≡ Some y → x ≡ y
-same_some x y e = cc
 
 -- the items from the first of a part on are that part
 pub rest_back : (front back : List Item) → AreApart (front ++ back) → items_from_end (first_name back) (front ++ back) ≡ back

@@ -5,6 +5,7 @@ use Rattle.std.specs.Ordering.{is_lt, ordering_reverse}
 use Rattle.std.specs.declared.cmp.Ordering.{Ordering}
 use Rattle.std.specs.declared.cmp.Ordering.TheVariants.{Less, Equal, Greater}
 use Rattle.std.proofs.lemmas.List.{length-map}
+use Rattle.std.proofs.lemmas.Option.{same_Some, none-some}
 use Rattle.td_base.specs.declared.bit.Bit.{Bit}
 use Rattle.td_base.specs.declared.bit.Bit.TheVariants.{Left, Right}
 use Rattle.td_base.specs.Value.{AtomIdValue}
@@ -249,19 +250,13 @@ pub record Here (back : List Item) (name : ℕ) : Type 0 where
   pub is : back ≡ item ∷ rest
   pub named : item.name ≡ name
 
-same_some : (x y : ℕ) → Some x ≡ Some y → x ≡ y
-same_some x y e = cc
-
-none_some : (y : ℕ) → None ≡ Some y → ⊥
-none_some y e = cc
-
 pub here_of : (back : List Item) (name : ℕ) → first_name back ≡ Some name → Here back name
-here_of [] name e = absurd (none_some name e)
-here_of (i ∷ back) name e = record { item = i; rest = back; is = refl; named = same_some i.name name e }
+here_of [] name e = absurd (none-some name e)
+here_of (i ∷ back) name e = record { item = i; rest = back; is = refl; named = same_Some i.name name e }
 
 pub nothing_there : (back : List Item) → first_name back ≡ None → back ≡ []
 nothing_there [] e = refl
-nothing_there (i ∷ back) e = absurd (none_some i.name (sym e))
+nothing_there (i ∷ back) e = absurd (none-some i.name (sym e))
 
 module _ (p : Parts) (t : IsTree p) (slot : Slot) (id : AtomIdValue) (at : Option ℕ) (pl : IsPlace p slot id at) (name : ℕ) (is : at ≡ Some name) where
   abbrev k : Here pl.back name

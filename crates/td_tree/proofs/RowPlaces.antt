@@ -1,7 +1,7 @@
 -- The rows of an item, by what is kept of its row.
 use Rattle.std.proofs.Common.{◌≡◌, ◌≢◌, ◌+◌, ◌-◌, ◌*◌, ◌/◌, ◌%◌, ◌^◌, ◌<◌, ◌≤◌, ℕ, zero, suc, List, [], ◌∷◌, ◌++◌, length, take, drop, get_or, Some, None, slice_get, refl, sym, ap, ◌∙◌, subst, inl, arith, length-drop}
 use Rattle.std.proofs.lemmas.List.{get_or-take, get_or-drop, length-take-le}
-use Rattle.std.proofs.lemmas.Option.{slice_get-get_or}
+use Rattle.std.proofs.lemmas.Option.{slice_get-get_or, slice_get_past}
 use Rattle.td_base.specs.Lists.{In}
 use Rattle.td_base.proofs.Lists.{In-back, map_In}
 use Rattle.td_base.proofs.Elements.{same_head}
@@ -29,11 +29,6 @@ part_get xs from n k h l =
     let long = length-drop from xs in
     let cut = length-take-le n (drop from xs) (omega arith) in
     slice_get-get_or (take n (drop from xs)) k 0 (omega arith) ∙ ap Some (get_or-take n (drop from xs) k 0 l ∙ get_or-drop from xs k 0)
-
-pub get_past : {X : Type 0} (xs : List X) (k : ℕ) → length xs ≤ k → slice_get xs k ≡ None
-get_past [] k h = refl
-get_past (x ∷ xs) zero h = absurd (omega arith)
-get_past (x ∷ xs) (suc k) h = get_past xs k (omega arith)
 
 module _ (p : Parts) (t : IsTree p) where
   -- the item of a name
@@ -153,4 +148,4 @@ leaf_row p x a c w k l h i m e = sym (ap (λ (xs : List ℕ). slice_get xs k) (l
 pub leaf_past : (p : Parts) (x a c w k : ℕ) → LeafGot p x a c w → w ≤ k → (i : Item) → In i p.items → i.name ≡ x → None ≡ slice_get (shown_at p i) k
 leaf_past p x a c w k l h i m e =
     let long = part_length (array_at p a) (c - w / 2) w l.within in
-    sym (ap (λ (xs : List ℕ). slice_get xs k) (l.is i m e) ∙ get_past (part (array_at p a) (c - w / 2) w) k (omega arith))
+    sym (ap (λ (xs : List ℕ). slice_get xs k) (l.is i m e) ∙ slice_get_past (part (array_at p a) (c - w / 2) w) k (omega arith))

@@ -1,5 +1,5 @@
-use Rattle.std.proofs.Common.{◌≡◌, ◌<◌, ◌≤◌, ◌+◌, ◌++◌, ◌∷◌, ◌∙◌, [], List, suc, length, ap, arith}
-use Rattle.td_room.proofs.Lines.{first_out}
+use Rattle.std.proofs.Common.{◌≡◌, ◌<◌, ◌+◌, ◌++◌, ◌∷◌, ◌∙◌, [], List, suc, length, ap, arith}
+use Rattle.td_base.proofs.Places.{first_out}
 use Rattle.td_script.specs.declared.live.editor_line.EditorLine.{EditorLine}
 use Rattle.td_live.specs.Alone.{new_books}
 use Rattle.td_live.specs.Books.{BookValue}

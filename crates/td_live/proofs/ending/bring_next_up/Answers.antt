@@ -1,4 +1,4 @@
-use Rattle.td_room.proofs.Lines.{first_out}
+use Rattle.td_base.proofs.Places.{first_out}
 use Rattle.td_live.proofs.Drafts.{can_next, some_answers}
 use Rattle.td_live.proofs.ending.bring_next_up.Goals as goal
 

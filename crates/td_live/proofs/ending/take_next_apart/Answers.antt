@@ -1,6 +1,6 @@
-use Rattle.std.proofs.Common.{◌≡◌, ◌++◌, ◌∷◌, ◌∙◌, [], List, ap}
+use Rattle.std.proofs.Common.{◌≡◌, ◌++◌, ◌∷◌, ◌∙◌, [], ap}
+use Rattle.td_base.proofs.Places.{first_out}
 use Rattle.td_line.specs.Editors.{EditorValue}
-use Rattle.td_room.proofs.Lines.{first_out}
 use Rattle.td_live.specs.Books.{BookValue}
 use Rattle.td_live.specs.Drafts.{book_of}
 use Rattle.td_live.proofs.ending.take_next_apart.Goals as goal

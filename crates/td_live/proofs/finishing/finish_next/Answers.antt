@@ -1,8 +1,7 @@
-use Rattle.std.proofs.Common.{◌≡◌, ◌++◌, ◌∷◌, ◌∙◌, [], List, ap}
-use Rattle.td_room.proofs.Lines.{first_out}
+use Rattle.std.proofs.Common.{◌++◌, ◌∷◌, ◌∙◌, [], ap}
+use Rattle.td_base.proofs.Places.{first_out}
 use Rattle.td_trace.specs.declared.log.EditorLog.{EditorLog}
 use Rattle.td_world.specs.World.{size}
-use Rattle.td_live.specs.Books.{BookValue}
 use Rattle.td_live.proofs.Finishes.{home_first}
 use Rattle.td_live.proofs.finishing.finish_next.Goals as goal
 

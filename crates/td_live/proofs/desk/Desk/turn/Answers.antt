@@ -1,17 +1,18 @@
 use Rattle.std.proofs.Common.{[], refl, sym, subst}
+use Rattle.std.proofs.lemmas.Result.{on_err_weaker}
 use Rattle.td_line.specs.Editors.{IsPending, LaterEditor}
 use Rattle.td_live.specs.declared.went.Went.{Went}
 use Rattle.td_live.specs.Following.{Stays as LeadsStays}
 use Rattle.td_live.specs.Desks.{DeskValue, IsDesk}
 use Rattle.td_live.specs.Turning.{IsTurn, IsAtEnd}
-use Rattle.td_live.proofs.Turns.{not_waiting, on_err, if_ok, keeps_same, keeps_begun, turn_begun, later_by, later_turn, done_on, done_before, over_done, asks_not_done, look_not_done}
+use Rattle.td_live.proofs.Turns.{not_waiting, if_ok, keeps_same, keeps_begun, turn_begun, later_by, later_turn, done_on, done_before, over_done, asks_not_done, look_not_done}
 use Rattle.td_line.proofs.Editing.{later_editor_self}
 use Rattle.td_live.specs.declared.went.Went.TheVariants as Way
 use Rattle.td_live.proofs.desk.Desk.turn.Goals as goal
 
 pub returns-then-self-clause-memory : goal.returns-then-self-clause-memory
 returns-then-self-clause-memory g c =
-    on_err c.poll.result (keeps_same c.args.self.now c.poll.new.self) c.poll.ensures.memory
+    on_err_weaker c.poll.result (keeps_same c.args.self.now c.poll.new.self) c.poll.ensures.memory
 
 pub returns-in-Ask-clause-turn : goal.returns-in-Ask-clause-turn
 returns-in-Ask-clause-turn g c =
@@ -73,7 +74,7 @@ returns-in-Look-clause-memory g c =
       did = c.self.inside.did.items;
     } in
     rw (← c.self.view_is)
-    (on_err c.look.result (keeps_begun d c.look.new.self c.next.new.self (c.next.ensures.leads d.rest [] LeadsStays))
+    (on_err_weaker c.look.result (keeps_begun d c.look.new.self c.next.new.self (c.next.ensures.leads d.rest [] LeadsStays))
     c.look.ensures.memory)
 
 pub returns-in-Over-clause-turn : goal.returns-in-Over-clause-turn

@@ -1,7 +1,8 @@
 use Rattle.std.proofs.Common.{◌≡◌, ◌≢◌, ◌≤◌, ◌∙◌, ◌+◌, ◌-◌, ◌/◌, ◌<◌, ℕ, List, length, Some, slice_get, sym, ap, subst, arith, [], ◌∷◌}
+use Rattle.std.proofs.lemmas.Option.{slice_get_past}
 use Rattle.td_list.specs.Items.{items_from, items_after}
 use Rattle.td_tree.specs.Parts.{Parts, array_at}
-use Rattle.td_tree.proofs.RowPlaces.{LeafGot, get_past, known_name, shown_bracket, shown_node, leaf_got, leaf_row, leaf_past}
+use Rattle.td_tree.proofs.RowPlaces.{LeafGot, known_name, shown_bracket, shown_node, leaf_got, leaf_row, leaf_past}
 use Rattle.td_tree.proofs.tokens.Tokens.row_at.Goals as goal
 
 pub state-requires : goal.state-requires
@@ -58,7 +59,7 @@ returns-then-place-eq0 c = λ i m e.
 pub returns-else-place-eq0 : goal.returns-else-place-eq0
 returns-else-place-eq0 c = λ i m e.
     sym (ap (λ (xs : List ℕ). slice_get xs c.args.place.rest) (shown_node c.args.self.now c.requires.tree i c.args.place.name e c.if-place-ne1.false (λ a k f. c.in_default.not-InArray a k (c.state.ensures ∙ f)))
-    ∙ get_past (c.args.place.name / 3 ∷ []) c.args.place.rest (some c.args.place.rest c.if-place-eq0.false))
+    ∙ slice_get_past (c.args.place.name / 3 ∷ []) c.args.place.rest (some c.args.place.rest c.if-place-eq0.false))
   where
     some : (k : ℕ) → k ≢ 0 → 1 ≤ k
     some k h = omega arith
