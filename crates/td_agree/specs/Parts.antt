@@ -1,9 +1,8 @@
 -- What is promised of the one order.
 use Rattle.std.specs.Prelude.{List}
-use Rattle.td_base.specs.Lists.{In}
+use Rattle.td_base.specs.Lists.{In, IsSublist}
 use Rattle.td_op.specs.Op.{OpValue}
 use Rattle.td_machine.specs.History.{Family, Moment, machine_at}
-use Rattle.td_order.specs.Lists.{IsSublist}
 use Rattle.td_order.specs.Order.{order}
 use Rattle.td_logs.specs.Part.{IsPartOf}
 use Rattle.td_logs.specs.AllOps.{all_ops}

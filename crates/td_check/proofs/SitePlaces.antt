@@ -5,7 +5,7 @@ use Rattle.std.proofs.lemmas.List.Folds.{list_any_more}
 use Rattle.std.proofs.lemmas.Option.{slice_get_within, get_or_from_slice_get}
 use Rattle.std.specs.List.{list_any}
 use Rattle.td_base.proofs.Places.{kth_next}
-use Rattle.td_history.specs.Past.{kth}
+use Rattle.td_base.specs.Lists.{kth}
 
 -- what stands at a place, asked for by its number
 pub next_of : {X : Type 0} (xs : List X) (k : ℕ) (x : X) {o : Option X} → o ≡ kth (k + 1) xs → o ≡ Some x

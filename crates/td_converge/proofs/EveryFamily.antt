@@ -1,6 +1,6 @@
 -- The laws of every consistent family.
 use Rattle.td_machine.specs.History.{Family, Moment, IsConsistent, machine_at}
-use Rattle.td_order.specs.Lists.{IsSublist}
+use Rattle.td_base.specs.Lists.{IsSublist}
 use Rattle.td_order.specs.Order.{order}
 use Rattle.td_order.proofs.Spliced.{order_distinct}
 use Rattle.td_logs.specs.AllOps.{all_ops}

@@ -5,7 +5,7 @@ use Rattle.std.specs.Prelude.{IsTrue}
 use Rattle.td_base.specs.declared.bit.Bit.{Bit}
 use Rattle.td_base.specs.declared.bit.Bit.TheVariants.{Left, Right}
 use Rattle.td_base.specs.Value.{DotValue, AtomIdValue}
-use Rattle.td_base.specs.Lists.{In, Successive}
+use Rattle.td_base.specs.Lists.{In, Successive, IsSublist, done}
 use Rattle.td_base.proofs.Lists.{map_In, In-map, map_successive, successive_map, all_of, all_in}
 use Rattle.td_clock.specs.Vector.{vector_has}
 use Rattle.td_path.specs.Infix.{Pair, Pairs}
@@ -37,7 +37,6 @@ use Rattle.td_machine.proofs.Family.{full_of, not_own_past, not_older}
 use Rattle.td_op.specs.declared.insertion.Insertion.{Insertion}
 use Rattle.td_op.specs.Insertion.{insertion_by, insertions, ids_of}
 use Rattle.td_order.specs.LineUp.{line_up}
-use Rattle.td_order.specs.Lists.{IsSublist, done}
 use Rattle.td_order.specs.Order.{order}
 use Rattle.td_order.specs.Place.{precedes}
 use Rattle.td_order.specs.Under.{under}

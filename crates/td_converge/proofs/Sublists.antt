@@ -1,9 +1,8 @@
 -- Lists with elements left out.
 use Rattle.std.proofs.Common.{◌≡◌, List, [], ◌∷◌, map, filter, Bool, true, false, cond, refl, sym, inl, inr, ⊎_elim}
-use Rattle.td_base.specs.Lists.{In, Successive, StandsBefore}
+use Rattle.td_base.specs.Lists.{In, Successive, StandsBefore, IsSublist, done, kept, left_out}
 use Rattle.td_base.proofs.Lists.{all_of, all_in}
 use Rattle.td_base.proofs.Rising.{stands_first, stands_last}
-use Rattle.td_order.specs.Lists.{IsSublist, done, kept, left_out}
 
 pub sub_trans : {X : Type 0} (xs ys zs : List X) → IsSublist xs ys → IsSublist ys zs → IsSublist xs zs
 sub_trans xs ys zs s (left_out {ys = rest} z t) = left_out z (sub_trans xs ys rest s t)

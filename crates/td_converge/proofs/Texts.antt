@@ -4,7 +4,7 @@ use Rattle.std.proofs.lemmas.Bool.{or_left, cases_Bool}
 use Rattle.std.specs.Prelude.{find, slice_get, option_and_then, unwrap_or}
 use Rattle.std.specs.List.{concat}
 use Rattle.td_base.specs.Value.{DotValue, AtomIdValue}
-use Rattle.td_base.specs.Lists.{In, Successive}
+use Rattle.td_base.specs.Lists.{In, Successive, IsSublist}
 use Rattle.td_base.proofs.Lists.{map_In, In-map, In-filter, filter_In, any_found, any_from, successive_filter}
 use Rattle.td_path.specs.declared.slot.Slot.{Slot}
 use Rattle.td_op.specs.declared.body.Body.{Body}
@@ -28,7 +28,6 @@ use Rattle.td_op.specs.declared.insertion.Insertion.{Insertion}
 use Rattle.td_op.specs.Insertion.{insertion_by, insertion_of, insertions}
 use Rattle.td_base.specs.Equality.{same_dot}
 use Rattle.td_order.specs.LineUp.{line_up}
-use Rattle.td_order.specs.Lists.{IsSublist}
 use Rattle.td_order.specs.Order.{order}
 use Rattle.td_order.specs.Show.{atom_of, deletes, is_deleted, shown_atoms, shown_ids}
 use Rattle.td_order.specs.Causal.{IsWellRooted}

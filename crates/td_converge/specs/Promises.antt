@@ -1,13 +1,12 @@
 -- What is promised of rows and texts, whatever was flattened.
 use Rattle.std.specs.Prelude.{◌≡◌, ◌≢◌, ◌⊎◌, ◌↔◌, List, true, map}
 use Rattle.td_base.specs.Value.{DotValue, AtomIdValue}
-use Rattle.td_base.specs.Lists.{In, StandsBefore}
+use Rattle.td_base.specs.Lists.{In, StandsBefore, IsSublist}
 use Rattle.td_op.specs.declared.body.Body.TheVariants.{Commit}
 use Rattle.td_op.specs.Op.{OpValue}
 use Rattle.td_doc.specs.Document.{row_id, live_atoms, text_of}
 use Rattle.td_machine.specs.Machine.{Machine}
 use Rattle.td_machine.specs.History.{Family, Moment, machine_at}
-use Rattle.td_order.specs.Lists.{IsSublist}
 use Rattle.td_order.specs.Order.{order}
 use Rattle.td_order.specs.Show.{show, shown_atoms, is_deleted}
 

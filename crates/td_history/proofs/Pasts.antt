@@ -13,7 +13,7 @@ use Rattle.td_history.specs.Messages.{message_of}
 use Rattle.td_history.specs.Entries.{entry_of}
 use Rattle.td_history.specs.HistoryParts.{sent_of, entries_of, IsHistoryParts}
 use Rattle.td_history.specs.LogValue.{LogValue}
-use Rattle.td_history.specs.Past.{kth}
+use Rattle.td_base.specs.Lists.{kth}
 use Rattle.td_history.proofs.Standing.{stand_on, stand_get, stand_some, stand_filter_map, grown_none}
 use Rattle.td_history.proofs.Grown.{message_grown, entry_grown}
 

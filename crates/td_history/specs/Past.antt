@@ -1,5 +1,5 @@
 -- What contracts see of a history: what a replica keeps of its past, and what each call makes of it.
-use Rattle.std.specs.Prelude.{◌≡◌, ℕ, ◌+◌, ◌-◌, ◌==◌, Bool, if◌then◌else◌, List, [], ◌∷◌, ◌++◌, length, Option, Some, None, IfSome, IsSome}
+use Rattle.std.specs.Prelude.{◌≡◌, ℕ, ◌+◌, ◌-◌, Bool, List, [], ◌∷◌, ◌++◌, length, Option, Some, None, IfSome, IsSome}
 use Rattle.std.specs.List.{slice_get}
 use Rattle.std.specs.Option.{IsNone}
 use Rattle.td_base.specs.Value.{DotValue}
@@ -109,7 +109,3 @@ IsDoneAs ops (Take (Op x)) k = slice_get ops k ≡ Some x
 IsDoneAs ops (Take (AVote v)) k = Unit {0}
 IsDoneAs ops (Local request) k = IfSome (text_of request) (λ text. run_at ops k ≡ Some text)
 IsDoneAs ops Next k = Unit {0}
-
--- the k-th of a list, counted from 1
-abbrev pub kth : {X : Type 0} → ℕ → List X → Option X
-kth k xs = if k == 0 then None else slice_get xs (k - 1)

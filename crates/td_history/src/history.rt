@@ -6,7 +6,8 @@ ghost use Rattle.td_machine.specs.Counts.{ops_of};
 ghost use Rattle.td_machine.specs.Log.{decision, proposed_slot};
 ghost use Rattle.td_machine.specs.Ready.{is_dot_of};
 ghost use Rattle.td_history.specs.Past.{IsAsBefore, empty_past, kept, resumed, taken, made, voted, entered};
-ghost use Rattle.td_history.specs.Past.{IsNextIn, IsDoneAs, kth};
+ghost use Rattle.td_history.specs.Past.{IsNextIn, IsDoneAs};
+ghost use Rattle.td_base.specs.Lists.{kth};
 
 use crate::entries::Entries;
 use crate::log::Log;

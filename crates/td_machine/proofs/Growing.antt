@@ -23,7 +23,8 @@ use Rattle.td_machine.specs.Making.{done, make, decide}
 use Rattle.td_machine.specs.Taking.{Stepped, answer, vote_on, take_as}
 use Rattle.td_machine.specs.Request.{perform}
 use Rattle.td_machine.specs.Step.{step}
-use Rattle.td_machine.specs.History.{History, Family, after, history, history_at, machine, machine_after, with_entry, with_entry_at, sender, IsLegal, IsConsistent, MayCome}
+use Rattle.td_machine.specs.History.{History, Family, after, history, history_at, machine, machine_after, with_entry, with_entry_at, IsLegal, IsConsistent, MayCome}
+use Rattle.td_op.specs.Message.{sender}
 use Rattle.td_base.proofs.Elements.{same_head, same_tail}
 use Rattle.td_machine.proofs.StepKinds.{by_kinds}
 use Rattle.td_machine.proofs.Parts.{proposed_here}

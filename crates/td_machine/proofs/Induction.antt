@@ -11,7 +11,8 @@ use Rattle.td_op.specs.Input.{IsInput}
 use Rattle.td_op.specs.Op.{OpValue}
 use Rattle.td_machine.specs.Machine.{Machine, start}
 use Rattle.td_machine.specs.Step.{step}
-use Rattle.td_machine.specs.History.{History, Family, Moment, after, history, machine, machine_after, machine_at, log_of, IsLegalFrom, IsReached, IsConsistent, IsAddressed, MayCome, sender}
+use Rattle.td_machine.specs.History.{History, Family, Moment, after, history, machine, machine_after, machine_at, log_of, IsLegalFrom, IsReached, IsConsistent, IsAddressed, MayCome}
+use Rattle.td_op.specs.Message.{sender}
 use Rattle.td_machine.proofs.Parts.{IsBuilt, Begins}
 use Rattle.td_machine.proofs.Walk.{built_step, step_grows}
 

@@ -14,7 +14,8 @@ use Rattle.td_op.specs.Input.{IsInput, IsRequest}
 use Rattle.td_machine.specs.Machine.{Machine, start, made}
 use Rattle.td_machine.specs.Step.{step}
 use Rattle.td_machine.specs.Stage.{at_place}
-use Rattle.td_machine.specs.History.{History, Family, after, history, machine, sender, known_of, IsAddressed, IsLegalFrom, IsConsistent, MayCome}
+use Rattle.td_machine.specs.History.{History, Family, after, history, machine, known_of, IsAddressed, IsLegalFrom, IsConsistent, MayCome}
+use Rattle.td_op.specs.Message.{sender}
 use Rattle.std.proofs.lemmas.Option.{same_Some}
 use Rattle.td_machine.proofs.Ranges.{message_fits, message_from}
 

@@ -7,6 +7,7 @@ use Rattle.td_op.specs.declared.entry.Entry.{Entry}
 use Rattle.td_op.specs.declared.input.Input.TheVariants.{Take}
 use Rattle.td_op.specs.declared.message.Message.{Message}
 use Rattle.td_op.specs.declared.message.Message.TheVariants.{Op, Vote}
+use Rattle.td_op.specs.Message.{sender}
 use Rattle.td_op.specs.Op.{OpValue}
 use Rattle.td_op.specs.Input.{IsInput}
 use Rattle.td_machine.specs.Machine.{Machine, start, made}
@@ -84,10 +85,6 @@ pub record IsFamily (family : Family) : Type 0 where
   pub few : length family ≤ MAX_SITE
   pub legal : (site : ℕ) → 0 < site → site ≤ length family
       → IsLegal site (length family) (history family site)
-
-abbrev pub sender : Message → ℕ
-sender (Op x) = x.dot.site
-sender (Vote v) = v.voter
 
 -- what is sent to one site alone is sent to this one
 abbrev pub IsAddressed : ℕ → Message → Type 0

@@ -12,7 +12,8 @@ use Rattle.td_op.specs.declared.message.Message.{Message}
 use Rattle.td_wire.specs.Spelling.{SpellsIn}
 use Rattle.td_wire.proofs.Decoding.{one_message}
 use Rattle.td_machine.specs.Machine.{Machine, start}
-use Rattle.td_machine.specs.History.{History, history, after, machine, machine_after, sender, IsAddressed, IsLegal, MayCome, IsConsistent}
+use Rattle.td_machine.specs.History.{History, history, after, machine, machine_after, IsAddressed, IsLegal, MayCome, IsConsistent}
+use Rattle.td_op.specs.Message.{sender}
 use Rattle.td_meeting.specs.Thin.{is_addressed}
 use Rattle.td_meeting.specs.Takes.{takes_from, IsWelcome, TakesWelcome}
 use Rattle.td_meeting.specs.Peers.{PeerValue, HasTakenOf, Hears, Tells, sent_to}

@@ -8,7 +8,8 @@ use Rattle.td_op.specs.declared.input.Input.TheVariants.{Take}
 use Rattle.td_op.specs.declared.message.Message.{Message}
 use Rattle.td_machine.specs.Machine.{Machine}
 use Rattle.td_machine.specs.Step.{step}
-use Rattle.td_machine.specs.History.{History, after, sender}
+use Rattle.td_machine.specs.History.{History, after}
+use Rattle.td_op.specs.Message.{sender}
 use Rattle.td_meeting.specs.Takes.{taken_in, takes_from, IsWelcome, TakesWelcome}
 
 pub takes_append : (number : ℕ) (entries more : History)

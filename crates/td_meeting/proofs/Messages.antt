@@ -12,7 +12,8 @@ use Rattle.td_op.specs.declared.message.Message.{Message}
 use Rattle.td_op.specs.declared.message.Message.TheVariants.{Op, Vote}
 use Rattle.td_machine.specs.Machine.{Machine}
 use Rattle.td_machine.specs.Step.{step}
-use Rattle.td_machine.specs.History.{History, after, sender, IsAddressed}
+use Rattle.td_machine.specs.History.{History, after, IsAddressed}
+use Rattle.td_op.specs.Message.{sender}
 use Rattle.td_meeting.specs.Thin.{is_addressed, messages_to, Loss, copies, thin}
 use Rattle.td_meeting.specs.Takes.{taken_in, takes_from, IsWelcome, TakesWelcome}
 use Rattle.td_meeting.specs.Peers.{sent_once, sent_to}

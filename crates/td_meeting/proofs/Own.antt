@@ -6,7 +6,7 @@ use Rattle.td_op.specs.declared.message.Message.{Message}
 use Rattle.td_op.specs.declared.message.Message.TheVariants.{Op, Vote}
 use Rattle.td_op.specs.declared.body.Body.TheVariants.{Propose}
 use Rattle.td_machine.specs.Machine.{Machine, next_op}
-use Rattle.td_machine.specs.History.{sender}
+use Rattle.td_op.specs.Message.{sender}
 use Rattle.td_machine.proofs.Parts.{IsBuilt, Part, Makes, Proposes, Counts, Takes, Agrees, Declines, Delays, Forgets, vote_here, by_parts}
 
 abbrev pub SendsOwn : Machine → Type 0

@@ -5,7 +5,8 @@ use Rattle.td_op.specs.declared.input.Input.TheVariants.{Local, Take, Next}
 use Rattle.td_op.specs.declared.message.Message.{Message}
 use Rattle.td_machine.specs.Machine.{Machine, made}
 use Rattle.td_machine.specs.Step.{step}
-use Rattle.td_machine.specs.History.{History, sender, known_of}
+use Rattle.td_machine.specs.History.{History, known_of}
+use Rattle.td_op.specs.Message.{sender}
 
 -- what one input takes from this site
 abbrev pub taken_in : ℕ → Input → List Message

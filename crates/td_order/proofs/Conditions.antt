@@ -3,7 +3,7 @@ use Rattle.std.proofs.Common.{◌≡◌, ◌≤◌, ◌+◌, ℕ, List, [], ◌�
 use Rattle.std.proofs.lemmas.Bool.{leb-true, eqb-true, and_parts, and_from, or_cases}
 use Rattle.std.specs.Prelude.{IfSome}
 use Rattle.std.specs.List.{list_all, list_any}
-use Rattle.td_base.specs.Lists.{In}
+use Rattle.td_base.specs.Lists.{In, IsSublist, done, kept, left_out}
 use Rattle.td_base.proofs.Lists.{any_found, all_of}
 use Rattle.td_clock.specs.Vector.{vector_covers, vector_get}
 use Rattle.td_path.specs.declared.slot.Slot.{Slot}
@@ -14,7 +14,6 @@ use Rattle.td_op.specs.declared.insertion.Insertion.{Insertion}
 use Rattle.td_op.specs.Insertion.{ids_of, insertions}
 use Rattle.td_base.specs.Equality.{same_dot, same_id}
 use Rattle.td_path.specs.Slot.{same_slot}
-use Rattle.td_order.specs.Lists.{IsSublist, done, kept, left_out}
 use Rattle.td_order.specs.LineUp.{DotsDiffer}
 use Rattle.td_order.specs.Place.{precedes, has_some}
 use Rattle.td_order.specs.Causal.{HasEpochs, IsCausal, IsPart, IsRootedIn, IsWellRooted}

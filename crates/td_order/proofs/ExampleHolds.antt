@@ -1,6 +1,6 @@
 -- The examples meet the conditions that they are said to meet.
 use Rattle.std.proofs.Common.{refl}
-use Rattle.td_order.specs.Lists.{IsSublist, done, kept, left_out}
+use Rattle.td_base.specs.Lists.{IsSublist, done, kept, left_out}
 use Rattle.td_order.specs.Causal.{HasEpochs, IsPart, IsWellRooted}
 use Rattle.td_order.specs.Example.{history, known_to_second, p_typed, d_put, known_to_third, without_epochs}
 use Rattle.td_order.proofs.Conditions.{differ_from, well_rooted_from, epochs_from, part_from}

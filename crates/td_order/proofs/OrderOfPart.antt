@@ -8,13 +8,12 @@ use Rattle.td_op.specs.Op.{OpValue}
 use Rattle.td_op.specs.Past.{in_past}
 use Rattle.std.specs.Prelude.{IsTrue}
 use Rattle.std.proofs.lemmas.Bool.{cases_Bool}
-use Rattle.td_base.specs.Lists.{In, Successive}
+use Rattle.td_base.specs.Lists.{In, Successive, IsSublist}
 use Rattle.td_base.proofs.Lists.{all_in, all_of}
 use Rattle.td_op.proofs.PastLemmas.{not_in_own_past, past_along, past_sum as sums_grow}
 use Rattle.td_op.specs.declared.insertion.Insertion.{Insertion}
 use Rattle.td_order.specs.Insertions.{IsInsertionOf}
 use Rattle.td_op.specs.Insertion.{insertion_of, insertions}
-use Rattle.td_order.specs.Lists.{IsSublist}
 use Rattle.td_order.specs.LineUp.{comes_before, line_up, DotsDiffer}
 use Rattle.td_order.specs.Place.{precedes, has_some}
 use Rattle.td_order.specs.Order.{order}

@@ -1,11 +1,10 @@
 -- The keys and ranks of one family, and that they fit each part of it.
 use Rattle.std.proofs.Common.{◌≡◌, ◌<◌, ◌≤◌, ◌-◌, ℕ, suc, List, [], ◌∷◌, ◌++◌, Bool, true, false, cond, ◌&&◌, length, refl, sym, ap, ◌∙◌, subst, inl, inr, ⊎_elim, true≢false, arith, le_antisymm}
 use Rattle.std.proofs.lemmas.Bool.{cases_Bool, and_parts, and_from}
-use Rattle.td_order.specs.Lists.{IsSublist}
+use Rattle.td_base.specs.Lists.{IsSublist, In}
 use Rattle.td_order.proofs.Family.{IsRooted, Follows, AllFollow, HasPasts}
 use Rattle.td_base.specs.Value.{AtomIdValue}
 use Rattle.td_base.specs.declared.bit.Bit.TheVariants.{Left, Right}
-use Rattle.td_base.specs.Lists.{In}
 use Rattle.td_path.specs.declared.slot.Slot.{Slot}
 use Rattle.td_path.specs.declared.slot.Slot.TheVariants.{Root, At}
 use Rattle.td_op.specs.declared.insertion.Insertion.{Insertion}

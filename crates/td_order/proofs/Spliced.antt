@@ -5,7 +5,7 @@ use Rattle.std.proofs.lemmas.List.{append-nil}
 use Rattle.std.specs.List.{cons_option, list_any}
 use Rattle.td_base.specs.declared.bit.Bit.TheVariants.{Left, Right}
 use Rattle.td_base.specs.Value.{DotValue, AtomIdValue}
-use Rattle.td_base.specs.Lists.{In, Successive}
+use Rattle.td_base.specs.Lists.{In, Successive, IsSpliced}
 use Rattle.td_base.proofs.Lists.{In-front, In-back, In-append, successive_append, all_in, all_of, across, successive_back, successive_front}
 use Rattle.td_path.specs.declared.slot.Slot.{Slot}
 use Rattle.td_path.specs.declared.slot.Slot.TheVariants.{Root, At}
@@ -15,7 +15,6 @@ use Rattle.td_order.specs.Insertions.{IsAtomOf}
 use Rattle.td_base.specs.RunAtoms.{run_ids_from}
 use Rattle.td_op.specs.Insertion.{ids_of, insertion_of, insertions}
 use Rattle.td_base.specs.Equality.{same_id}
-use Rattle.td_order.specs.Lists.{IsSpliced}
 use Rattle.td_order.specs.LineUp.{line_up, DotsDiffer}
 use Rattle.td_order.specs.Place.{place, put_after_last, put_before_first, put_beside, siblings, smaller_siblings, has_some}
 use Rattle.td_order.specs.Order.{placed, order}

@@ -1,8 +1,7 @@
 -- Two lists in one strict order: the elements of the one among those of the other, or the same.
 use Rattle.std.proofs.Common.{◌≡◌, List, [], ◌∷◌, refl, sym, ◌∙◌, subst, inl, inr, ⊎_elim}
-use Rattle.td_base.specs.Lists.{In, Successive}
+use Rattle.td_base.specs.Lists.{In, Successive, IsSublist, done, kept, left_out}
 use Rattle.td_base.proofs.Lists.{all_in}
-use Rattle.td_order.specs.Lists.{IsSublist, done, kept, left_out}
 
 sublist_nil : {X : Type 0} (ys : List X) → IsSublist [] ys
 sublist_nil [] = done

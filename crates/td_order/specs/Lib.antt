@@ -1,4 +1,3 @@
-pub mod Lists
 pub mod Insertions
 pub mod LineUp
 pub mod Under

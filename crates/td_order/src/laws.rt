@@ -2,11 +2,10 @@
 ghost use Rattle.std.specs.Prelude.{◌≡◌, ◌≢◌, ◌↔◌, List, true, filter, IsTrue};
 ghost use Rattle.std.specs.List.Sorted.{IsPermutation};
 ghost use Rattle.td_base.specs.Value.{AtomIdValue};
-ghost use Rattle.td_base.specs.Lists.{In, Successive};
+ghost use Rattle.td_base.specs.Lists.{In, Successive, IsSpliced};
 ghost use Rattle.td_op.specs.Op.{OpValue};
 ghost use Rattle.td_op.specs.Past.{in_past};
 ghost use Rattle.td_op.specs.declared.insertion.Insertion.{Insertion};
-ghost use Rattle.td_order.specs.Lists.{IsSpliced};
 ghost use Rattle.td_order.specs.Insertions.{IsAtomOf, is_insertion};
 ghost use Rattle.td_op.specs.Insertion.{ids_of};
 ghost use Rattle.td_order.specs.LineUp.{DotsDiffer, comes_before, line_up};

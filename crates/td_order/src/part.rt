@@ -2,7 +2,7 @@
 ghost use Rattle.std.specs.Prelude.{◌≡◌, List, [], ◌∷◌, IsTrue, codes};
 ghost use Rattle.td_op.specs.Op.{OpValue};
 ghost use Rattle.td_op.specs.declared.insertion.Insertion.{Insertion};
-ghost use Rattle.td_order.specs.Lists.{IsSublist};
+ghost use Rattle.td_base.specs.Lists.{IsSublist};
 ghost use Rattle.td_order.specs.Insertions.{IsInsertionOf};
 ghost use Rattle.td_order.specs.Place.{precedes};
 ghost use Rattle.td_order.specs.Order.{order};

@@ -7,8 +7,8 @@ use Rattle.std.proofs.lemmas.Bool.{false_from_ne_true}
 use Rattle.td_op.specs.declared.message.Message.{Message}
 use Rattle.td_wire.specs.Spelling.{SpellsIn}
 use Rattle.td_wire.proofs.Decoding.{one_message}
-use Rattle.td_machine.specs.History.{sender}
-use Rattle.td_history.specs.Past.{kth}
+use Rattle.td_op.specs.Message.{sender}
+use Rattle.td_base.specs.Lists.{kth}
 use Rattle.td_replica.specs.Replica.{ReplicaValue, IsReplica}
 use Rattle.td_replica.proofs.Legal.{built}
 use Rattle.td_meeting.specs.Thin.{is_addressed, Loss, copies, divides}

@@ -3,7 +3,8 @@ ghost use Rattle.std.specs.Prelude.{◌≡◌, ◌<◌, ◌≤◌, ◌++◌, ◌
 ghost use Rattle.td_op.specs.declared.message.Message.{Message};
 ghost use Rattle.td_wire.specs.Spelling.{SpellsIn};
 ghost use Rattle.td_link.specs.Moments.{WasEmpty};
-ghost use Rattle.td_machine.specs.History.{History, sender, known_of};
+ghost use Rattle.td_machine.specs.History.{History, known_of};
+ghost use Rattle.td_op.specs.Message.{sender};
 ghost use Rattle.td_machine.specs.Machine.{made};
 ghost use Rattle.td_meeting.specs.Peers.{Hears};
 ghost use Rattle.td_peer.specs.declared.parcel.Parcel.{Parcel};

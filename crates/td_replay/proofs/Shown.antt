@@ -12,7 +12,8 @@ use Rattle.td_op.specs.declared.vote.Vote.{Vote}
 use Rattle.td_op.specs.Input.{IsInput}
 use Rattle.td_doc.specs.Document.{text_of}
 use Rattle.td_machine.specs.Machine.{Machine, start, made}
-use Rattle.td_machine.specs.History.{History, Family, IsLegal, IsLegalFrom, IsConsistent, MayCome, sender, known_of, after, history, history_at, machine, machine_after}
+use Rattle.td_machine.specs.History.{History, Family, IsLegal, IsLegalFrom, IsConsistent, MayCome, known_of, after, history, history_at, machine, machine_after}
+use Rattle.td_op.specs.Message.{sender}
 use Rattle.td_base.proofs.Elements.{CutAt, cut_at, same_tail}
 use Rattle.td_base.proofs.Lists.{map_In}
 use Rattle.td_logs.proofs.Moments.{legal_entry}

@@ -26,7 +26,8 @@ use Rattle.td_machine.specs.Ready.{is_had, is_ready, is_dot_of, next_ready, wait
 use Rattle.td_machine.specs.Machine.{Machine, start, made}
 use Rattle.td_machine.specs.Taking.{Stepped, stepped, misfit, forget, next_of, waited}
 use Rattle.td_machine.specs.Step.{step}
-use Rattle.td_machine.specs.History.{History, IsReached, IsLegalFrom, IsAddressed, known_of, sender, after}
+use Rattle.td_machine.specs.History.{History, IsReached, IsLegalFrom, IsAddressed, known_of, after}
+use Rattle.td_op.specs.Message.{sender}
 use Rattle.td_machine.proofs.Induction.{built_of, reached_start, legal_both}
 use Rattle.td_machine.proofs.Turns.{counted as counted_in_turn}
 use Rattle.td_machine.proofs.Counting.{found, Found}

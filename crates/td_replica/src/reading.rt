@@ -9,7 +9,7 @@ ghost use Rattle.td_machine.specs.Log.{decision};
 ghost use Rattle.td_machine.specs.Machine.{made, undecided};
 ghost use Rattle.td_machine.specs.Ready.{is_dot_of};
 ghost use Rattle.td_machine.specs.Step.{step};
-ghost use Rattle.td_history.specs.Past.{kth};
+ghost use Rattle.td_base.specs.Lists.{kth};
 ghost use Rattle.td_replica.specs.Replica.{IsReplica, is_repeat, is_idle};
 
 use crate::replica::Replica;

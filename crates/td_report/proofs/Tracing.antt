@@ -6,7 +6,7 @@ use Rattle.std.specs.List.{flat_map}
 use Rattle.std.proofs.lemmas.Bool.{cond-false, ne_eqb}
 use Rattle.std.proofs.lemmas.List.Concat.{flat_map-append}
 use Rattle.td_op.specs.declared.entry.Entry.{Entry}
-use Rattle.td_history.specs.Past.{kth}
+use Rattle.td_base.specs.Lists.{kth}
 use Rattle.td_trace.specs.declared.log.Did.{Did}
 use Rattle.td_trace.specs.declared.log.EditorLog.{EditorLog}
 use Rattle.td_trace.specs.declared.entry.TraceEntry.{TraceEntry}

@@ -1,6 +1,6 @@
 ghost use Rattle.std.specs.Prelude.{◌≡◌, ◌++◌, IfOk, OnOk};
 ghost use Rattle.std.specs.List.{flat_map};
-ghost use Rattle.td_history.specs.Past.{kth};
+ghost use Rattle.td_base.specs.Lists.{kth};
 ghost use Rattle.td_trace.specs.Entries.{traced_history};
 ghost use Rattle.td_report.specs.Parts.{if_any};
 ghost use Rattle.td_report.specs.Trace.{all_written, did_said, entry_said, entry_written, history_said, log_said};

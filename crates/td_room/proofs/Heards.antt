@@ -1,20 +1,18 @@
 -- A site and a peer, step by step.
-use Rattle.std.proofs.Common.{◌≡◌, ◌≢◌, ◌<◌, ◌≤◌, ◌+◌, ◌++◌, ℕ, zero, suc, List, [], ◌∷◌, Bool, true, false, length, Option, Some, None, refl, sym, ap, ◌∙◌, subst, append-nil, append_assoc, arith}
+use Rattle.std.proofs.Common.{◌≡◌, ◌<◌, ◌≤◌, ◌+◌, ◌++◌, ℕ, List, [], ◌∷◌, Option, Some, None, refl, sym, ap, ◌∙◌, subst, append-nil}
 use Rattle.std.specs.Option.{option_to_list}
-use mathlib.Core.List.{IsPrefix}
-use Rattle.td_base.specs.declared.site.TheConstants.{MAX_SITE}
 use Rattle.td_op.specs.declared.entry.Entry.{Entry}
 use Rattle.td_op.specs.declared.input.Input.{Input}
-use Rattle.td_op.specs.declared.input.Input.TheVariants.{Local, Take, Next}
+use Rattle.td_op.specs.declared.input.Input.TheVariants.{Take}
 use Rattle.td_op.specs.declared.message.Message.{Message}
-use Rattle.td_view.specs.declared.publish.Publish.{Publish}
-use Rattle.td_machine.specs.History.{History, after, sender, known_of}
+use Rattle.td_machine.specs.History.{History, known_of}
+use Rattle.td_op.specs.Message.{sender}
 use Rattle.td_machine.specs.Machine.{Machine, start, made}
 use Rattle.td_machine.specs.Step.{step}
 use Rattle.td_replica.specs.Replica.{ReplicaValue, IsReplica, after_step}
-use Rattle.td_meeting.specs.Takes.{taken_in, takes_from, IsWelcome, TakesWelcome}
+use Rattle.td_meeting.specs.Takes.{takes_from, IsWelcome, TakesWelcome}
 use Rattle.td_meeting.specs.Peers.{ArePackets, Hears}
-use Rattle.td_meeting.proofs.Hearing.{takes_own, takes_other, takes_same, welcome_more}
+use Rattle.td_meeting.proofs.Hearing.{takes_own, takes_other, welcome_more}
 use Rattle.td_site.specs.Sites.{SiteValue}
 use Rattle.td_site.specs.Later.{LaterSite}
 use Rattle.td_line.specs.Calls.{local_at, local_in}

@@ -2,7 +2,8 @@
 ghost use Rattle.std.specs.Prelude.{◌≡◌, ◌<◌, ◌≤◌, ◌+◌, length, false, Some, None, OnOk};
 ghost use Rattle.td_op.specs.declared.input.Input.TheVariants.{Take};
 ghost use Rattle.td_op.specs.declared.message.Message.{Message};
-ghost use Rattle.td_machine.specs.History.{sender, known_of};
+ghost use Rattle.td_machine.specs.History.{known_of};
+ghost use Rattle.td_op.specs.Message.{sender};
 ghost use Rattle.td_machine.specs.Machine.{made};
 ghost use Rattle.td_site.specs.Later.{NothingReady};
 ghost use Rattle.td_peer.specs.Serving.{TookOrEmpty};

@@ -5,10 +5,11 @@ use Rattle.std.specs.List.{slice_get}
 use Rattle.std.proofs.lemmas.List.{append-nil, append_assoc}
 use Rattle.td_base.proofs.Places.{drop_there}
 use Rattle.td_op.specs.declared.message.Message.{Message}
-use Rattle.td_history.specs.Past.{kth}
+use Rattle.td_base.specs.Lists.{kth}
 use Rattle.td_replica.specs.declared.given.Given.{Given}
 use Rattle.td_report.specs.Given.{give_line}
-use Rattle.td_world.specs.World.{WorldValue, Move, is_for, machine_of, moved_all}
+use Rattle.td_world.specs.World.{WorldValue, Move, machine_of, moved_all}
+use Rattle.td_op.specs.Message.{is_for}
 use Rattle.td_world.specs.Calls.{give_moves, is_known, is_wanted, offered, offered_by, offer_moves, offer_moves_of, took, wanted_answer, wanted_moves}
 use Rattle.td_world.specs.Parts.{ArePassed}
 use Rattle.td_run.specs.Printing.{Printed, and_then, give_each, give_wanted, line_and_events, only_line}

@@ -13,7 +13,7 @@ use Rattle.td_script.specs.declared.command.Command.TheVariants.{Sites, Ins, Pas
 use Rattle.td_script.specs.declared.command.Place.{Place}
 use Rattle.td_script.specs.declared.command.Place.TheVariants.{Whole, Beside}
 use Rattle.td_script.specs.declared.script.Script.{Script}
-use Rattle.td_history.specs.Past.{kth}
+use Rattle.td_base.specs.Lists.{kth}
 use Rattle.td_report.specs.Replies.{ins_line, paste_line, del_line, flat_line, cancel_line, event_line}
 use Rattle.td_report.specs.Given.{give_line, settle_line}
 use Rattle.td_report.specs.Tree.{show_line, tree_lines}

@@ -1,6 +1,6 @@
 // The commands `give` and `settle`.
 ghost use Rattle.std.specs.Prelude.{◌≡◌, ◌≤◌, length, Some, OnOk};
-ghost use Rattle.td_history.specs.Past.{kth};
+ghost use Rattle.td_base.specs.Lists.{kth};
 ghost use Rattle.td_op.specs.declared.message.Message.{Message};
 ghost use Rattle.td_run.specs.Printing.{and_then, give, give_each, give_wanted, Settles};
 ghost use Rattle.td_world.specs.World.{size};

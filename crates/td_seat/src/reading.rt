@@ -2,7 +2,7 @@
 ghost use Rattle.std.specs.Prelude.{◌≡◌, ◌<◌, ◌≤◌, length, IfOk};
 ghost use Rattle.std.specs.List.{find};
 ghost use Rattle.td_doc.specs.Document.{text_of};
-ghost use Rattle.td_history.specs.Past.{kth};
+ghost use Rattle.td_base.specs.Lists.{kth};
 ghost use Rattle.td_machine.specs.Machine.{undecided};
 ghost use Rattle.td_machine.specs.Ready.{is_dot_of};
 

@@ -12,7 +12,8 @@ use Rattle.td_op.specs.declared.message.Message.{Message}
 use Rattle.td_history.specs.Standing.{StandFor}
 use Rattle.td_history.proofs.Standing.{stand_filter_map}
 use Rattle.td_machine.specs.Machine.{start}
-use Rattle.td_machine.specs.History.{History, IsConsistent, machine, after, history, sender}
+use Rattle.td_machine.specs.History.{History, IsConsistent, machine, after, history}
+use Rattle.td_op.specs.Message.{sender}
 use Rattle.td_machine.proofs.Growing.{consistent_start}
 use Rattle.td_replica.specs.Replica.{ReplicaValue, IsReplica, new_replica}
 use Rattle.td_replica.proofs.Legal.{built}

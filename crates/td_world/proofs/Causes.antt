@@ -3,10 +3,11 @@ use Rattle.std.proofs.Common.{◌≡◌, ◌≢◌, ◌⊎◌, ◌↔◌, ◌≤
 use Rattle.std.proofs.lemmas.Bool.{eqb-true, eq-eqb, and_from}
 use Rattle.td_op.specs.declared.message.Message.{Message}
 use Rattle.td_op.specs.declared.message.Message.TheVariants.{Op as AnOp, Vote as AVote}
-use Rattle.td_history.specs.Past.{kth}
-use Rattle.td_machine.specs.History.{sender, IsAddressed}
+use Rattle.td_base.specs.Lists.{kth}
+use Rattle.td_machine.specs.History.{IsAddressed}
+use Rattle.td_op.specs.Message.{sender, is_for}
 use Rattle.td_replica.specs.declared.given.Given.TheVariants.{NoSuch, Stray}
-use Rattle.td_world.specs.World.{WorldValue, Move, is_for, moved_all}
+use Rattle.td_world.specs.World.{WorldValue, Move, moved_all}
 use Rattle.td_world.specs.Calls.{found_given, numbered_given, took, pass, passes, count_given, IsSettled}
 use Rattle.td_world.proofs.Moves.{for_parts}
 use Rattle.td_world.proofs.Settling.{passes_last}

@@ -13,10 +13,11 @@ use Rattle.td_op.specs.declared.message.Message.TheVariants.{Op as AnOp, Vote as
 use Rattle.td_op.specs.declared.request.Request.{Request}
 use Rattle.td_op.specs.Input.{IsInput}
 use Rattle.td_machine.specs.Machine.{Machine}
-use Rattle.td_machine.specs.History.{machine, sender}
+use Rattle.td_machine.specs.History.{machine}
+use Rattle.td_op.specs.Message.{sender, is_for}
 use Rattle.td_machine.proofs.Family.{sent_ops}
 use Rattle.td_replay.proofs.Values.{values_of}
-use Rattle.td_world.specs.World.{WorldValue, Move, IsWorld, IsFit, size, machine_of, family_of, is_sent_by, moved, moved_all, is_for}
+use Rattle.td_world.specs.World.{WorldValue, Move, IsWorld, IsFit, size, machine_of, family_of, is_sent_by, moved, moved_all}
 use Rattle.td_world.specs.Calls.{is_known, is_ready, is_wanted, next, take, nexts, give_moves, wanted_moves, moves_of, give_all_moves, pass_from, pass, passes}
 use Rattle.td_world.proofs.Moves.{low, size_moved, size_after, still_sent, moved_both, world_moved}
 use Rattle.td_world.proofs.Named.{built_end, reached_end, sending_end}

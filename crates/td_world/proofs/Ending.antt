@@ -23,7 +23,8 @@ use Rattle.td_machine.specs.Machine.{Machine}
 use Rattle.td_machine.proofs.Family.{made_at, sent_ops}
 use Rattle.td_machine.proofs.Reached.{of_sites, past_of}
 use Rattle.td_machine.proofs.Walk.{offered}
-use Rattle.td_world.specs.World.{WorldValue, Move, IsWorld, size, machine_of, family_of, is_sent_by, sent_by, moved, moved_all, is_for}
+use Rattle.td_world.specs.World.{WorldValue, Move, IsWorld, size, machine_of, family_of, is_sent_by, sent_by, moved, moved_all}
+use Rattle.td_op.specs.Message.{is_for}
 use Rattle.td_world.specs.Calls.{is_known, is_ready, is_wanted, pass, passes, count_given, IsSettled}
 use Rattle.td_world.specs.Promises.{NobodyReady}
 use Rattle.td_world.proofs.Causes.{passes_end, settled_one}

@@ -14,7 +14,8 @@ use Rattle.td_op.specs.declared.message.Message.{Message}
 use Rattle.td_op.specs.declared.message.Message.TheVariants.{Op as AnOp, Vote as AVote}
 use Rattle.td_op.specs.Op.{OpValue}
 use Rattle.td_machine.specs.Counts.{counts, ops_of, IsInTurn, IsNext}
-use Rattle.td_machine.specs.History.{IsReached, sender}
+use Rattle.td_machine.specs.History.{IsReached}
+use Rattle.td_op.specs.Message.{sender}
 use Rattle.td_machine.specs.Machine.{Machine, next_op}
 use Rattle.td_machine.proofs.Counting.{total, found, Found}
 use Rattle.td_machine.proofs.Induction.{built_of}

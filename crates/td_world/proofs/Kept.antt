@@ -4,7 +4,7 @@ use Rattle.std.proofs.lemmas.Bool.{eqb-true, eqb-false}
 use Rattle.std.proofs.lemmas.List.{length-set, length-append, length-drop}
 use Rattle.std.specs.List.{filter_map, slice_get}
 use Rattle.std.proofs.lemmas.Option.{same_Some}
-use Rattle.td_base.specs.Lists.{In}
+use Rattle.td_base.specs.Lists.{In, kth}
 use Rattle.td_base.proofs.Elements.{get_front, In-slice_get}
 use Rattle.td_op.specs.declared.input.Input.{Input}
 use Rattle.td_op.specs.declared.input.Input.TheVariants.{Take}
@@ -13,15 +13,15 @@ use Rattle.td_op.specs.declared.reply.Reply.{Reply}
 use Rattle.td_op.specs.Input.{IsInput}
 use Rattle.td_history.specs.Standing.{StandFor}
 use Rattle.td_history.proofs.Standing.{stand_filter_map, stand_length}
-use Rattle.td_history.specs.Past.{kth}
 use Rattle.td_machine.specs.Machine.{Machine}
 use Rattle.td_machine.specs.Step.{step}
-use Rattle.td_machine.specs.History.{IsReached, sender}
+use Rattle.td_machine.specs.History.{IsReached}
+use Rattle.td_op.specs.Message.{sender, is_for}
 use Rattle.td_replica.specs.Replica.{ReplicaValue, after_step}
 use Rattle.td_world.specs.declared.post.Post.{Post}
 use Rattle.td_world.specs.declared.sites.Done.{Done}
 use Rattle.td_world.specs.Sending.{IsDone}
-use Rattle.td_world.specs.World.{WorldValue, Move, IsWorld, size, replica_from, machine_of, family_of, reply_to, sent_by, moved, is_for, IsFit}
+use Rattle.td_world.specs.World.{WorldValue, Move, IsWorld, size, replica_from, machine_of, family_of, reply_to, sent_by, moved, IsFit}
 use Rattle.td_world.specs.Calls.{is_known}
 use Rattle.td_world.specs.Parts.{posted, world_value, new_posts, ArePassed, IsWorldParts, is_dropped, looked_again}
 use Rattle.td_world.proofs.Moves.{low, moved_here, moved_there, world_moved}

@@ -14,7 +14,8 @@ use Rattle.td_op.specs.declared.reply.Why.{Why}
 use Rattle.td_machine.specs.Step.{step}
 use Rattle.td_logs.specs.Entries.{EntryOf}
 use Rattle.td_replica.specs.Replica.{ReplicaValue}
-use Rattle.td_world.specs.World.{WorldValue, Move, IsWorld, IsFit, size, replica, machine_of, family_of, reply_to, moved, moved_all, is_for}
+use Rattle.td_world.specs.World.{WorldValue, Move, IsWorld, IsFit, size, replica, machine_of, family_of, reply_to, moved, moved_all}
+use Rattle.td_op.specs.Message.{is_for}
 use Rattle.td_world.specs.Calls.{is_known, is_wanted, take, give_moves, nexts_after, wanted_moves, moves_of, give_all_moves, pass_from, pass}
 use Rattle.td_world.specs.Parts.{is_dropped}
 use Rattle.td_world.proofs.Came.{came_known}

@@ -11,11 +11,12 @@ use Rattle.td_op.specs.declared.message.Message.{Message}
 use Rattle.td_op.specs.declared.message.Message.TheVariants.{Op as AnOp, Vote as AVote}
 use Rattle.td_machine.specs.Machine.{Machine, start}
 use Rattle.td_machine.specs.Step.{step}
-use Rattle.td_machine.specs.History.{History, IsConsistent, IsAddressed, MayCome, machine, after, history, sender, with_entry}
+use Rattle.td_machine.specs.History.{History, IsConsistent, IsAddressed, MayCome, machine, after, history, with_entry}
+use Rattle.td_op.specs.Message.{sender, is_for}
 use Rattle.td_machine.proofs.Growing.{consistent_more, step_sends}
 use Rattle.td_machine.proofs.Induction.{after_both}
 use Rattle.td_replica.specs.Replica.{ReplicaValue, after_step}
-use Rattle.td_world.specs.World.{WorldValue, Move, IsWorld, IsFit, size, replica, machine_of, family_of, is_sent_by, sent_by, moved, moved_all, is_for}
+use Rattle.td_world.specs.World.{WorldValue, Move, IsWorld, IsFit, size, replica, machine_of, family_of, is_sent_by, sent_by, moved, moved_all}
 use Rattle.td_world.proofs.Named.{sending_end, own_named, site_is}
 use Rattle.td_world.proofs.Replicas.{set_same, set_other, history_from, with_entries}
 

@@ -19,7 +19,8 @@ use Rattle.td_machine.specs.Step.{step}
 use Rattle.td_machine.specs.Taking.{misfit, forget, waited, next_of, take_as, answer, vote_on}
 use Rattle.td_machine.proofs.StepKinds.{least_in}
 use Rattle.td_replica.specs.Replica.{ReplicaValue, is_idle}
-use Rattle.td_world.specs.World.{WorldValue, Move, size, replica, machine_of, moved, moved_all, is_for}
+use Rattle.td_world.specs.World.{WorldValue, Move, size, replica, machine_of, moved, moved_all}
+use Rattle.td_op.specs.Message.{is_for}
 use Rattle.td_world.specs.Calls.{is_ready, next, take, nexts, nexts_after, give_moves, found_moves, wanted_moves, is_wanted, moves_of, give_all_moves, pass_from, pass, passes}
 use Rattle.td_world.specs.Promises.{NobodyReady}
 use Rattle.td_world.proofs.Moves.{size_moved, size_after, moved_here, moved_there, moved_both}

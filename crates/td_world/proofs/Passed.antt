@@ -7,10 +7,10 @@ use Rattle.std.specs.List.{slice_get}
 use Rattle.std.proofs.lemmas.Option.{same_Some}
 use Rattle.td_op.specs.declared.message.Message.{Message}
 use Rattle.td_op.specs.declared.message.Message.TheVariants.{Op, Vote}
-use Rattle.td_machine.specs.History.{sender}
+use Rattle.td_op.specs.Message.{sender, is_for}
 use Rattle.td_replica.specs.Replica.{ReplicaValue}
 use Rattle.td_world.specs.declared.post.Post.{Post}
-use Rattle.td_world.specs.World.{WorldValue, machine_of, moved_all, is_for}
+use Rattle.td_world.specs.World.{WorldValue, machine_of, moved_all}
 use Rattle.td_world.specs.Calls.{is_known, is_wanted, give_moves, took, wanted_moves, wanted_answer, moves_of, given_of}
 use Rattle.td_world.specs.Parts.{IsPassed, ArePassed, IsWorldParts, world_value}
 use Rattle.td_world.proofs.Kept.{get_found, set_there, set_value}

@@ -5,7 +5,8 @@ use Rattle.td_base.specs.Lists.{In}
 use Rattle.td_base.proofs.Lists.{In-filter}
 use Rattle.td_op.specs.declared.message.Message.{Message}
 use Rattle.td_machine.specs.Machine.{Machine, undecided}
-use Rattle.td_world.specs.World.{WorldValue, Move, IsWorld, size, machine_of, family_of, is_sent_by, moved_all, is_for}
+use Rattle.td_world.specs.World.{WorldValue, Move, IsWorld, size, machine_of, family_of, is_sent_by, moved_all}
+use Rattle.td_op.specs.Message.{is_for}
 use Rattle.td_world.specs.Calls.{is_known, is_wanted, is_ready, give_moves, wanted_moves, moves_of, give_all_moves, pass_from, pass}
 use Rattle.td_world.specs.Promises.{NobodyReady, SameVectors, AllDecided}
 use Rattle.td_world.proofs.Moves.{size_family}

@@ -6,7 +6,7 @@ use Rattle.std.specs.List.{filter_map, slice_get}
 use Rattle.td_base.proofs.Places.{get_more, get_behind}
 use Rattle.td_op.specs.declared.input.Input.{Input}
 use Rattle.td_op.specs.declared.message.Message.{Message}
-use Rattle.td_history.specs.Past.{kth}
+use Rattle.td_base.specs.Lists.{kth}
 use Rattle.td_history.specs.Standing.{StandFor}
 use Rattle.td_history.proofs.Standing.{stand_on, stand_filter_map}
 use Rattle.td_machine.specs.Step.{step}

@@ -12,7 +12,7 @@ use Rattle.td_op.specs.declared.vote.Vote.{Vote}
 use Rattle.td_op.specs.Op.{OpValue}
 use Rattle.td_machine.specs.Log.{proposed}
 use Rattle.td_machine.specs.Machine.{Machine, next_op}
-use Rattle.td_machine.specs.History.{sender}
+use Rattle.td_op.specs.Message.{sender}
 use Rattle.td_machine.proofs.Parts.{IsBuilt, Part, Makes, Proposes, Counts, Takes, Agrees, Declines, Delays, Forgets, vote_here, by_parts}
 
 pub proposal_of : (slot : Slot) (b : Body) → proposed b ≡ Some slot → b ≡ Propose slot

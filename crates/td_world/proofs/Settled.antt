@@ -37,7 +37,7 @@ use Rattle.td_machine.proofs.Parts.{IsOffered, IsBuilt}
 use Rattle.td_machine.proofs.Reached.{of_sites}
 use Rattle.td_machine.proofs.Turns.{counted, length_have}
 use Rattle.td_machine.proofs.Walk.{offered}
-use Rattle.td_world.specs.World.{is_for}
+use Rattle.td_op.specs.Message.{is_for}
 use Rattle.td_world.specs.Calls.{is_known, is_ready}
 use Rattle.td_world.proofs.Balloting.{balloting, few_yes, one_ballot, as_many}
 use Rattle.td_world.proofs.Known.{repeat_op, repeat_vote, IsCountedAt}

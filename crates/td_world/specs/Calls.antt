@@ -4,13 +4,14 @@ use Rattle.td_op.specs.declared.input.Input.{Input}
 use Rattle.td_op.specs.declared.input.Input.TheVariants.{Local, Take, Next}
 use Rattle.td_op.specs.declared.message.Message.{Message}
 use Rattle.td_op.specs.declared.request.Request.{Request}
-use Rattle.td_history.specs.Past.{kth}
+use Rattle.td_base.specs.Lists.{kth}
 use Rattle.td_machine.specs.Machine.{Machine}
 use Rattle.td_machine.specs.Step.{step}
 use Rattle.td_replica.specs.declared.given.Given.{Given}
 use Rattle.td_replica.specs.declared.given.Given.TheVariants.{NoSuch, Stray, Took}
 use Rattle.td_replica.specs.Replica.{is_repeat, is_idle}
-use Rattle.td_world.specs.World.{WorldValue, Move, is_for, size, machine_of, reply_to, moved, moved_all}
+use Rattle.td_world.specs.World.{WorldValue, Move, size, machine_of, reply_to, moved, moved_all}
+use Rattle.td_op.specs.Message.{is_for}
 
 -- to take the message again would change nothing
 abbrev pub is_known : Message → Machine → Bool

@@ -4,11 +4,12 @@ use Rattle.std.specs.List.{filter_map, slice_get}
 use Rattle.td_op.specs.declared.message.Message.{Message}
 use Rattle.td_op.specs.declared.reply.Reply.{Reply}
 use Rattle.td_op.specs.declared.reply.Reply.TheVariants.{Made, Cancelled, Held, Position, Gone, Limit, NotOpen, New, Later, Repeat, Unfit, Taken, Dropped, Idle}
-use Rattle.td_history.specs.Past.{kth}
+use Rattle.td_base.specs.Lists.{kth}
 use Rattle.td_history.specs.Standing.{StandFor}
 use Rattle.td_replica.specs.Replica.{ReplicaValue}
 use Rattle.td_world.specs.declared.post.Post.{Post}
-use Rattle.td_world.specs.World.{WorldValue, IsWorld, replica_from, machine_of, is_for}
+use Rattle.td_world.specs.World.{WorldValue, IsWorld, replica_from, machine_of}
+use Rattle.td_op.specs.Message.{is_for}
 use Rattle.td_world.specs.Calls.{is_known}
 
 abbrev pub posted : List ReplicaValue → Post → Option Message

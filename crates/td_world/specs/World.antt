@@ -1,16 +1,16 @@
 -- A world: sites side by side, and the messages that they sent. What happens in it is a list of moves, each one step of
 -- one site's machine.
-use Rattle.std.specs.Prelude.{◌≡◌, ◌<◌, ◌≤◌, ◌++◌, ◌+◌, ◌-◌, ◌==◌, ◌&&◌, ℕ, zero, suc, List, [], ◌∷◌, Bool, true, not, length, map, filter, drop, slice_set}
+use Rattle.std.specs.Prelude.{◌≡◌, ◌<◌, ◌≤◌, ◌++◌, ◌+◌, ◌-◌, ◌==◌, ℕ, zero, suc, List, [], ◌∷◌, Bool, true, length, map, filter, drop, slice_set}
 use Rattle.td_base.specs.Lists.{In}
 use Rattle.td_op.specs.Input.{IsInput}
 use Rattle.td_op.specs.declared.input.Input.{Input}
 use Rattle.td_op.specs.declared.input.Input.TheVariants.{Take}
 use Rattle.td_op.specs.declared.message.Message.{Message}
-use Rattle.td_op.specs.declared.message.Message.TheVariants.{Op, Vote}
 use Rattle.td_op.specs.declared.reply.Reply.{Reply}
 use Rattle.td_machine.specs.Machine.{Machine}
 use Rattle.td_machine.specs.Step.{step}
-use Rattle.td_machine.specs.History.{Family, machine, sender, IsConsistent}
+use Rattle.td_machine.specs.History.{Family, machine, IsConsistent}
+use Rattle.td_op.specs.Message.{sender, is_for}
 use Rattle.td_replica.specs.Replica.{ReplicaValue, new_replica, after_step}
 
 pub record WorldValue : Type 0 where
@@ -91,11 +91,6 @@ moved move w =
 abbrev pub moved_all : List Move → WorldValue → WorldValue
 moved_all [] w = w
 moved_all (move ∷ moves) w = moved_all moves (moved move w)
-
--- another site sent the message, and it is an operation or a vote on a proposal of this site
-abbrev pub is_for : ℕ → Message → Bool
-is_for site (Op x) = not (x.dot.site == site)
-is_for site (Vote v) = not (v.voter == site) && v.proposal.site == site
 
 -- where the input is a message, it was sent for the site
 abbrev pub MayTake : ℕ → Input → WorldValue → Type 0

@@ -4,7 +4,8 @@ ghost use Rattle.std.specs.List.{slice_get};
 ghost use Rattle.td_base.specs.Lists.{In};
 ghost use Rattle.td_op.specs.declared.input.Input.TheVariants.{Next};
 ghost use Rattle.td_op.specs.declared.message.Message.{Message};
-ghost use Rattle.td_world.specs.World.{IsWorld, size, moved, moved_all, is_for};
+ghost use Rattle.td_world.specs.World.{IsWorld, size, moved, moved_all};
+ghost use Rattle.td_op.specs.Message.{is_for};
 ghost use Rattle.td_world.specs.Calls.{is_wanted, nexts_after, give_moves, took, found_moves, found_given, numbered_moves, numbered_given, wanted_moves, wanted_given, wanted_answer, offered, offer_moves, give_all_moves, give_all_given, IsStopped, IsCutShort};
 ghost use Rattle.td_world.specs.Parts.{IsPassed, ArePassed};
 ghost use Rattle.td_world.specs.Promises.{NobodyReady, IsPromised};
@@ -107,7 +108,7 @@ impl<D: Doc> World<D> {
         ensures world { IsWorld self.new }
         ensures some { 1 ≤ to }
     {
-        if !is_for(to, message) {
+        if !message.is_for(to) {
             return Ok(Given::Stray);
         }
         self.take(to, message)
@@ -244,7 +245,7 @@ impl<D: Doc> World<D> {
         requires { to ≤ size self.now }
         ensures { result ≡ is_wanted to message.now self.now }
     {
-        is_for(to, message) && !self.replica(to).known(message)
+        message.is_for(to) && !self.replica(to).known(message)
     }
 
     // How many messages, from the first on, are known to the site or not for it.
@@ -282,15 +283,5 @@ impl<D: Doc> World<D> {
         if self.passed[place] == k {
             self.passed[place] = k + 1;
         }
-    }
-}
-
-// Whether another site sent the message, and it is an operation or a vote on a proposal of this site.
-fn is_for(site: Site, message: &Message) -> bool
-    ensures { result ≡ is_for site message.now }
-{
-    match message {
-        Message::Op(op) => op.dot().site != site,
-        Message::Vote(vote) => vote.voter != site && vote.proposal.site == site,
     }
 }

@@ -1,10 +1,11 @@
 // What worlds come to, each law as the contract of a function with an empty body.
 ghost use Rattle.std.specs.Prelude.{◌≡◌, ◌≢◌, ◌↔◌, ◌<◌, ◌≤◌, ◌+◌, ◌*◌, ℕ, [], true, false, length, Some, None};
 ghost use Rattle.td_op.specs.declared.message.Message.{Message};
-ghost use Rattle.td_history.specs.Past.{kth};
-ghost use Rattle.td_machine.specs.History.{sender, IsAddressed};
+ghost use Rattle.td_base.specs.Lists.{kth};
+ghost use Rattle.td_machine.specs.History.{IsAddressed};
+ghost use Rattle.td_op.specs.Message.{sender, is_for};
 ghost use Rattle.td_replica.specs.declared.given.Given.TheVariants.{NoSuch, Stray};
-ghost use Rattle.td_world.specs.World.{WorldValue, Move, IsWorld, IsFit, size, machine_of, moved, moved_all, is_for};
+ghost use Rattle.td_world.specs.World.{WorldValue, Move, IsWorld, IsFit, size, machine_of, moved, moved_all};
 ghost use Rattle.td_world.specs.Calls.{is_ready, nexts_after, numbered_given, pass, passes, IsSettled};
 ghost use Rattle.td_world.specs.Promises.{NobodyReady, SameVectors, AllDecided, IsPromised, AtomsAreShown, TextsAreShown};
 

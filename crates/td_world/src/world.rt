@@ -2,13 +2,13 @@ ghost use Rattle.std.specs.Prelude.{◌≡◌, ◌<◌, ◌≤◌, ◌+◌, ◌-
 ghost use Rattle.std.specs.List.{slice_get};
 ghost use Rattle.std.specs.Option.{option_map};
 ghost use Rattle.td_base.specs.declared.site.TheConstants.{MAX_SITE};
-ghost use Rattle.td_base.specs.Lists.{In};
+ghost use Rattle.td_base.specs.Lists.{In, kth};
 ghost use Rattle.td_op.specs.declared.input.Input.TheVariants.{Take};
 ghost use Rattle.td_op.specs.declared.message.Message.{Message};
-ghost use Rattle.td_history.specs.Past.{kth};
-ghost use Rattle.td_machine.specs.History.{IsConsistent, sender};
+ghost use Rattle.td_machine.specs.History.{IsConsistent};
+ghost use Rattle.td_op.specs.Message.{sender};
 ghost use Rattle.td_replica.specs.Replica.{ReplicaValue};
-ghost use Rattle.td_world.specs.World.{IsWorld, family_of, new_world, replica, replica_from, size, world_of, moved, reply_to, is_for, MayTake};
+ghost use Rattle.td_world.specs.World.{IsWorld, family_of, new_world, replica, replica_from, size, world_of, moved, reply_to, MayTake};
 ghost use Rattle.td_world.specs.Calls.{ask};
 ghost use Rattle.td_world.specs.Parts.{new_posts, posted, looked_again};
 ghost use Rattle.td_world.specs.Promises.{NobodyReady, IsPromised};
@@ -73,7 +73,7 @@ impl<D: Doc> World<D> {
         ensures promises { IsPromised self.now }
     {
         let message = self.numbered(number)?;
-        Some((sender(&message), message))
+        Some((message.sender(), message))
     }
 
     // The message with this number.
@@ -157,16 +157,6 @@ fn message_of<D: Doc>(replicas: &[Replica<D>], post: &Post) -> Message
     ensures some { 1 ≤ post.now.site }
 {
     replicas[post.site.place()].message(u64::from(post.number))
-}
-
-// The site that sent the message.
-fn sender(message: &Message) -> Site
-    ensures { result ≡ sender message.now }
-{
-    match message {
-        Message::Op(op) => op.dot().site,
-        Message::Vote(vote) => vote.voter,
-    }
 }
 
 // Notes the messages that a site sent after so many.

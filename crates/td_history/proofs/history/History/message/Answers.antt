@@ -3,7 +3,7 @@ use Rattle.std.specs.List.{slice_get}
 use Rattle.std.specs.Option.{option_map}
 use Rattle.td_op.specs.declared.message.Message.TheVariants.{Op, Vote}
 use Rattle.td_history.specs.declared.message.CompactMessage.TheVariants.{Op as CompactOp, Vote as CompactVote}
-use Rattle.td_history.specs.Past.{kth}
+use Rattle.td_base.specs.Lists.{kth}
 use Rattle.td_history.proofs.Pasts.{sent_is, sent_within}
 use Rattle.td_history.proofs.Standing.{stand_length}
 use Rattle.td_history.proofs.history.History.message.Goals as goal

@@ -1,6 +1,6 @@
 use Rattle.std.proofs.Common.{sym, ap, ◌∙◌, ◌≡◌}
 use Rattle.std.proofs.lemmas.Option.{same_Some}
-use Rattle.td_machine.specs.History.{sender}
+use Rattle.td_op.specs.Message.{sender}
 use Rattle.td_peer.specs.Peers.{PeerState}
 use Rattle.td_peer.proofs.Sending.{own_sender, fits_own}
 use Rattle.td_peer.proofs.peer.Peer.send.Goals as goal

@@ -1,7 +1,7 @@
 use Rattle.std.proofs.Common.{◌≡◌, ℕ, List, Some, subst, length, drop, rules}
 use Rattle.std.specs.List.{flat_map}
 use Rattle.std.proofs.lemmas.Result.{on_ok_weaker}
-use Rattle.td_history.specs.Past.{kth}
+use Rattle.td_base.specs.Lists.{kth}
 use Rattle.td_report.specs.Given.{give_line}
 use Rattle.td_report.specs.Replies.{event_line}
 use Rattle.td_world.specs.World.{moved_all}
