@@ -53,7 +53,7 @@ pub(crate) fn text_of(alloc: Global, atoms: &AtomList) -> Result<String, Memory>
 {
     let mut text = String::new(alloc);
     for atom in atoms.iter() {
-        text.push_str(str::from_utf8(atom.bytes()).unwrap())?;
+        text.push_str(atom.as_str())?;
     }
     Ok(text)
 }
@@ -70,8 +70,7 @@ pub(crate) fn sample_of(alloc: Global, atoms: &AtomList) -> Result<String, Memor
 
 // Adds the code points of the atom.
 fn push_cluster(sample: &mut String, atom: &Atom) -> Result<(), Memory> {
-    let text = str::from_utf8(atom.bytes()).unwrap();
-    for (index, character) in text.chars().enumerate() {
+    for (index, character) in atom.as_str().chars().enumerate() {
         let mark = if index == 0 { "" } else { " ×" };
         write!(sample, "{mark} {:04X}", character as u32)?;
     }

@@ -1,14 +1,12 @@
 use Rattle.std.proofs.Common.{◌≡◌, ◌∙◌, ◌++◌, [], ℕ, List, ap, sym, string_bytes}
 use Rattle.std.specs.List.{concat}
-use Rattle.std.specs.Str.{IsUtf8}
 use Rattle.std.proofs.lemmas.List.{append-nil}
 use Rattle.td_breaks.proofs.Atoms.{next_bytes}
 use Rattle.td_breaks.proofs.sample.text_of.Goals as goal
 
 pub loop-atom-preserved : goal.loop-atom-preserved
 loop-atom-preserved c =
-    let read : (c.unwrap.result.now ≡ c.bytes.result.now) × IsUtf8 c.bytes.result.now = rw c.unwrap.ensures at c.from_utf8.ensures.cases in
-    let same : c.unwrap.result.now ≡ c.in-Some.atom = read.0 ∙ c.bytes.ensures.bytes in
+    let same : c.as_str.result.now ≡ c.in-Some.atom = c.as_str.ensures in
     record {
       can = tt;
       ends = tt;
