@@ -1,16 +1,16 @@
 -- From the close of a room to the books of its editors.
-use Rattle.std.proofs.Common.{◌≡◌, ◌≢◌, ◌<◌, ◌≤◌, ◌+◌, ◌-◌, ◌++◌, ◌==◌, ℕ, zero, suc, Bool, true, false, List, [], ◌∷◌, length, map, take, drop, Option, Some, None, slice_get, if◌then◌else◌, nat_eq, refl, sym, ap, ◌∙◌, subst, append-nil, append_assoc, arith, inl, inr}
+use Rattle.std.proofs.Common.{◌≡◌, ◌<◌, ◌≤◌, ◌+◌, ◌-◌, ◌++◌, ◌==◌, ℕ, zero, suc, Bool, true, false, List, [], ◌∷◌, length, map, take, drop, Option, Some, None, slice_get, if◌then◌else◌, refl, sym, ap, ◌∙◌, subst, append-nil, arith, inl, inr}
 use Rattle.std.proofs.lemmas.Bool.{eq-eqb}
-use Rattle.std.proofs.lemmas.List.{map-append, length-map, length-append}
+use Rattle.std.proofs.lemmas.List.{length-map, length-append}
 use Rattle.std.specs.List.{AllZip, AllByRecursion, concat}
 use mathlib.Core.List.{IsPrefix}
 use Rattle.td_base.specs.Lists.{In}
-use Rattle.td_base.proofs.Lists.{In-map, filter_In, all_in}
+use Rattle.td_base.proofs.Lists.{filter_In, all_in}
 use Rattle.td_op.specs.declared.entry.Entry.{Entry}
 use Rattle.td_op.specs.declared.input.Input.TheVariants.{Local}
 use Rattle.td_op.specs.declared.reply.Reply.{Reply}
 use Rattle.td_op.specs.declared.request.Request.{Request}
-use Rattle.td_doc.specs.Document.{text_of, live_atoms}
+use Rattle.td_doc.specs.Document.{text_of}
 use Rattle.td_machine.specs.Machine.{start}
 use Rattle.td_machine.specs.History.{Family, History, history, history_at, after}
 use Rattle.td_replica.specs.Replica.{ReplicaValue}
@@ -21,13 +21,12 @@ use Rattle.td_line.specs.declared.ask.Ask.{Ask as Sent}
 use Rattle.td_line.specs.declared.answer.Answer.{Answer}
 use Rattle.td_line.specs.declared.report.Report.{Report}
 use Rattle.td_line.specs.Calls.{entry_at, AreRecorded, answers_at, local_at}
-use Rattle.td_line.specs.Editors.{EditorValue, IsPending, polled}
+use Rattle.td_line.specs.Editors.{EditorValue, polled}
 use Rattle.td_world.specs.World.{WorldValue, AreSites, size, world_of, replica_from, family_of}
-use Rattle.td_world.proofs.Moves.{size_family}
 use Rattle.td_world.proofs.Replicas.{history_from}
 use Rattle.td_room.specs.Workers.{WorkerValue}
 use Rattle.td_room.specs.Rooms.{AreOfOneRoom, editors_of}
-use Rattle.td_room.specs.Closing.{IsAnswered, IsAnsweredAtHome, IsLooked, AreLooked, GoesOn, all_at, answers_of}
+use Rattle.td_room.specs.Closing.{IsAnsweredAtHome, IsLooked, AreLooked, GoesOn, all_at, answers_of}
 use Rattle.td_script.specs.declared.live.editor_line.EditorLine.{EditorLine}
 use Rattle.td_trace.specs.declared.log.Did.{Did}
 use Rattle.td_trace.specs.declared.log.Did.TheVariants.{Call, Look}
@@ -37,9 +36,9 @@ use Rattle.td_trace.specs.Editors.{Sofar, further, nothing_yet, AreDid, calls_at
 use Rattle.td_trace.specs.Family.{text_past}
 use Rattle.td_live.specs.declared.ask.Ask.{Ask}
 use Rattle.td_live.specs.Asking.{request_of}
-use Rattle.td_live.specs.Following.{Rest, Act, Called, Looked, Leads, AreActs, all_of, replied}
+use Rattle.td_live.specs.Following.{Act, Called, Leads, AreActs, all_of, replied}
 use Rattle.td_live.specs.Desks.{DeskValue, IsDesk, HasDone, AwaitsNext, AreAnswered, AreSeen, acts_by, acts_of, sofar_of}
-use Rattle.td_live.specs.Books.{BookValue, IsBook, AreBooks, AreCounted, log_of, calls_done, with_call, with_answer, brought_up}
+use Rattle.td_live.specs.Books.{BookValue, IsBook, AreBooks, log_of, calls_done, with_answer, brought_up}
 use Rattle.td_live.specs.Live.{IsLiveFamilyOf}
 use Rattle.td_live.specs.Ending.{GoesOnTo, IsLiveEnd}
 use Rattle.td_live.specs.Drafts.{CanBringUp, book_of, all_brought_up}

@@ -2,7 +2,6 @@
 use Rattle.std.proofs.Common.{◌≡◌, ◌≢◌, ◌<◌, ◌≤◌, ◌+◌, ◌++◌, ◌==◌, ℕ, suc, Bool, true, false, List, [], ◌∷◌, length, drop, Some, if◌then◌else◌, nat_eq, refl, sym, ap, ◌∙◌, subst, arith}
 use Rattle.std.proofs.lemmas.Bool.{eqb-true, eqb-false}
 use Rattle.std.proofs.lemmas.List.{length-map, length-append}
-use Rattle.td_op.specs.declared.entry.Entry.{Entry}
 use Rattle.td_op.specs.declared.input.Input.TheVariants.{Local}
 use Rattle.td_op.specs.declared.reply.Reply.{Reply}
 use Rattle.td_op.specs.declared.request.Request.{Request}
@@ -11,7 +10,6 @@ use Rattle.td_site.proofs.Lists.{prefix_self, prefix_then}
 use Rattle.td_line.specs.Calls.{entry_at, local_at, IsDone}
 use Rattle.td_line.proofs.Calling.{entry_last, counts_done}
 use Rattle.td_script.specs.declared.live.editor_line.EditorLine.{EditorLine}
-use Rattle.td_trace.specs.declared.log.Did.{Did}
 use Rattle.td_trace.specs.declared.log.Did.TheVariants.{Call, Look}
 use Rattle.td_trace.specs.Entries.{traced, traced_history, is_request_at}
 use Rattle.td_trace.specs.Editors.{nothing_yet, calls_at, site_calls_at}

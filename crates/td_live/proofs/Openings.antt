@@ -1,5 +1,5 @@
 -- A live script that bytes spell can be opened as a room.
-use Rattle.std.proofs.Common.{◌≡◌, ◌≤◌, ℕ, List, [], ◌∷◌, length, map, refl, sym, ap, ◌∙◌, subst, arith, inl, inr}
+use Rattle.std.proofs.Common.{◌≡◌, ◌≤◌, ℕ, List, [], ◌∷◌, length, map, ap, ◌∙◌, subst}
 use Rattle.std.specs.Prelude.{All}
 use Rattle.std.specs.List.{AllByRecursion, AllZip}
 use Rattle.std.proofs.lemmas.List.{length-map}
@@ -10,8 +10,7 @@ use Rattle.td_room.specs.Opening.{AreOpened, IsRoom}
 use Rattle.td_room.specs.Workers.{WorkerValue}
 use Rattle.td_script.specs.Script.{IsSiteOf}
 use Rattle.td_script.specs.declared.live.editor_line.EditorLine.{EditorLine}
-use Rattle.td_script.specs.declared.live.script.Live.{Live}
-use Rattle.td_live.specs.Live.{IsTraceAmong, IsLiveTraceOf}
+use Rattle.td_live.specs.Live.{IsTraceAmong}
 use Rattle.td_live.specs.Seating.{CanSit, homes_of}
 use Rattle.td_live.proofs.Seats.{all_can_sit, count_of, opened_homes}
 

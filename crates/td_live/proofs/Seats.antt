@@ -16,7 +16,7 @@ use Rattle.td_live.specs.Ending.{IsLiveEnd}
 use Rattle.td_live.specs.Working.{editors_at}
 use Rattle.td_live.proofs.Each.{stays_in_room}
 use Rattle.td_live.specs.Seating.{CanSit, SatDown, homes_of, seated}
-use Rattle.td_live.specs.Turning.{IsUnused, new_desk}
+use Rattle.td_live.specs.Turning.{new_desk}
 
 -- how many calls the lines of an editor can ask for
 abbrev pub count_of : List EditorLine → ℕ

@@ -1,19 +1,17 @@
 -- What one step of a book's lines does in a world, and that there is less to do then.
-use Rattle.std.proofs.Common.{◌≡◌, ◌≢◌, ◌<◌, ◌≤◌, ◌+◌, ◌-◌, ◌++◌, ℕ, zero, suc, List, [], ◌∷◌, length, take, drop, sum_by, refl, sym, ap, ◌∙◌, subst, arith}
+use Rattle.std.proofs.Common.{◌≡◌, ◌<◌, ◌≤◌, ◌+◌, ◌++◌, ℕ, suc, List, [], ◌∷◌, length, take, drop, sum_by, refl, sym, ap, ◌∙◌, subst, arith}
 use Rattle.td_op.specs.declared.input.Input.TheVariants.{Local}
 use Rattle.td_op.specs.declared.reply.Reply.{Reply}
-use Rattle.td_op.specs.declared.reply.Reply.TheVariants.{Made, Cancelled, Held, Position, Gone, Limit, NotOpen}
-use Rattle.td_op.specs.declared.reply.Reply.TheVariants.{New, Later, Repeat, Unfit, Taken, Dropped, Idle}
+use Rattle.td_op.specs.declared.reply.Reply.TheVariants.{Made}
 use Rattle.td_op.specs.declared.request.Request.{Request}
 use Rattle.td_doc.specs.Document.{text_of}
 use Rattle.td_machine.specs.Machine.{Machine, start}
-use Rattle.td_machine.specs.History.{Family, History, history, machine, after}
+use Rattle.td_machine.specs.History.{History, history, machine, after}
 use Rattle.td_site.proofs.Lists.{take_all}
 use Rattle.td_script.specs.declared.live.editor_line.EditorLine.{EditorLine}
 use Rattle.td_script.specs.declared.live.editor_line.EditorLine.TheVariants.{Look as LookLine}
 use Rattle.td_script.specs.LiveScript.{calls}
-use Rattle.td_trace.specs.Family.{text_past}
-use Rattle.td_world.specs.World.{WorldValue, IsWorld, size, replica, machine_of, family_of, moved, reply_to}
+use Rattle.td_world.specs.World.{WorldValue, IsWorld, size, replica, family_of, moved, reply_to}
 use Rattle.td_world.specs.Calls.{ask}
 use Rattle.td_world.proofs.Moves.{size_family}
 use Rattle.td_live.specs.declared.ask.Ask.{Ask}
@@ -23,7 +21,7 @@ use Rattle.td_live.specs.Following.{Rest, Act, Leads, Stays, Calls, Looks, Begin
 use Rattle.td_live.specs.Books.{BookValue, GoesFurther, with_call, with_look}
 use Rattle.td_live.specs.Finishing.{steps_left}
 use Rattle.td_live.proofs.Furthering.{further_begun, further_call, further_look}
-use Rattle.td_live.proofs.Settling.{history_of, here_moved, there_moved, size_same, grown_moved}
+use Rattle.td_live.proofs.Settling.{history_of, here_moved, there_moved, grown_moved}
 
 -- ---- a call
 

@@ -1,13 +1,13 @@
 -- The trace of a world, and that what it tells is a live family.
-use Rattle.std.proofs.Common.{◌≡◌, ◌<◌, ◌≤◌, ◌-◌, ◌+◌, ◌++◌, ℕ, zero, suc, Bool, true, false, List, [], ◌∷◌, length, map, take, get_or, Some, slice_get, refl, sym, ap, ◌∙◌, subst, append_assoc, arith}
+use Rattle.std.proofs.Common.{◌≡◌, ◌<◌, ◌≤◌, ◌-◌, ◌+◌, ◌++◌, ℕ, zero, suc, true, List, [], ◌∷◌, length, map, take, get_or, Some, slice_get, refl, sym, ap, ◌∙◌, subst, append_assoc, arith}
 use Rattle.std.specs.List.{AllZip, AllByRecursion}
-use Rattle.std.proofs.lemmas.List.{length-map, map-append}
+use Rattle.std.proofs.lemmas.List.{length-map}
 use Rattle.td_op.specs.declared.input.Input.{Input}
 use Rattle.td_op.specs.declared.input.Input.TheVariants.{Local, Take, Next}
 use Rattle.td_op.specs.declared.message.Message.TheVariants.{Op as AnOp, Vote as AVote}
 use Rattle.td_doc.specs.Document.{text_of}
 use Rattle.td_machine.specs.Machine.{Machine, undecided}
-use Rattle.td_machine.specs.History.{Family, History, history, machine, log_of as operations_of}
+use Rattle.td_machine.specs.History.{History, history, machine}
 use Rattle.td_order.specs.Show.{show}
 use Rattle.td_replica.specs.Replica.{ReplicaValue}
 use Rattle.td_line.specs.Calls.{local_in, local_of, local_at}
@@ -16,8 +16,7 @@ use Rattle.td_report.specs.TraceLines.{TraceLine, SitesAre, Ended, written}
 use Rattle.td_report.proofs.Tracing.{numbered_push, parts_of_trace}
 use Rattle.td_script.specs.declared.live.editor_line.EditorLine.{EditorLine}
 use Rattle.td_trace.specs.declared.log.EditorLog.{EditorLog}
-use Rattle.td_trace.specs.Entries.{traced, traced_history, traced_family, told_of, is_request, tells_request, is_request_at}
-use Rattle.td_trace.specs.Editors.{site_calls_at}
+use Rattle.td_trace.specs.Entries.{traced_history, traced_family, told_of, is_request, tells_request, is_request_at}
 use Rattle.td_trace.specs.Family.{IsLogOf, AreTexts, IsSettledFamily}
 use Rattle.td_world.specs.World.{WorldValue, IsWorld, size, replica_from, machine_of, family_of}
 use Rattle.td_world.specs.Promises.{SameVectors, AllDecided}

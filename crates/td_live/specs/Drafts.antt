@@ -1,5 +1,5 @@
 -- From the desks of a room to books, when the room is closed.
-use Rattle.std.specs.Prelude.{◌≡◌, ◌<◌, ◌++◌, ℕ, List, [], ◌∷◌, length, map, Some, slice_get}
+use Rattle.std.specs.Prelude.{◌≡◌, ◌<◌, ◌++◌, List, [], ◌∷◌, length, Some, slice_get}
 use Rattle.td_line.specs.declared.answer.Answer.{Answer}
 use Rattle.td_line.specs.Editors.{EditorValue}
 use Rattle.td_live.specs.Desks.{DeskValue, IsDesk}

@@ -1,6 +1,6 @@
 -- What a live script can come to, and its trace.
 use Rattle.std.specs.Prelude.{◌≡◌, ◌<◌, ◌≤◌, ◌⊎◌, ℕ, List, [], map, length}
-use Rattle.std.specs.List.{AllByRecursion, AllZip}
+use Rattle.std.specs.List.{AllZip}
 use Rattle.td_doc.specs.Document.{text_of}
 use Rattle.td_machine.specs.History.{Family, history, machine, log_of}
 use Rattle.td_order.specs.Show.{show}

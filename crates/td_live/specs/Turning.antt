@@ -5,7 +5,6 @@ use Rattle.td_op.specs.declared.request.Request.{Request}
 use Rattle.td_link.specs.Moments.{WasEmpty, WasFull}
 use Rattle.td_view.specs.declared.publish.Publish.{Publish}
 use Rattle.td_view.specs.Publishes.{EndsWith}
-use Rattle.td_view.specs.Values.{one_more}
 use Rattle.td_line.specs.declared.answer.Answer.{Answer}
 use Rattle.td_line.specs.Lines.{line_places}
 use Rattle.td_line.specs.Editors.{EditorValue, IsPending, IsNewEditor, polled, with_ask, when_shown, when_refused}

@@ -1,7 +1,7 @@
 -- The entries of a legal history tell which operations were made, and on what they depend.
 use Rattle.std.proofs.Common.{◌≡◌, ◌≢◌, ◌⊎◌, ◌<◌, ◌≤◌, ◌+◌, ◌-◌, ◌++◌, List, [], ◌∷◌, ℕ, zero, suc, Bool, true, false, if◌then◌else◌, nat_le, length, get_or, Option, Some, None, refl, sym, ap, ◌∙◌, subst, inl, inr, ⊎_elim, append_assoc, arith}
 use Rattle.std.proofs.lemmas.Bool.{leb-true, leb-false}
-use Rattle.std.proofs.lemmas.List.{set-set, set-get_or, get_or-set_same, get_or-replicate, length-map}
+use Rattle.std.proofs.lemmas.List.{set-set, set-get_or, get_or-set_same}
 use Rattle.std.specs.Prelude.{IsTrue}
 use Rattle.td_base.specs.Value.{DotValue}
 use Rattle.td_base.specs.Lists.{In}
@@ -16,25 +16,23 @@ use Rattle.td_op.specs.Op.{OpValue}
 use Rattle.td_op.specs.Input.{IsInput}
 use Rattle.td_machine.specs.Counts.{counts, ops_of, IsInTurn}
 use Rattle.td_machine.specs.Decision.{counted as counted_vote, outcome, new_ballot, revise}
-use Rattle.td_machine.specs.Machine.{Machine, start, made, next_op, next_dot}
+use Rattle.td_machine.specs.Machine.{Machine, made, next_op, next_dot}
 use Rattle.td_machine.specs.Making.{make, decide, hold, open_ballot}
 use Rattle.td_machine.specs.Taking.{Stepped, take, forget, count}
 use Rattle.td_machine.specs.Request.{perform}
 use Rattle.td_machine.specs.Step.{step}
-use Rattle.td_machine.specs.History.{History, Family, IsReached, IsLegalFrom, IsConsistent, IsOpOf, after, history, history_at}
+use Rattle.td_machine.specs.History.{History, Family, IsReached, IsLegalFrom, after, history_at}
 use Rattle.td_machine.proofs.StepKinds.{by_kinds}
 use Rattle.td_machine.proofs.Parts.{IsBuilt, IsDone, Own, Other}
 use Rattle.td_machine.proofs.Walk.{built_step}
 use Rattle.td_machine.proofs.Turns.{placed, counted, by_each, length_counts}
 use Rattle.td_machine.proofs.Counting.{older_in_turn, found, Found}
-use Rattle.td_machine.proofs.Induction.{Anything, IsBuiltSomewhere, built_of, reached_start, reached_step}
+use Rattle.td_machine.proofs.Induction.{Anything, IsBuiltSomewhere, built_of, reached_step}
 use Rattle.td_machine.proofs.Reached.{waits_of_sites, counted_of, of_sites}
-use Rattle.td_machine.proofs.Family.{counted_had, unique, made_at, valid_of}
+use Rattle.td_machine.proofs.Family.{counted_had, unique}
 use Rattle.td_trace.specs.Entries.{traced, traced_history, traced_family, told_of}
-use Rattle.td_trace.specs.declared.entry.TraceEntry.{TraceEntry}
-use Rattle.td_replay.specs.Counting.{Count, no_count, count_entry, deps_from, made_deps}
-use Rattle.td_replay.specs.Traced.{site_entries}
-use Rattle.td_replay.proofs.Matching.{Matches, matches_step, matches_start, take_parts}
+use Rattle.td_replay.specs.Counting.{Count, count_entry, deps_from}
+use Rattle.td_replay.proofs.Matching.{Matches, matches_step, take_parts}
 
 -- ---- what a step adds to the log
 

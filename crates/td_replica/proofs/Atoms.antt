@@ -1,12 +1,11 @@
 -- How many live atoms stand before an atom that is no row.
 use Rattle.std.proofs.Common.{◌≡◌, ◌+◌, ℕ, List, [], ◌∷◌, Bool, true, false, length, if◌then◌else◌, Option, Some, None, refl, ap, ◌∙◌, arith}
 use Rattle.td_base.specs.Value.{AtomIdValue}
-use Rattle.std.specs.Option.{option_map, is_some}
-use Rattle.td_path.specs.declared.slot.Slot.TheVariants.{Root}
+use Rattle.std.specs.Option.{option_map}
 use Rattle.td_doc.specs.declared.doc.Row.{Row}
-use Rattle.td_doc.specs.Slots.{own_slot, rows_in_slot, is_within}
+use Rattle.td_doc.specs.Slots.{own_slot}
 use Rattle.td_doc.specs.Document.{DocRow, row_id, has_id, is_live, find_row, live_rows}
-use Rattle.td_doc.specs.Answers.{is_row, live_before, row_told}
+use Rattle.td_doc.specs.Answers.{live_before, row_told}
 
 pub before_none : (x : AtomIdValue) (rows : List DocRow) → find_row x rows ≡ None
     → live_before x rows ≡ length (live_rows rows)

@@ -3,9 +3,6 @@ use Rattle.std.specs.Prelude.{ℕ, List, [], ◌∷◌, ◌++◌, Option, Some, 
 use Rattle.std.specs.Fmt.{decimal}
 use Rattle.std.specs.List.{flat_map}
 use Rattle.td_base.specs.Value.{AtomIdValue}
-use Rattle.td_op.specs.declared.input.Input.{Input}
-use Rattle.td_op.specs.declared.input.Input.TheVariants.{Local, Take, Next}
-use Rattle.td_op.specs.declared.message.Message.TheVariants.{Op, Vote}
 use Rattle.td_op.specs.declared.reply.Reply.{Reply}
 use Rattle.td_op.specs.declared.reply.Reply.TheVariants.{Made, Cancelled, Held, Position, Gone, Limit, NotOpen}
 use Rattle.td_op.specs.declared.reply.Reply.TheVariants.{New, Later, Repeat, Unfit, Taken, Dropped, Idle}

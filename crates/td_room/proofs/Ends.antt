@@ -1,13 +1,11 @@
 -- Workers that have ended, and whose links are settled.
-use Rattle.std.proofs.Common.{◌≡◌, ◌≢◌, ◌<◌, ◌≤◌, ◌+◌, ◌-◌, ◌++◌, ℕ, zero, suc, List, [], ◌∷◌, Bool, true, false, not, cond, nat_eq, length, map, filter, drop, take, slice_get, get_or, Option, Some, None, refl, sym, ap, ◌∙◌, subst, append_assoc, append-nil, arith}
+use Rattle.std.proofs.Common.{◌≡◌, ◌≢◌, ◌<◌, ◌≤◌, ◌+◌, ◌-◌, ◌++◌, ℕ, zero, suc, List, [], ◌∷◌, Bool, true, false, not, cond, nat_eq, length, map, drop, slice_get, get_or, Some, refl, sym, ap, ◌∙◌, subst, append_assoc, append-nil, arith}
 use Rattle.std.proofs.lemmas.Bool.Decides.{nat_tests}
 use Rattle.std.specs.List.{AllByRecursion, AllZip}
-use mathlib.Core.List.{IsPrefix}
 use Rattle.td_base.specs.declared.site.TheConstants.{MAX_SITE}
-use Rattle.td_op.specs.declared.message.Message.{Message}
 use Rattle.td_machine.specs.Machine.{Machine, start}
 use Rattle.td_machine.specs.History.{Family, History, after, IsLegal, IsConsistent}
-use Rattle.td_replica.specs.Replica.{ReplicaValue, IsReplica}
+use Rattle.td_replica.specs.Replica.{ReplicaValue}
 use Rattle.td_world.specs.World.{AreSites, replica_from, world_of}
 use Rattle.td_world.specs.Promises.{NobodyReady}
 use Rattle.td_world.specs.Calls.{is_ready}
@@ -18,13 +16,12 @@ use Rattle.td_meeting.specs.Rows.{MatchesFirsts, AllMatch, rows_of}
 use Rattle.td_meeting.proofs.Consistency.{consistent}
 use Rattle.td_meeting.proofs.Matching.{have_met}
 use Rattle.td_line.specs.declared.answer.Answer.{Answer}
-use Rattle.td_line.specs.Calls.{local_at}
 use Rattle.td_line.specs.Editors.{EditorValue}
 use Rattle.td_peer.specs.Peers.{PeerState, peer_of, Linked, PeersMet}
 use Rattle.td_peer.specs.Serving.{Serves, LaterPeer}
 use Rattle.td_room.specs.Workers.{WorkerValue}
 use Rattle.td_room.specs.Rooms.{AreOfOneRoom, IsAtHome, Joined, editors_of}
-use Rattle.td_room.specs.Closing.{GoesOn, IsAnswered, AreLooked, all_at}
+use Rattle.td_room.specs.Closing.{GoesOn, AreLooked}
 use Rattle.td_room.specs.Ending.{IsEnded, AllEnded, EndedNext, FirstJoined, others_of}
 use Rattle.td_room.proofs.Linked.{all_linked}
 

@@ -1,14 +1,13 @@
 -- What is left of a worker.
-use Rattle.std.proofs.Common.{◌≡◌, ◌+◌, ◌++◌, ℕ, List, [], ◌∷◌, map, refl, sym, ap, ◌∙◌, subst, append-nil, false}
+use Rattle.std.proofs.Common.{◌≡◌, ◌+◌, ◌++◌, ℕ, List, [], ◌∷◌, map, refl, sym, ◌∙◌, subst}
 use Rattle.std.specs.List.{AllByRecursion, AllZip}
 use Rattle.std.specs.Option.{option_to_list}
 use mathlib.Core.List.{IsPrefix}
-use Rattle.td_op.specs.declared.message.Message.{Message}
-use Rattle.td_machine.specs.History.{History, known_of}
+use Rattle.td_machine.specs.History.{known_of}
 use Rattle.td_replica.specs.Replica.{ReplicaValue, IsReplica}
 use Rattle.td_view.specs.declared.publish.Publish.{Publish}
 use Rattle.td_view.specs.Publishes.{again, EndsWith}
-use Rattle.td_view.specs.Values.{ReaderValue, WriterValue}
+use Rattle.td_view.specs.Values.{ReaderValue}
 use Rattle.td_site.specs.Sites.{SiteValue}
 use Rattle.td_site.specs.Shows.{IsTrueOf}
 use Rattle.td_site.specs.Later.{LaterSite, OnlyNexts, NothingReady}
@@ -23,7 +22,7 @@ use Rattle.td_peer.specs.Peers.{PeerState, packets, peer_of}
 use Rattle.td_peer.specs.Serving.{LaterPeer}
 use Rattle.td_room.specs.Workers.{WorkerValue, IsConnected, LaterWorker}
 use Rattle.td_room.specs.Turns.{NotMadeThen, GivenPeer}
-use Rattle.td_room.specs.Closing.{IsAnswered, all_at, IsLooked, PeerDone}
+use Rattle.td_room.specs.Closing.{IsAnswered, all_at, PeerDone}
 use Rattle.td_room.specs.Ending.{IsLeft, IsEnded}
 use Rattle.td_room.proofs.Locals.{locals_went, nexts_went, nexts_locals}
 use Rattle.td_room.proofs.Connected.{connected_on}

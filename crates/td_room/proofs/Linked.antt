@@ -1,5 +1,5 @@
 -- Links stay what they are.
-use Rattle.std.proofs.Common.{◌≡◌, ℕ, zero, suc, List, [], ◌∷◌, map, drop}
+use Rattle.std.proofs.Common.{ℕ, zero, suc, List, [], ◌∷◌, map, drop}
 use Rattle.std.specs.List.{AllZip}
 use Rattle.td_meeting.specs.Rows.{MatchesFirsts, AllMatch}
 use Rattle.td_peer.specs.Peers.{PeerState, Linked}

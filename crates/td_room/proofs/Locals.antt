@@ -1,5 +1,5 @@
 -- Histories that go on: what is recorded stays recorded, and requests alone change nothing of what was taken.
-use Rattle.std.proofs.Common.{◌≡◌, ◌<◌, ◌+◌, ◌++◌, ℕ, zero, suc, List, [], ◌∷◌, Option, Some, None, slice_get, refl, sym, ap, ◌∙◌, subst, append-nil, append_assoc}
+use Rattle.std.proofs.Common.{◌≡◌, ◌+◌, ◌++◌, ℕ, zero, suc, List, [], ◌∷◌, Some, slice_get, refl, sym, ap, ◌∙◌, subst, append-nil, append_assoc}
 use Rattle.std.specs.List.{AllByRecursion}
 use mathlib.Core.List.{IsPrefix}
 use Rattle.td_op.specs.declared.entry.Entry.{Entry}
@@ -9,7 +9,7 @@ use Rattle.td_op.specs.declared.message.Message.{Message}
 use Rattle.td_machine.specs.Machine.{Machine, start}
 use Rattle.td_machine.specs.Step.{step}
 use Rattle.td_machine.specs.History.{History}
-use Rattle.td_meeting.specs.Takes.{taken_in, takes_from, IsWelcome, TakesWelcome}
+use Rattle.td_meeting.specs.Takes.{taken_in, takes_from, TakesWelcome}
 use Rattle.td_line.specs.declared.ask.Ask.{Ask}
 use Rattle.td_line.specs.declared.answer.Answer.{Answer}
 use Rattle.td_line.specs.Calls.{entry_at, local_in, local_of, local_at, AreRecorded, OnlyLocals}

@@ -1,12 +1,11 @@
 -- The last looks.
-use Rattle.std.proofs.Common.{◌≡◌, ◌≤◌, ◌<◌, ◌++◌, ◌-◌, ℕ, zero, suc, List, [], ◌∷◌, length, map, drop, refl, sym, ap, ◌∙◌, subst, inl, inr, append-nil, append_assoc, get_or, arith, None, false}
+use Rattle.std.proofs.Common.{◌≡◌, ◌++◌, ◌-◌, ℕ, zero, suc, List, [], ◌∷◌, length, map, drop, refl, sym, ◌∙◌, subst, inl, get_or, arith}
 use Rattle.std.specs.List.{AllByRecursion, AllZip}
 use mathlib.Core.List.{IsPrefix}
 use Rattle.logbook.specs.Pages.{Book}
-use Rattle.td_base.specs.Lists.{In}
 use Rattle.td_view.specs.declared.publish.Publish.{Publish}
-use Rattle.td_view.specs.Publishes.{again, countdown, IsLegal, EndsWith}
-use Rattle.td_view.specs.Values.{ReaderValue, ToldValue, WriterValue, tolds}
+use Rattle.td_view.specs.Publishes.{again, EndsWith}
+use Rattle.td_view.specs.Values.{ReaderValue, ToldValue}
 use Rattle.td_view.proofs.Endings.{told_within}
 use Rattle.td_replica.specs.Replica.{ReplicaValue}
 use Rattle.td_site.proofs.Lists.{prefix_then}

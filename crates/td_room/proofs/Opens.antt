@@ -1,5 +1,5 @@
 -- How a room is opened.
-use Rattle.std.proofs.Common.{◌≡◌, ◌≢◌, ◌<◌, ◌≤◌, ◌+◌, ◌++◌, ℕ, zero, suc, List, [], ◌∷◌, Bool, true, false, cond, nat_eq, length, map, take, drop, replicate, remove, set, get_or, slice_get, count_by, All, Option, Some, None, refl, sym, ap, ◌∙◌, subst, append_assoc, append-nil, arith}
+use Rattle.std.proofs.Common.{◌≡◌, ◌≢◌, ◌<◌, ◌≤◌, ◌+◌, ◌++◌, ℕ, zero, suc, List, [], ◌∷◌, Bool, true, false, cond, nat_eq, length, map, take, drop, replicate, remove, set, get_or, slice_get, count_by, All, Some, refl, sym, ap, ◌∙◌, subst, append_assoc, append-nil, arith}
 use Rattle.std.proofs.lemmas.Bool.Decides.{nat_tests}
 use Rattle.std.specs.List.{AllByRecursion, AllZip}
 use Rattle.std.specs.Option.{option_to_list}
@@ -8,7 +8,6 @@ use Rattle.std.proofs.lemmas.List.Sums.{sum_by-cons}
 use Rattle.td_peer.specs.declared.opening.TheConstants.{PLACES}
 use Rattle.logbook.specs.Pages.{Book}
 use Rattle.td_base.specs.declared.site.TheConstants.{MAX_SITE}
-use Rattle.td_machine.specs.Machine.{start as machine_start}
 use Rattle.td_replica.specs.Replica.{ReplicaValue, new_replica}
 use Rattle.td_view.specs.Publishes.{start}
 use Rattle.td_view.specs.Values.{ReaderValue, WriterValue, new_reader}
@@ -24,8 +23,8 @@ use Rattle.td_peer.specs.Serving.{Serves}
 use Rattle.td_peer.specs.Opening.{IsFresh, IsFreshRow, AreFreshRows}
 use Rattle.td_peer.proofs.Later.{fresh_serves, fresh_hears}
 use Rattle.td_room.specs.Workers.{WorkerValue, IsConnected, IsServing, IsWorker, given_at}
-use Rattle.td_room.specs.Rooms.{AreOfOneRoom, IsAtHome, Joined, editors_of}
-use Rattle.td_room.specs.Opening.{numbers_of, IsNewWorker, AreNewWorkers, IsOpened, AreOpened, IsRoom, IsOpen, AreOpen, AreFreshFrom, OpenedNext, CanOpen, OpensOne}
+use Rattle.td_room.specs.Rooms.{IsAtHome, Joined, editors_of}
+use Rattle.td_room.specs.Opening.{numbers_of, AreNewWorkers, IsOpened, AreOpened, IsRoom, IsOpen, AreOpen, AreFreshFrom, OpenedNext}
 use Rattle.td_room.proofs.Walks.{all_map, zip_snoc}
 
 -- ---- a new worker

@@ -1,21 +1,19 @@
 -- The peers of a worker, one of which is heard or told.
-use Rattle.std.proofs.Common.{◌≡◌, ◌≢◌, ◌<◌, ◌≤◌, ◌+◌, ◌++◌, ℕ, zero, suc, List, [], ◌∷◌, Bool, true, false, cond, not, nat_eq, length, map, filter, set, get_or, refl, sym, ap, ◌∙◌, subst, inl, inr, arith}
-use Rattle.std.specs.List.{AllByRecursion, AllZip, range_with_len}
+use Rattle.std.proofs.Common.{◌≡◌, ◌≢◌, ◌<◌, ◌≤◌, ◌+◌, ◌++◌, ℕ, zero, suc, List, [], ◌∷◌, true, not, nat_eq, length, map, set, get_or, refl, sym, ap, ◌∙◌, subst, inl, inr, arith}
+use Rattle.std.specs.List.{AllByRecursion, range_with_len}
 use Rattle.std.proofs.lemmas.Bool.Decides.{nat_tests}
-use mathlib.Core.List.{IsPrefix}
 use Rattle.td_base.specs.Lists.{In, Successive}
 use Rattle.td_base.proofs.Lists.{In-filter, In-map, map_successive, successive_filter}
 use Rattle.td_op.specs.declared.message.Message.{Message}
 use Rattle.td_replica.specs.Replica.{ReplicaValue}
 use Rattle.td_meeting.specs.Takes.{takes_from}
-use Rattle.td_meeting.specs.Peers.{ArePackets, Hears, Tells}
+use Rattle.td_meeting.specs.Peers.{ArePackets, Hears}
 use Rattle.td_meeting.specs.Accounts.{others}
 use Rattle.td_site.specs.Sites.{SiteValue}
 use Rattle.std.specs.Option.{option_to_list}
 use Rattle.td_peer.specs.Peers.{PeerState, packets, peer_of}
 use Rattle.td_peer.specs.Serving.{Serves, LaterPeer}
-use Rattle.td_site.specs.Later.{LaterSite}
-use Rattle.td_room.specs.Later.{AllWelcome, Heard}
+use Rattle.td_room.specs.Later.{Heard}
 use Rattle.td_room.specs.Workers.{IsConnected}
 use Rattle.td_room.proofs.Heards.{hears_on}
 use Rattle.td_peer.proofs.Later.{serves_more}

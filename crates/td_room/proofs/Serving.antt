@@ -1,11 +1,9 @@
 -- What holds of the lines beside a site stays so while the site goes on.
-use Rattle.std.proofs.Common.{◌≡◌, ◌<◌, ◌+◌, ◌++◌, ℕ, zero, suc, List, [], ◌∷◌, length, set, get_or, Option, Some, refl, sym, ap, ◌∙◌, subst, arith}
-use Rattle.std.specs.List.{AllByRecursion}
-use mathlib.Core.List.{IsPrefix}
+use Rattle.std.proofs.Common.{◌≡◌, ◌<◌, ◌+◌, ℕ, zero, suc, List, [], ◌∷◌, length, set, get_or, Some, refl, sym, ap, ◌∙◌, arith}
 use Rattle.logbook.specs.Pages.{Book}
 use Rattle.td_site.specs.Sites.{SiteValue}
 use Rattle.td_site.specs.Later.{LaterSite}
-use Rattle.td_line.specs.Calls.{answers_at, local_at}
+use Rattle.td_line.specs.Calls.{answers_at}
 use Rattle.td_line.specs.Lines.{LineValue, LaterLine, HasServed, Served}
 use Rattle.td_room.specs.Later.{NoMoreLocals}
 use Rattle.td_room.specs.Workers.{IsServing, given_at}

@@ -1,14 +1,14 @@
 -- Workers and editors of one room, later.
-use Rattle.std.proofs.Common.{◌≡◌, ◌<◌, ◌≤◌, ◌+◌, ℕ, zero, suc, List, [], ◌∷◌, Bool, true, false, cond, nat_eq, length, map, slice_get, Some, refl, sym, ap, ◌∙◌, subst, arith}
+use Rattle.std.proofs.Common.{◌≡◌, ◌<◌, ◌≤◌, ◌+◌, ℕ, zero, suc, List, [], ◌∷◌, Bool, true, false, cond, nat_eq, length, map, slice_get, Some, refl, sym, ap, ◌∙◌, subst}
 use Rattle.std.specs.List.{AllByRecursion, AllZip}
 use Rattle.logbook.specs.Pages.{Book}
 use Rattle.td_base.specs.declared.site.TheConstants.{MAX_SITE}
 use Rattle.td_meeting.specs.Rows.{AllMatch}
 use Rattle.td_line.specs.Lines.{LineValue, LaterLine}
 use Rattle.td_line.specs.Editors.{EditorValue, LaterEditor}
-use Rattle.td_peer.specs.Peers.{PeerState, Linked}
+use Rattle.td_peer.specs.Peers.{Linked}
 use Rattle.td_room.specs.Workers.{WorkerValue, LaterWorker}
-use Rattle.td_room.specs.Rooms.{AreOfOneRoom, IsAtHome, Joined, editors_of}
+use Rattle.td_room.specs.Rooms.{AreOfOneRoom, Joined, editors_of}
 use Rattle.td_room.proofs.Linked.{LaterRows, all_linked}
 
 rows_later : (ws vs : List WorkerValue) → AllZip LaterWorker ws vs

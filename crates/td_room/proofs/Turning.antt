@@ -1,25 +1,21 @@
 -- What a turn does for each peer.
-use Rattle.std.proofs.Common.{◌≡◌, ◌<◌, ◌≤◌, ◌+◌, ◌++◌, ℕ, zero, suc, List, [], ◌∷◌, Result, Ok, Err, OnOk, Option, Some, None, MatchOption, ◌⊎◌, length, take, refl, sym, ap, ◌∙◌, subst, arith, length-append}
+use Rattle.std.proofs.Common.{◌≡◌, ◌<◌, ◌≤◌, ◌+◌, ◌++◌, ℕ, List, [], ◌∷◌, Result, Ok, Err, OnOk, Option, Some, None, MatchOption, ◌⊎◌, length, take, refl, sym, ap, ◌∙◌, subst, arith, length-append}
 use Rattle.std.specs.List.{AllZip}
-use Rattle.std.specs.Option.{option_to_list}
 use mathlib.Core.List.{IsPrefix}
-use Rattle.td_op.specs.declared.entry.Entry.{Entry}
 use Rattle.td_op.specs.declared.message.Message.{Message}
 use Rattle.td_link.specs.Moments.{WasEmpty, WasFull}
 use Rattle.td_machine.specs.Machine.{Machine, start, made}
 use Rattle.td_machine.specs.History.{History, after, known_of}
 use Rattle.td_replica.specs.Replica.{ReplicaValue, IsReplica}
-use Rattle.td_meeting.specs.Takes.{takes_from}
-use Rattle.td_meeting.specs.Peers.{ArePackets, Hears}
 use Rattle.td_site.specs.Sites.{SiteValue}
 use Rattle.td_site.specs.Later.{LaterSite}
 use Rattle.td_site.specs.Shows.{machine_then, UptoAtLeast}
 use Rattle.td_wire.specs.Spelling.{SpellsIn}
-use Rattle.td_peer.specs.Peers.{PeerState, packets, peer_of}
+use Rattle.td_peer.specs.Peers.{PeerState}
 use Rattle.td_peer.specs.declared.parcel.Parcel.{Parcel}
 use Rattle.td_peer.specs.Serving.{LaterPeer, TakesNext, TookOrEmpty, SentOrNothing, SentAtMostOne}
 use Rattle.td_link.specs.Ends.{TxValue, RxValue}
-use Rattle.td_room.specs.Turns.{NotMadeThen, HeardAll, HeardPeer, ToldPeer, GivenPeer, Exchanged, IsCaughtUp, TurnedLine, TurnedWorker}
+use Rattle.td_room.specs.Turns.{NotMadeThen, HeardPeer, ToldPeer, GivenPeer, Exchanged, IsCaughtUp, TurnedLine, TurnedWorker}
 use Rattle.td_room.specs.Workers.{WorkerValue}
 use Rattle.td_line.specs.Lines.{LineValue}
 use Rattle.td_site.proofs.Lists.{take_more, take_all}

@@ -1,14 +1,13 @@
 -- A worker, step by step.
-use Rattle.std.proofs.Common.{◌≡◌, ◌<◌, ◌+◌, ℕ, List, [], ◌∷◌, length, set, get_or, refl, sym, ap, ◌∙◌, subst}
+use Rattle.std.proofs.Common.{◌≡◌, ◌<◌, ℕ, List, length, set, get_or}
 use Rattle.std.specs.List.{AllZip}
-use Rattle.td_replica.specs.Replica.{ReplicaValue}
 use Rattle.td_site.specs.Sites.{SiteValue}
 use Rattle.td_site.specs.Later.{LaterSite}
 use Rattle.td_line.specs.Lines.{LineValue, LaterLine, Served}
 use Rattle.td_peer.specs.Peers.{PeerState}
 use Rattle.td_peer.specs.Serving.{Serves, LaterPeer}
 use Rattle.td_room.specs.Later.{Went, NoMoreLocals, Heard}
-use Rattle.td_room.specs.Workers.{WorkerValue, IsConnected, IsServing, IsWorker, LaterWorker}
+use Rattle.td_room.specs.Workers.{WorkerValue, IsWorker, LaterWorker}
 use Rattle.td_site.proofs.Later.{later_self, later_then}
 use Rattle.td_peer.proofs.Later.{later_self as peer_self, later_then as peer_then}
 use Rattle.td_room.proofs.Connected.{connected_on}

@@ -8,7 +8,7 @@ use Rattle.td_replica.specs.Replica.{ReplicaValue}
 use Rattle.td_world.specs.World.{replica_from}
 use Rattle.td_site.specs.Shows.{IsTrueOf}
 use Rattle.td_line.specs.declared.answer.Answer.{Answer}
-use Rattle.td_line.specs.Calls.{AreRecorded, answers_at, local_at}
+use Rattle.td_line.specs.Calls.{AreRecorded, answers_at}
 use Rattle.td_line.specs.Editors.{EditorValue, polled}
 use Rattle.td_op.specs.declared.message.Message.{Message}
 use Rattle.td_machine.specs.History.{known_of}

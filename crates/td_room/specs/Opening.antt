@@ -1,6 +1,6 @@
 -- What a room is at the beginning.
-use Rattle.std.specs.Prelude.{◌≡◌, ◌<◌, ◌+◌, ◌==◌, ℕ, suc, List, [], ◌∷◌, ◌++◌, length, map, replicate, count_by, false, if◌then◌else◌}
-use Rattle.std.specs.List.{AllByRecursion, AllZip}
+use Rattle.std.specs.Prelude.{◌≡◌, ◌<◌, ◌+◌, ◌==◌, ℕ, suc, List, [], ◌∷◌, ◌++◌, length, replicate, count_by, false, if◌then◌else◌}
+use Rattle.std.specs.List.{AllZip}
 use Rattle.td_view.specs.Publishes.{start}
 use Rattle.td_view.specs.Values.{ReaderValue, new_reader}
 use Rattle.td_replica.specs.Replica.{new_replica}

@@ -1,5 +1,5 @@
 -- What a turn that ends well leaves.
-use Rattle.std.specs.Prelude.{◌≡◌, ◌<◌, ◌≤◌, ◌+◌, ℕ, false, length, Some, None}
+use Rattle.std.specs.Prelude.{◌≡◌, ◌<◌, ◌≤◌, ◌+◌, ℕ, false, length, Some}
 use Rattle.std.specs.List.{AllZip}
 use Rattle.td_op.specs.declared.message.Message.{Message}
 use Rattle.td_machine.specs.Machine.{made}

@@ -1,4 +1,4 @@
-use Rattle.std.proofs.Common.{◌≡◌, ◌≤◌, ◌∙◌, List, sym, ap, subst}
+use Rattle.std.proofs.Common.{◌≤◌, ◌∙◌, List, sym, ap, subst}
 use Rattle.std.specs.List.{AllByRecursion}
 use Rattle.td_world.specs.World.{WorldValue, family_of, size}
 use Rattle.td_live.specs.Books.{BookValue, AreBooks}

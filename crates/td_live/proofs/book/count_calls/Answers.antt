@@ -1,4 +1,4 @@
-use Rattle.std.proofs.Common.{◌<◌, length, arith}
+use Rattle.std.proofs.Common.{arith}
 use Rattle.td_live.proofs.Drafts.{counted_next}
 use Rattle.td_live.proofs.book.count_calls.Goals as goal
 

@@ -1,4 +1,4 @@
-use Rattle.std.proofs.Common.{◌≡◌, ◌∙◌, length, refl, rules}
+use Rattle.std.proofs.Common.{◌≡◌, length, rules}
 use Rattle.td_live.specs.Drafts.{all_brought_up}
 use Rattle.td_live.proofs.Drafts.{up_all}
 use Rattle.td_live.proofs.ending.bring_all_up.Goals as goal

@@ -1,4 +1,4 @@
-use Rattle.std.proofs.Common.{◌≡◌, [], List, length, map, sym, ap, ◌∙◌, subst, rules}
+use Rattle.std.proofs.Common.{◌≡◌, List, length, map, sym, ap, ◌∙◌, subst, rules}
 use Rattle.std.specs.List.{AllByRecursion}
 use Rattle.td_live.specs.Desks.{DeskValue, IsDesk}
 use Rattle.td_live.specs.Drafts.{book_of}

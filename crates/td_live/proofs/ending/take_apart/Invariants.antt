@@ -1,7 +1,4 @@
-use Rattle.std.proofs.Common.{◌≡◌, ◌++◌, List, length, map}
-use Rattle.std.specs.List.{AllByRecursion}
-use Rattle.td_live.specs.Desks.{DeskValue, IsDesk}
-use Rattle.td_live.specs.Drafts.{book_of}
+use Rattle.std.proofs.Common.{length}
 use Rattle.td_live.proofs.Drafts.{IsTaking}
 use Rattle.td_live.proofs.ending.take_apart.Given as goal
 

@@ -1,4 +1,4 @@
-use Rattle.std.proofs.Common.{◌≡◌, ◌<◌, ◌≤◌, ◌∙◌, true, false, refl, sym, subst, arith}
+use Rattle.std.proofs.Common.{◌≡◌, ◌≤◌, ◌∙◌, refl, arith}
 use Rattle.td_world.specs.World.{family_of, size}
 use Rattle.td_live.proofs.Furthering.{further_self, further_then}
 use Rattle.td_live.proofs.finishing.finish_book.Goals as goal

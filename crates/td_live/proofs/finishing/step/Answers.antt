@@ -1,4 +1,4 @@
-use Rattle.std.proofs.Common.{◌≡◌, ◌<◌, ◌≤◌, false, arith}
+use Rattle.std.proofs.Common.{◌<◌, ◌≤◌, arith}
 use Rattle.td_live.specs.Finishing.{steps_left}
 use Rattle.td_live.proofs.Stepping.{no_more_begun}
 use Rattle.td_live.proofs.finishing.step.Goals as goal

@@ -1,4 +1,4 @@
-use Rattle.std.proofs.Common.{◌≡◌, ◌∙◌, ◌++◌, ◌∷◌, [], ℕ, List, map, take, sym, ap}
+use Rattle.std.proofs.Common.{◌∙◌, ◌++◌, ◌∷◌, [], ℕ, List, map, take, sym, ap}
 use Rattle.td_script.specs.declared.live.editor_line.EditorLine.{EditorLine}
 use Rattle.td_live.proofs.Seats.{count_of, counts_more, counts_all}
 use Rattle.td_live.proofs.live.calls_of.Goals as goal

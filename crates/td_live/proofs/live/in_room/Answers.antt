@@ -1,6 +1,5 @@
-use Rattle.std.proofs.Common.{◌≡◌, ◌++◌, List, length, map, take, drop, subst, sym}
+use Rattle.std.proofs.Common.{List, length, map, subst, sym}
 use Rattle.std.specs.List.{AllZip}
-use Rattle.td_line.specs.Editors.{EditorValue}
 use Rattle.td_room.specs.Rooms.{AreOfOneRoom}
 use Rattle.td_room.specs.Workers.{WorkerValue, LaterWorker}
 use Rattle.td_script.specs.declared.live.editor_line.EditorLine.{EditorLine}

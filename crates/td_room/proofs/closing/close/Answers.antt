@@ -1,9 +1,7 @@
-use Rattle.std.proofs.Common.{◌≡◌, ◌<◌, ◌+◌, ◌∙◌, ℕ, List, map, sym, ap, subst}
+use Rattle.std.proofs.Common.{◌≡◌, ◌+◌, ◌∙◌, ℕ, List, map, sym, ap, subst}
 use Rattle.std.specs.List.{AllZip}
 use Rattle.td_line.specs.declared.answer.Answer.{Answer}
-use Rattle.td_line.specs.Calls.{local_at}
 use Rattle.td_line.specs.Editors.{EditorValue}
-use Rattle.td_world.specs.World.{replica_from}
 use Rattle.td_room.specs.Closing.{IsAnsweredAtHome, all_at, answers_of}
 use Rattle.td_room.specs.Ending.{gathered, CanGather}
 use Rattle.td_room.proofs.Ends.{lengths, linked_rows, all_go_on, all_looked, closed, closed_sites, closed_nobody}

@@ -1,5 +1,4 @@
-use Rattle.std.proofs.Common.{◌≡◌, length, refl, rules}
-use Rattle.td_room.proofs.Ends.{ending_first, joined_first, ending_next, ending_last}
+use Rattle.td_room.proofs.Ends.{joined_first, ending_next}
 use Rattle.td_room.proofs.closing.end_each.Goals as goal
 
 pub end_next-requires-clause-joined : goal.end_next-requires-clause-joined

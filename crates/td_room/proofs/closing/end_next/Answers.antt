@@ -1,4 +1,4 @@
-use Rattle.std.proofs.Common.{◌≡◌, ◌∷◌, ◌∙◌, ℕ, List, sym, ap, subst}
+use Rattle.std.proofs.Common.{◌∙◌, ℕ, List, sym, ap, subst}
 use Rattle.std.specs.List.{AllZip}
 use Rattle.td_line.specs.Editors.{EditorValue}
 use Rattle.td_room.specs.Workers.{WorkerValue}

@@ -1,4 +1,4 @@
-use Rattle.std.proofs.Common.{◌≡◌, ◌∷◌, List}
+use Rattle.std.proofs.Common.{List}
 use Rattle.td_line.specs.Lines.{LineValue}
 use Rattle.td_line.specs.Editors.{EditorValue}
 use Rattle.td_room.proofs.Lines.{first_out, first_joined, first_served}

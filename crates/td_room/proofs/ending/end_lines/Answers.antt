@@ -1,9 +1,9 @@
-use Rattle.std.proofs.Common.{◌≡◌, ◌<◌, ◌∙◌, List, length, refl, sym, ap, subst, rules}
+use Rattle.std.proofs.Common.{◌≡◌, ◌<◌, ◌∙◌, List, length, sym, ap, subst, rules}
 use Rattle.std.specs.List.{AllZip}
 use Rattle.td_site.proofs.Later.{later_self, later_then}
 use Rattle.td_line.specs.declared.answer.Answer.{Answer}
 use Rattle.td_room.specs.Closing.{IsAnswered, all_at}
-use Rattle.td_room.proofs.Lines.{only_self, only_then, lines_first, lines_next, lines_last, some_editor, LinesEnded}
+use Rattle.td_room.proofs.Lines.{only_self, only_then, lines_first, lines_next, lines_last, some_editor}
 use Rattle.td_room.proofs.ending.end_lines.Goals as goal
 
 pub loop-alloc-init : goal.loop-alloc-init

@@ -1,6 +1,6 @@
-use Rattle.std.proofs.Common.{◌≡◌, ◌<◌, ◌-◌, ◌∙◌, ◌++◌, ◌∷◌, [], ℕ, List, length, rules, sym, ap, subst, set}
+use Rattle.std.proofs.Common.{◌<◌, ◌-◌, ℕ, List, length, rules, sym, subst, set}
 use Rattle.td_line.specs.declared.answer.Answer.{Answer}
-use Rattle.td_room.specs.Ending.{first_at, HasFirst, without_first, gathered, CanGather}
+use Rattle.td_room.specs.Ending.{HasFirst, without_first, CanGather}
 use Rattle.td_room.proofs.Gathers.{place_there, some_there, first_is, one_more}
 use Rattle.td_room.proofs.Lines.{first_out}
 use Rattle.td_room.proofs.gathering.gather_next.Goals as goal

@@ -1,4 +1,4 @@
-use Rattle.std.proofs.Common.{◌≡◌, ◌∙◌, ◌++◌, ◌∷◌, [], ℕ, List, take, sym, ap}
+use Rattle.std.proofs.Common.{◌∙◌, ◌++◌, ◌∷◌, [], ℕ, List, take, sym, ap}
 use Rattle.td_line.specs.Editors.{EditorValue}
 use Rattle.td_room.proofs.Gathers.{homes, homes_more, homes_all}
 use Rattle.td_room.proofs.gathering.homes_of.Goals as goal

@@ -1,7 +1,3 @@
-use Rattle.std.proofs.Common.{◌≡◌, ◌∙◌, Some, sym, ap, subst}
-use Rattle.td_op.specs.declared.message.Message.{Message}
-use Rattle.td_peer.specs.Peers.{PeerState}
-use Rattle.td_peer.specs.Serving.{TookOrEmpty}
 use Rattle.td_room.specs.Later.{Heard}
 use Rattle.td_room.proofs.Heards.{heard_then, heard_packet}
 use Rattle.td_room.proofs.Turning.{always, hear_took, took_at_most_one}

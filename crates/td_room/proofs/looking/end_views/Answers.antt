@@ -1,4 +1,4 @@
-use Rattle.std.proofs.Common.{◌≡◌, ◌∙◌, ◌++◌, ◌∷◌, [], sym, ap, subst, List}
+use Rattle.std.proofs.Common.{◌≡◌, ◌++◌, ◌∷◌, [], sym, ap, subst}
 use Rattle.std.specs.List.{AllByRecursion}
 use Rattle.td_view.specs.Publishes.{again}
 use Rattle.td_view.specs.Values.{ReaderValue, ToldValue}

@@ -1,6 +1,5 @@
-use Rattle.std.proofs.Common.{◌≡◌, ◌∙◌, sym, ap, subst, List}
-use Rattle.td_view.specs.declared.publish.Publish.{Publish}
-use Rattle.td_view.specs.Values.{ReaderValue, ToldValue}
+use Rattle.std.proofs.Common.{◌∙◌, sym, ap, subst}
+use Rattle.td_view.specs.Values.{ToldValue}
 use Rattle.td_room.specs.Ending.{SeenFrom}
 use Rattle.td_room.proofs.Looks.{seeing_first, first_views, seeing_next}
 use Rattle.td_room.proofs.looking.see_all.Goals as goal

@@ -1,9 +1,8 @@
-use Rattle.std.proofs.Common.{◌≡◌, ◌<◌, ◌≤◌, ◌+◌, ◌-◌, ◌∙◌, ◌++◌, ◌∷◌, [], ℕ, List, length, set, sym, ap, subst, rules, arith}
+use Rattle.std.proofs.Common.{◌≡◌, ◌<◌, ◌≤◌, ◌+◌, ◌-◌, ◌++◌, ◌∷◌, [], ℕ, List, length, set, sym, ap, subst, rules, arith}
 use Rattle.logbook.specs.Pages.{Book}
 use Rattle.td_view.specs.Values.{ReaderValue}
 use Rattle.td_meeting.specs.Thin.{Loss}
 use Rattle.td_line.specs.Editors.{EditorValue, IsNewLine}
-use Rattle.td_room.specs.Workers.{WorkerValue}
 use Rattle.td_room.specs.Opening.{AreOpen}
 use Rattle.td_room.proofs.Opens.{there, opens, opened, peers_set}
 use Rattle.td_room.proofs.opening.open_editor.Goals as goal

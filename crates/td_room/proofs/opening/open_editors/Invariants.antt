@@ -1,4 +1,4 @@
-use Rattle.std.proofs.Common.{◌≡◌, ℕ, List, [], length, map, take, drop}
+use Rattle.std.proofs.Common.{◌≡◌, ℕ, [], length, map, take, drop}
 use Rattle.td_meeting.specs.Thin.{Loss}
 use Rattle.td_room.specs.Workers.{WorkerValue}
 use Rattle.td_room.specs.Opening.{AreOpen, AreOpened}

@@ -1,5 +1,4 @@
-use Rattle.std.proofs.Common.{◌≡◌, ◌<◌, ◌+◌, ◌∙◌, ◌∷◌, List, length, refl, ap, rules, arith}
-use Rattle.td_meeting.specs.Thin.{Loss}
+use Rattle.std.proofs.Common.{◌≡◌, ◌∙◌, ◌∷◌, List, length, refl, ap, rules, arith}
 use Rattle.td_peer.specs.Peers.{PeerState}
 use Rattle.td_room.proofs.Opens.{sites_first, sites_next, sites_last}
 use Rattle.td_room.proofs.opening.open_sites.Goals as goal

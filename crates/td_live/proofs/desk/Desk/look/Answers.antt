@@ -1,8 +1,7 @@
-use Rattle.std.proofs.Common.{◌≡◌, ◌≤◌, ◌++◌, ◌∷◌, [], ℕ, List, IfOk, refl, sym, subst, inr, rules}
+use Rattle.std.proofs.Common.{◌≡◌, ◌++◌, ◌∷◌, [], refl, sym, subst, inr, rules}
 use Rattle.std.specs.List.{concat}
 use Rattle.td_view.specs.Deeds.{publish_of}
 use Rattle.td_line.specs.Editors.{IsPending}
-use Rattle.td_trace.specs.declared.log.Did.{Did}
 use Rattle.td_trace.specs.declared.log.Did.TheVariants.{Look}
 use Rattle.td_live.specs.declared.next.Next.TheVariants as Next
 use Rattle.td_live.specs.Agenda.{IsNext}

@@ -1,6 +1,3 @@
-use Rattle.std.proofs.Common.{sym, subst, refl}
-use Rattle.td_live.specs.Desks.{DeskValue}
-use Rattle.td_live.specs.Turning.{IsDeskParts}
 use Rattle.td_live.proofs.Turns.{parts_new}
 use Rattle.td_live.proofs.desk.Desk.new.Goals as goal
 

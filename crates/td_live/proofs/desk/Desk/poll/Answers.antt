@@ -1,6 +1,5 @@
-use Rattle.std.proofs.Common.{◌≡◌, ◌++◌, ◌∷◌, [], refl, sym, subst, inl, List}
+use Rattle.std.proofs.Common.{◌≡◌, ◌++◌, ◌∷◌, [], sym, subst, inl}
 use Rattle.td_line.specs.Editors.{IsPending}
-use Rattle.td_trace.specs.declared.log.Did.{Did}
 use Rattle.td_trace.specs.declared.log.Did.TheVariants.{Call}
 use Rattle.td_live.specs.Following.{Stays as LeadsStays}
 use Rattle.td_live.specs.Desks.{DeskValue}

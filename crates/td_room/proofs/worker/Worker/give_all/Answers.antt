@@ -1,4 +1,4 @@
-use Rattle.std.proofs.Common.{◌≡◌, ◌<◌, ◌≤◌, ◌∙◌, refl, ap, length, arith, rules, List}
+use Rattle.std.proofs.Common.{◌≡◌, ◌<◌, ◌≤◌, ◌∙◌, ap, length, arith, rules, List}
 use Rattle.td_peer.specs.Peers.{PeerState}
 use Rattle.td_room.specs.Workers.{WorkerValue}
 use Rattle.td_room.specs.Turns.{GivenPeer}

@@ -1,4 +1,4 @@
-use Rattle.std.proofs.Common.{◌≡◌, ◌∙◌, ◌++◌, ◌∷◌, [], List, false, sym, ap, subst}
+use Rattle.std.proofs.Common.{◌≡◌, ◌∙◌, ◌++◌, ◌∷◌, [], List, sym, ap, subst}
 use Rattle.std.specs.List.{AllByRecursion, AllZip}
 use mathlib.Core.List.{IsPrefix}
 use Rattle.td_replica.specs.Replica.{ReplicaValue, IsReplica}
@@ -7,7 +7,6 @@ use Rattle.td_view.specs.Publishes.{again, EndsWith}
 use Rattle.td_view.specs.Values.{ReaderValue, WriterValue, ToldValue}
 use Rattle.td_site.specs.Sites.{SiteValue}
 use Rattle.td_site.specs.Shows.{IsTrueOf}
-use Rattle.td_line.specs.Editors.{EditorValue}
 use Rattle.td_peer.specs.Peers.{PeerState}
 use Rattle.td_room.specs.Workers.{WorkerValue}
 use Rattle.td_room.specs.Rooms.{Joined}

@@ -1,4 +1,4 @@
-use Rattle.std.proofs.Common.{◌≡◌, ◌∙◌, sym, ap, subst, length, List}
+use Rattle.std.proofs.Common.{◌≡◌, ap, subst, length, List}
 use Rattle.td_view.specs.declared.publish.Publish.{Publish}
 use Rattle.td_view.specs.Values.{ToldValue}
 use Rattle.td_site.specs.Sites.{SiteValue}

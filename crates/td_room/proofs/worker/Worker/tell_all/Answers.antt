@@ -1,4 +1,4 @@
-use Rattle.std.proofs.Common.{◌≡◌, ◌<◌, ◌≤◌, ◌+◌, ◌∙◌, refl, sym, ap, subst, length, arith, rules, List}
+use Rattle.std.proofs.Common.{◌≡◌, ◌<◌, ◌≤◌, ◌+◌, ◌∙◌, refl, sym, ap, subst, length, arith, rules}
 use Rattle.td_room.specs.Workers.{WorkerValue}
 use Rattle.std.specs.List.{AllZip}
 use Rattle.td_site.specs.Sites.{SiteValue}

@@ -1,5 +1,4 @@
 use Rattle.std.proofs.Common.{◌≡◌, ◌<◌, sym, ap, subst, length, List, set, ◌+◌}
-use Rattle.td_op.specs.declared.message.Message.{Message}
 use Rattle.td_replica.specs.Replica.{ReplicaValue}
 use Rattle.td_site.specs.Sites.{SiteValue}
 use Rattle.td_peer.specs.Peers.{PeerState}
