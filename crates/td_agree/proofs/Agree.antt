@@ -1,8 +1,11 @@
 -- Whatever the order in which a site took them, each edit finds its atom where its maker had it, and each commit finds
 -- in its slot the rows that its proposer had there.
-use Rattle.std.proofs.Common.{◌≡◌, ◌⊎◌, ◌<◌, ◌≤◌, ℕ, zero, suc, List, [], ◌∷◌, length, Bool, true, false, Option, Some, None, refl, sym, ap, ◌∙◌, subst, inl, inr, ⊎_elim, true≢false, arith}
+use Rattle.std.proofs.Common.{◌≡◌, ◌⊎◌, ◌<◌, ◌≤◌, ℕ, zero, suc, List, [], ◌∷◌, length, Bool, true, false, Option}
+use Rattle.std.proofs.Common.{Some, None, refl, sym, ap, ◌∙◌, subst, inl, inr, ⊎_elim, true≢false, arith}
 use Rattle.td_base.specs.Lists.{In}
-use Rattle.td_agree.proofs.Words.{Words, renames, holds_some, IsBorn, Nested, one_slot, atom_within, within_atom, Agrees, Pending, Family, Slots, Tops, MetAt, Met, one, earlier, behind, met, met_back}
+use Rattle.td_agree.proofs.Words.{Words, renames, holds_some, IsBorn, Nested, one_slot, atom_within, within_atom}
+use Rattle.td_agree.proofs.Words.{Agrees, Pending, Family, Slots, Tops, MetAt, Met, one, earlier, behind, met}
+use Rattle.td_agree.proofs.Words.{met_back}
 use Rattle.std.proofs.lemmas.Bool.{cases_Bool, false_from_ne_true}
 use Rattle.td_logs.proofs.Suffixes.{Suffix, whole, more, suffix_keeps, suffix_in, suffix_few}
 use Rattle.std.proofs.lemmas.Option.{same_Some}

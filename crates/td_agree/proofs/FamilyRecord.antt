@@ -1,5 +1,6 @@
 -- The logs of a consistent family meet the premises of agreement.
-use Rattle.std.proofs.Common.{◌≡◌, ◌⊎◌, ◌<◌, ◌≤◌, ◌++◌, ℕ, List, [], ◌∷◌, length, true, false, Option, Some, None, refl, sym, ap, ◌∙◌, subst, inl, true≢false, length-append, arith}
+use Rattle.std.proofs.Common.{◌≡◌, ◌⊎◌, ◌<◌, ◌≤◌, ◌++◌, ℕ, List, [], ◌∷◌, length, true, false, Option, Some, None}
+use Rattle.std.proofs.Common.{refl, sym, ap, ◌∙◌, subst, inl, true≢false, length-append, arith}
 use Rattle.std.specs.Prelude.{IsTrue}
 use Rattle.std.specs.Option.{option_map, is_some}
 use Rattle.td_base.specs.Value.{DotValue, AtomIdValue}
@@ -30,7 +31,8 @@ use Rattle.td_machine.proofs.Counting.{older_in_turn}
 use Rattle.td_machine.proofs.Family.{not_older, made_at, inserted_in_past}
 use Rattle.td_machine.proofs.Stays.{delete_stays}
 use Rattle.td_machine.specs.Replay.{doc_of}
-use Rattle.td_agree.proofs.Words.{Words, holds_some, renames, IsBorn, Nested, one_slot, atom_within, within_atom, Pending, Family as Premises}
+use Rattle.td_agree.proofs.Words.{Words, holds_some, renames, IsBorn, Nested, one_slot}
+use Rattle.td_agree.proofs.Words.{atom_within, within_atom, Pending, Family as Premises}
 use Rattle.td_logs.specs.Logs.{IsLogOf, base_from, base, origin, slot_of, IsCommit}
 use Rattle.td_logs.specs.Places.{slot_holds, names_atom, overlap_of, Overlap, place_of, at, birth, is_edit}
 use Rattle.td_logs.proofs.Words.{held_by, holds, atom_at, focus_by, focus, born}
@@ -38,14 +40,17 @@ use Rattle.td_logs.proofs.DocumentFacts.{nobody}
 use Rattle.td_decide.specs.Voted.{IsHeld, IsVoted}
 use Rattle.td_agree.proofs.World.{words}
 use Rattle.td_logs.proofs.Passes.{slot_more, two_slots, TwoSlots, same_slots, first_above, second_above, shorter}
-use Rattle.td_logs.proofs.Rows.{standing, above_place, both_hold, root_first, root_second, same_overlap, atom_overlap, atom_overlap_back}
+use Rattle.td_logs.proofs.Rows.{standing, above_place, both_hold, root_first, root_second}
+use Rattle.td_logs.proofs.Rows.{same_overlap, atom_overlap, atom_overlap_back}
 use Rattle.td_logs.proofs.LogRows.{rows_born, born_in, born_inserted, born_parts, born_dot}
-use Rattle.td_logs.proofs.Bases.{op_in, tail, causal, past_older, past_in, one_op, in_base, base_past, base_log, past_of_base, base_member, base_not, base_one_way, base_onward, known}
+use Rattle.td_logs.proofs.Bases.{op_in, tail, causal, past_older, past_in, one_op, in_base, base_past, base_log}
+use Rattle.td_logs.proofs.Bases.{past_of_base, base_member, base_not, base_one_way, base_onward, known}
 use Rattle.td_logs.proofs.Steps.{CommitSlot, commit_slot, doc, born_at, stays, birth_is, moved_within}
 use Rattle.td_logs.proofs.DocSteps.{slot_by_place}
 use Rattle.td_agree.proofs.Renamed.{renamed}
 use Rattle.td_logs.proofs.BaseLengths.{base_few}
-use Rattle.td_logs.proofs.Commits.{focus_commit, overlap_from, commit_of, commit_slot_of, edit_base, edit_log, insert_row, own_row}
+use Rattle.td_logs.proofs.Commits.{focus_commit, overlap_from, commit_of, commit_slot_of}
+use Rattle.td_logs.proofs.Commits.{edit_base, edit_log, insert_row, own_row}
 use Rattle.td_order.specs.Show.{deletes}
 use Rattle.td_base.proofs.Equals.{same_id_true}
 use Rattle.std.proofs.lemmas.Option.{same_Some}

@@ -1,5 +1,6 @@
 -- Agreement, and siblings at arrival.
-use Rattle.std.proofs.Common.{◌≡◌, List, ◌∷◌, true, false, Option, Some, None, refl, sym, ap, ◌∙◌, subst, inl, true≢false}
+use Rattle.std.proofs.Common.{◌≡◌, List, ◌∷◌, true, false, Option, Some, None, refl}
+use Rattle.std.proofs.Common.{sym, ap, ◌∙◌, subst, inl, true≢false}
 use Rattle.std.specs.Option.{option_map, is_some}
 use Rattle.td_base.specs.Value.{AtomIdValue}
 use Rattle.td_base.specs.Lists.{In}
@@ -31,7 +32,8 @@ use Rattle.td_agree.proofs.OwnSlots.{middle_of}
 use Rattle.td_machine.proofs.Family.{full_of}
 use Rattle.td_agree.proofs.FamilyRecord.{premises, CanCome, pending_next}
 use Rattle.td_logs.proofs.Commits.{edit_log}
-use Rattle.td_agree.proofs.SlotsRecord.{written_of, top_parts, top_from, both_parts, both_from, middle_named, slots, tops}
+use Rattle.td_agree.proofs.SlotsRecord.{written_of, top_parts, top_from, both_parts}
+use Rattle.td_agree.proofs.SlotsRecord.{both_from, middle_named, slots, tops}
 use Rattle.std.proofs.lemmas.Option.{same_Some}
 
 module _ (family : Family) (c : IsConsistent family) (v : IsVoted family) where

@@ -1,6 +1,7 @@
 -- A commit that finds in its slot what its proposer had there puts each atom where it would have stood with the
 -- proposer.
-use Rattle.std.proofs.Common.{◌≡◌, ℕ, List, length, ◌∷◌, true, false, map, Option, Some, refl, sym, ap, ◌∙◌, subst, inl, ⊎_elim, true≢false}
+use Rattle.std.proofs.Common.{◌≡◌, ℕ, List, length, ◌∷◌, true, false, map, Option, Some, refl}
+use Rattle.std.proofs.Common.{sym, ap, ◌∙◌, subst, inl, ⊎_elim, true≢false}
 use Rattle.td_base.specs.Value.{AtomIdValue}
 use Rattle.td_base.specs.Lists.{In}
 use Rattle.td_path.specs.Infix.{Pairs}

@@ -1,5 +1,6 @@
 -- The slots that inserts write, and votes: the other premises of epochs and of siblings.
-use Rattle.std.proofs.Common.{◌≡◌, ◌⊎◌, ◌<◌, ◌≤◌, ◌/◌, ◌++◌, ℕ, List, [], ◌∷◌, length, Bool, true, false, cond, Option, Some, None, refl, sym, ap, ◌∙◌, subst, inl, inr, ⊎_elim, true≢false}
+use Rattle.std.proofs.Common.{◌≡◌, ◌⊎◌, ◌<◌, ◌≤◌, ◌/◌, ◌++◌, ℕ, List, [], ◌∷◌, length, Bool, true, false, cond}
+use Rattle.std.proofs.Common.{Option, Some, None, refl, sym, ap, ◌∙◌, subst, inl, inr, ⊎_elim, true≢false}
 use Rattle.std.specs.Prelude.{IsTrue}
 use Rattle.td_base.specs.declared.bit.Bit.{Bit}
 use Rattle.td_base.specs.Value.{DotValue, AtomIdValue}
@@ -30,7 +31,8 @@ use Rattle.td_base.proofs.Equals.{same_dot_refl, same_dot_true}
 use Rattle.td_machine.proofs.Family.{not_older, full_of, made_at}
 use Rattle.td_machine.specs.Replay.{doc_of}
 use Rattle.td_logs.proofs.Fitting.{free_home}
-use Rattle.td_agree.proofs.Words.{Words, renames, MetAt, Met, one, earlier, behind, met, met_back, Slots as SlotPremises, Tops as TopPremises}
+use Rattle.td_agree.proofs.Words.{Words, renames, MetAt, Met, one, earlier, behind, met, met_back}
+use Rattle.td_agree.proofs.Words.{Slots as SlotPremises, Tops as TopPremises}
 use Rattle.td_logs.specs.Logs.{IsLogOf, base_from, base, origin, slot_of, IsCommit}
 use Rattle.td_logs.specs.Places.{passes, slot_holds, at, birth, is_edit, IsMiddleBy, IsMiddle, written_by}
 use Rattle.td_logs.proofs.Words.{held_by, holds, focus_by, focus, born, is_slot, on_top, BothIn, SameSlot}
@@ -45,7 +47,8 @@ use Rattle.td_machine.specs.Touches.{IsRowOf}
 use Rattle.td_logs.proofs.LogRows.{HasAtom, born_parts, born_true, born_dot}
 use Rattle.td_logs.proofs.Bases.{op_in, tail, causal, past_in, home, home_log, known}
 use Rattle.td_logs.proofs.Steps.{CommitSlot, commit_slot, doc, birth_is, insert_slot, insert_base}
-use Rattle.td_agree.proofs.OwnSlots.{own_at, own_holds, top_two, in_own, TopCase, middle_row, hung_row, top_case, Middle, middle_of, middle_in}
+use Rattle.td_agree.proofs.OwnSlots.{own_at, own_holds, top_two, in_own, TopCase, middle_row}
+use Rattle.td_agree.proofs.OwnSlots.{hung_row, top_case, Middle, middle_of, middle_in}
 use Rattle.td_logs.proofs.Commits.{commit_of, commit_slot_of, overlap_from, overlap_to, edit_log, insert_row}
 use Rattle.td_agree.proofs.FamilyRecord.{pending_held, renames_path}
 use Rattle.std.proofs.lemmas.Option.{same_Some}

@@ -1,6 +1,9 @@
 -- In a consistent family no Take answers Unfit, and no Next answers Dropped.
-use Rattle.std.proofs.Common.{◌≡◌, ◌≢◌, ◌<◌, ◌≤◌, ◌+◌, ◌++◌, ◌||◌, ◌&&◌, ℕ, List, [], ◌∷◌, length, filter, Bool, true, false, cond, not, nat_eq, nat_lt, Option, Some, None, refl, sym, ap, ◌∙◌, subst, inl, inr, ⊎_elim, true≢false, if◌then◌else◌, arith}
-use Rattle.std.proofs.lemmas.Bool.{leb-true, leb-false, le-leb, and_parts, not-true, eqb-true, eq-eqb, ltb-true, or_from}
+use Rattle.std.proofs.Common.{◌≡◌, ◌≢◌, ◌<◌, ◌≤◌, ◌+◌, ◌++◌, ◌||◌, ◌&&◌, ℕ, List, [], ◌∷◌, length, filter, Bool}
+use Rattle.std.proofs.Common.{true, false, cond, not, nat_eq, nat_lt, Option, Some, None, refl, sym, ap, ◌∙◌}
+use Rattle.std.proofs.Common.{subst, inl, inr, ⊎_elim, true≢false, if◌then◌else◌, arith}
+use Rattle.std.proofs.lemmas.Bool.{leb-true, leb-false, le-leb, and_parts, not-true}
+use Rattle.std.proofs.lemmas.Bool.{eqb-true, eq-eqb, ltb-true, or_from}
 use Rattle.std.specs.Prelude.{IsTrue}
 use Rattle.std.specs.List.{find}
 use Rattle.std.specs.Option.{is_some, is_none, option_or}
@@ -12,16 +15,19 @@ use Rattle.td_clock.proofs.VectorLemmas.{covered_dots}
 use Rattle.td_path.specs.declared.slot.Slot.{Slot}
 use Rattle.td_path.specs.declared.slot.Slot.TheVariants.{Root, At as AtSlot}
 use Rattle.td_op.specs.declared.body.Body.{Body}
-use Rattle.td_op.specs.declared.body.Body.TheVariants.{Insert as InsertIn, Delete as DeleteOf, Propose as ProposeOf, Commit, Abort}
+use Rattle.td_op.specs.declared.body.Body.TheVariants.{Insert as InsertIn, Delete as DeleteOf}
+use Rattle.td_op.specs.declared.body.Body.TheVariants.{Propose as ProposeOf, Commit, Abort}
 use Rattle.td_op.specs.declared.entry.Entry.{Entry}
 use Rattle.td_op.specs.declared.input.Input.{Input}
 use Rattle.td_op.specs.declared.input.Input.TheVariants.{Local, Take, Next}
 use Rattle.td_op.specs.declared.message.Message.{Message}
 use Rattle.td_op.specs.declared.message.Message.TheVariants.{Op as AnOp, Vote as AVote}
 use Rattle.td_op.specs.declared.request.Request.{Request}
-use Rattle.td_op.specs.declared.request.Request.TheVariants.{Insert, InsertAfter, Paste, PasteAfter, Delete, DeleteAtom, Propose, ProposeAt, Cancel}
+use Rattle.td_op.specs.declared.request.Request.TheVariants.{Insert, InsertAfter, Paste, PasteAfter, Delete}
+use Rattle.td_op.specs.declared.request.Request.TheVariants.{DeleteAtom, Propose, ProposeAt, Cancel}
 use Rattle.td_op.specs.declared.reply.Reply.{Reply}
-use Rattle.td_op.specs.declared.reply.Reply.TheVariants.{Made, Cancelled, Held, Position, Gone, Limit, NotOpen, New, Later, Repeat, Unfit, Taken, Dropped, Idle}
+use Rattle.td_op.specs.declared.reply.Reply.TheVariants.{Made, Cancelled, Held, Position, Gone, Limit, NotOpen, New}
+use Rattle.td_op.specs.declared.reply.Reply.TheVariants.{Later, Repeat, Unfit, Taken, Dropped, Idle}
 use Rattle.td_op.specs.declared.reply.Why.{Why}
 use Rattle.td_op.specs.declared.reply.Why.TheVariants.{Size, Own, Atom, Proposal, Vote as NoHold, Address}
 use Rattle.td_op.specs.declared.vote.Vote.{Vote}
@@ -37,11 +43,15 @@ use Rattle.td_machine.specs.Decision.{Ballot, is_on, is_open, is_counted}
 use Rattle.td_machine.specs.Hold.{is_held}
 use Rattle.td_machine.specs.Log.{proposed_slot, decides, decision, is_undecided_of}
 use Rattle.td_machine.specs.Machine.{Machine, start, made, undecided, next_dot}
-use Rattle.td_machine.specs.Request.{Aim, Refuse, Do, GiveUp, Attempt, aim, aim_step, attempt_step, is_past_limit, perform, insert_aim_at, insert_aim_after, live_aim, delete_aim, propose_aim, propose_aim_of, cancel_aim, len}
+use Rattle.td_machine.specs.Request.{Aim, Refuse, Do, GiveUp, Attempt, aim, aim_step, attempt_step}
+use Rattle.td_machine.specs.Request.{is_past_limit, perform, insert_aim_at, insert_aim_after, live_aim}
+use Rattle.td_machine.specs.Request.{delete_aim, propose_aim, propose_aim_of, cancel_aim, len}
 use Rattle.td_doc.specs.Answers.{is_live_id, is_rooted}
-use Rattle.td_machine.specs.Taking.{Stepped, stepped, body_misfit, misfit, fit_step, op_step, keep_waiting, ballot_step, vote_step, count, waited, next_of, forget}
+use Rattle.td_machine.specs.Taking.{Stepped, stepped, body_misfit, misfit, fit_step, op_step, keep_waiting}
+use Rattle.td_machine.specs.Taking.{ballot_step, vote_step, count, waited, next_of, forget}
 use Rattle.td_machine.specs.Step.{step}
-use Rattle.td_machine.specs.History.{History, Family, IsConsistent, IsLegalFrom, IsOpOf, MayCome, after, history, machine, machine_after}
+use Rattle.td_machine.specs.History.{History, Family, IsConsistent, IsLegalFrom, IsOpOf, MayCome}
+use Rattle.td_machine.specs.History.{after, history, machine, machine_after}
 use Rattle.td_base.proofs.Elements.{either}
 use Rattle.td_base.proofs.Equals.{same_dot_refl}
 use Rattle.td_machine.proofs.StepKinds.{least_in}

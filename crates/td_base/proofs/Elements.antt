@@ -1,5 +1,7 @@
 -- Choices, options, and the elements of a list.
-use Rattle.std.proofs.Common.{map, length, take, drop, ap, ◌∙◌, arith, length-append, append-nil, append_assoc, take-append-drop, ◌≡◌, ℕ, zero, suc, List, [], ◌∷◌, ◌++◌, Bool, true, false, Option, Some, None, refl, sym, subst, inl, inr, true≢false, if◌then◌else◌, ◌<◌}
+use Rattle.std.proofs.Common.{map, length, take, drop, ap, ◌∙◌, arith, length-append, append-nil, append_assoc}
+use Rattle.std.proofs.Common.{take-append-drop, ◌≡◌, ℕ, zero, suc, List, [], ◌∷◌, ◌++◌, Bool, true, false, Option}
+use Rattle.std.proofs.Common.{Some, None, refl, sym, subst, inl, inr, true≢false, if◌then◌else◌, ◌<◌}
 use Rattle.std.specs.Prelude.{slice_get, remove}
 use Rattle.std.specs.List.{insert_slice, drop-map}
 use Rattle.std.proofs.lemmas.List.{take_at, drop_at, map-append}
@@ -82,13 +84,16 @@ map-take f [] (suc i) = refl
 map-take {Y = Y} f (x ∷ xs) (suc i) = ap (λ (q : List Y). f x ∷ q) (map-take f xs i)
 
 pub map-remove : {X Y : Type 0} (f : X → Y) (xs : List X) (i : ℕ) → map f (remove xs i) ≡ remove (map f xs) i
-map-remove f xs i = map-append f (take i xs) (drop (suc i) xs) ∙ (λ k. map-take f xs i k ++ sym (drop-map f (suc i) xs) k)
+map-remove f xs i = map-append f (take i xs) (drop (suc i) xs)
+    ∙ (λ k. map-take f xs i k ++ sym (drop-map f (suc i) xs) k)
 
-pub remove_middle : {X : Type 0} (xs : List X) (x : X) (ys : List X) (i : ℕ) → length xs ≡ i → xs ++ ys ≡ remove (xs ++ x ∷ ys) i
+pub remove_middle : {X : Type 0} (xs : List X) (x : X) (ys : List X) (i : ℕ) → length xs ≡ i → xs ++ ys
+    ≡ remove (xs ++ x ∷ ys) i
 remove_middle {X = X} xs x ys i h =
     let front : List X = xs ++ x ∷ [] in
     let so_many : length front ≡ suc i = omega (arith, length-append xs (x ∷ []), h) in
-    λ k. sym (take_at xs (x ∷ ys) i h) k ++ sym (ap (drop (suc i)) (sym (append_assoc xs (x ∷ []) ys)) ∙ drop_at front ys (suc i) so_many) k
+    λ k. sym (take_at xs (x ∷ ys) i h) k ++ sym (ap (drop (suc i)) (sym (append_assoc xs (x ∷ []) ys))
+    ∙ drop_at front ys (suc i) so_many) k
 
 -- nothing put anywhere
 pub insert_slice_nil : {X : Type 0} (xs : List X) (i : ℕ) → insert_slice xs i [] ≡ xs

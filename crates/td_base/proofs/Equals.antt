@@ -34,7 +34,8 @@ same_id_true x y h =
     λ i. record { dot = dot i; offset = offset i }
 
 pub same_id_refl : (x : AtomIdValue) → same_id x x ≡ true
-same_id_refl x = and_from (same_dot x.dot x.dot) (x.offset == x.offset) (same_dot_refl x.dot) (eq-eqb x.offset x.offset refl)
+same_id_refl x = and_from (same_dot x.dot x.dot) (x.offset == x.offset) (same_dot_refl x.dot)
+    (eq-eqb x.offset x.offset refl)
 
 -- and what is not one differs in some part
 

@@ -1,5 +1,6 @@
 -- The first of the atoms that bytes begin with, and those behind it.
-use Rattle.std.proofs.Common.{◌≡◌, ◌≤◌, ◌+◌, ◌/◌, ◌^◌, ◌++◌, ◌∷◌, [], ℕ, List, length, take, drop, replicate, refl, sym, ap, ◌∙◌, subst, arith, length-append}
+use Rattle.std.proofs.Common.{◌≡◌, ◌≤◌, ◌+◌, ◌/◌, ◌^◌, ◌++◌, ◌∷◌, [], ℕ, List, length, take, drop}
+use Rattle.std.proofs.Common.{replicate, refl, sym, ap, ◌∙◌, subst, arith, length-append}
 use Rattle.std.specs.List.{All, concat}
 use Rattle.std.specs.Int.Count.{count_trailing_zeros}
 use Rattle.std.proofs.Math.Nat.{div-div-eq-div-mul}
@@ -19,7 +20,8 @@ pub record HasFirst (w : ℕ) (bytes : List ℕ) (ends : ℕ) : Type 0 where
   pub within : count_trailing_zeros w ends + 1 ≤ length bytes
   pub front : take (count_trailing_zeros w ends + 1) bytes ≡ atom
   pub left : HaveAtoms (drop (count_trailing_zeros w ends + 1) bytes) (ends / 2 ^ count_trailing_zeros w ends / 2)
-  pub others : atoms_of (ends / 2 ^ count_trailing_zeros w ends / 2) (drop (count_trailing_zeros w ends + 1) bytes) ≡ rest
+  pub others : atoms_of (ends / 2 ^ count_trailing_zeros w ends / 2) (drop (count_trailing_zeros w ends + 1) bytes)
+      ≡ rest
 
 -- where the atoms are a first one and a rest
 first_of : (w : ℕ) (bytes : List ℕ) (ends zeros : ℕ) (atom : List ℕ) (rest : List (List ℕ)) → MAX_ATOM_LEN ≤ w
@@ -46,18 +48,25 @@ first_of w bytes ends zeros atom rest wide atoms each kept marked =
       is = is;
       within = omega (arith, end, ap length split, length-append atom (concat rest ++ replicate zeros 0));
       front = rw split (take_at atom (concat rest ++ replicate zeros 0) (last + 1) (sym end));
-      left = record { each = rw again others; zeros = zeros; bytes_again = rw again behind; ends_again = rw again shifted };
+      left = record {
+        each = rw again others;
+        zeros = zeros;
+        bytes_again = rw again behind;
+        ends_again = rw again shifted;
+      };
       others = again;
     }
 
-pub first_atom : (w : ℕ) (bytes : List ℕ) (ends : ℕ) → MAX_ATOM_LEN ≤ w → HaveAtoms bytes ends → ¬ (ends ≡ 0) → HasFirst w bytes ends
+pub first_atom : (w : ℕ) (bytes : List ℕ) (ends : ℕ) → MAX_ATOM_LEN ≤ w → HaveAtoms bytes ends → ¬ (ends ≡ 0)
+    → HasFirst w bytes ends
 first_atom w bytes ends wide have some = at (atoms_of ends bytes) refl
   where
     at : (atoms : List (List ℕ)) → atoms_of ends bytes ≡ atoms → HasFirst w bytes ends
     at [] e = absurd (some (have.ends_again ∙ ap ends_of e))
     at (atom ∷ rest) e =
         first_of w bytes ends have.zeros atom rest wide e (subst (All IsAtom) e have.each)
-        (have.bytes_again ∙ ap (λ (a : List (List ℕ)). concat a ++ replicate have.zeros 0) e) (have.ends_again ∙ ap ends_of e)
+        (have.bytes_again ∙ ap (λ (a : List (List ℕ)). concat a ++ replicate have.zeros 0) e)
+        (have.ends_again ∙ ap ends_of e)
 
 -- no atoms are left where no bit is set
 pub none_left : (bytes : List ℕ) (ends : ℕ) → ends ≡ 0 → atoms_of ends bytes ≡ []

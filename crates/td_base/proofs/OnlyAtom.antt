@@ -1,5 +1,6 @@
 -- The atom of a run that has no other.
-use Rattle.std.proofs.Common.{Some, None, ◌≡◌, ◌<◌, ◌+◌, ◌-◌, ◌/◌, ◌^◌, ◌∷◌, ◌==◌, [], ℕ, List, length, take, slice_get, refl, sym, ap, ◌∙◌, arith, if◌then◌else◌}
+use Rattle.std.proofs.Common.{Some, None, ◌≡◌, ◌<◌, ◌+◌, ◌-◌, ◌/◌, ◌^◌, ◌∷◌, ◌==◌, [], ℕ, List, length}
+use Rattle.std.proofs.Common.{take, slice_get, refl, sym, ap, ◌∙◌, arith, if◌then◌else◌}
 use Rattle.std.specs.List.{concat}
 use Rattle.std.specs.Int.Count.{count_trailing_zeros}
 use Rattle.std.proofs.lemmas.Bool.{ne_eqb}
@@ -20,21 +21,31 @@ first_of_run bytes ends parts =
       bytes_again = parts.bytes_again;
       ends_again = parts.ends_again;
     } in
-    first_atom 64 bytes ends (omega arith) have (λ none. omega (arith, ap length (none_left bytes ends none), parts.run.some))
+    first_atom 64 bytes ends (omega arith) have (λ none. omega
+    (arith, ap length (none_left bytes ends none), parts.run.some))
 
 -- the first atom ends with one of the 64 bytes
 pub last_within : (bytes : List ℕ) (ends : ℕ) → IsRunParts bytes ends → count_trailing_zeros 64 ends < 64
 last_within bytes ends parts =
     let first = first_of_run bytes ends parts in
-    omega (arith, first.is.short, ap length first.front, length-take-le (count_trailing_zeros 64 ends + 1) bytes first.within)
+    omega (
+      arith,
+      first.is.short,
+      ap length first.front,
+      length-take-le (count_trailing_zeros 64 ends + 1) bytes
+          first.within,
+    )
 
-not_one : (atoms : List (List ℕ)) → ¬ (length atoms ≡ 1) → None ≡ (if length atoms == 1 then slice_get atoms 0 else None)
+not_one : (atoms : List (List ℕ)) → ¬ (length atoms ≡ 1) → None
+    ≡ (if length atoms == 1 then slice_get atoms 0 else None)
 not_one atoms several = rw (ne_eqb (length atoms) 1 several) refl
 
 -- a bit is set behind the first, so there are several atoms
 pub several : (bytes : List ℕ) (ends : ℕ) (atoms : List (List ℕ)) → IsRunParts bytes ends → atoms_of ends bytes ≡ atoms
-    → ¬ (ends / 2 ^ count_trailing_zeros 64 ends / 2 ≡ 0) → None ≡ (if length atoms == 1 then slice_get atoms 0 else None)
-several bytes ends atoms parts view more = not_one atoms (λ one. more (none_behind first.rest (first.left.ends_again ∙ ap ends_of first.others) (sized one)))
+    → ¬ (ends / 2 ^ count_trailing_zeros 64 ends / 2 ≡ 0) → None
+    ≡ (if length atoms == 1 then slice_get atoms 0 else None)
+several bytes ends atoms parts view more = not_one atoms
+    (λ one. more (none_behind first.rest (first.left.ends_again ∙ ap ends_of first.others) (sized one)))
   where
     first : HasFirst 64 bytes ends
     first = first_of_run bytes ends parts
@@ -57,7 +68,8 @@ pub only_one : (bytes : List ℕ) (ends : ℕ) (atoms : List (List ℕ)) → IsR
     → ends / 2 ^ count_trailing_zeros 64 ends / 2 ≡ 0 → IsOnly (count_trailing_zeros 64 ends) bytes atoms
 only_one bytes ends atoms parts view none =
     let first = first_of_run bytes ends parts in
-    let alone : atoms_of ends bytes ≡ first.atom ∷ [] = first.atoms ∙ ap (λ (rest : List (List ℕ)). first.atom ∷ rest) (sym first.others ∙ none_left _ _ none) in
+    let alone : atoms_of ends bytes ≡ first.atom ∷ [] = first.atoms
+    ∙ ap (λ (rest : List (List ℕ)). first.atom ∷ rest) (sym first.others ∙ none_left _ _ none) in
     let one : atoms ≡ first.atom ∷ [] = sym view ∙ alone in
     let kept : bytes ≡ padded_with_zeros MAX_ATOM_LEN first.atom = parts.bytes_again ∙ ap bytes_of alone
     ∙ ap (padded_with_zeros MAX_ATOM_LEN) (append-nil first.atom) in

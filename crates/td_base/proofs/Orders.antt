@@ -1,5 +1,6 @@
 -- Dots, identities and bits are in a total order, which tells different ones apart.
-use Rattle.std.proofs.Common.{◌≡◌, ◌⊎◌, ◌<◌, ◌≤◌, ◌==◌, ℕ, Bool, true, false, cond, nat_lt, refl, sym, subst, inl, inr, ⊎_elim, true≢false, arith}
+use Rattle.std.proofs.Common.{◌≡◌, ◌⊎◌, ◌<◌, ◌≤◌, ◌==◌, ℕ, Bool, true, false, cond, nat_lt, refl}
+use Rattle.std.proofs.Common.{sym, subst, inl, inr, ⊎_elim, true≢false, arith}
 use Rattle.std.proofs.lemmas.Bool.Decides.{nat_tests}
 use Rattle.std.specs.declared.cmp.Ordering.{Ordering}
 use Rattle.std.specs.declared.cmp.Ordering.TheVariants.{Less, Equal, Greater}
@@ -12,10 +13,12 @@ use Rattle.td_base.specs.Value.{DotValue, AtomIdValue}
 use Rattle.td_base.specs.Order.{dot_cmp, dot_lt, id_cmp, bit_cmp}
 
 pub dot_total : IsTotalOrder dot_cmp
-dot_total = then_total (on_total (λ (d : DotValue). d.site) nat_cmp_total) (on_total (λ (d : DotValue). d.seq) nat_cmp_total)
+dot_total = then_total (on_total (λ (d : DotValue). d.site) nat_cmp_total)
+    (on_total (λ (d : DotValue). d.seq) nat_cmp_total)
 
 pub id_total : IsTotalOrder id_cmp
-id_total = then_total (on_total (λ (x : AtomIdValue). x.dot) dot_total) (on_total (λ (x : AtomIdValue). x.offset) nat_cmp_total)
+id_total = then_total (on_total (λ (x : AtomIdValue). x.dot) dot_total)
+    (on_total (λ (x : AtomIdValue). x.offset) nat_cmp_total)
 
 abbrev side_number : Bit → ℕ
 side_number Left = 0
@@ -29,7 +32,8 @@ bit_numbers Right Right = refl
 
 pub bit_total : IsTotalOrder bit_cmp
 bit_total =
-    subst (λ (f : Bit → Bit → Ordering). IsTotalOrder f) (λ i b c. sym (bit_numbers b c) i) (on_total side_number nat_cmp_total)
+    subst (λ (f : Bit → Bit → Ordering). IsTotalOrder f) (λ i b c. sym (bit_numbers b c) i)
+    (on_total side_number nat_cmp_total)
 
 -- what the orders do not tell apart is one
 
@@ -96,7 +100,8 @@ same_number_refl n = same_number n (nat_cmp n n) (compares n n)
 
 -- the smaller dot has the smaller site, or the smaller number at one site
 
-dot_lt_true_at : (d e : DotValue) (o p : Ordering) → Compares d.site e.site o → Compares d.seq e.seq p → is_lt (ordering_then o p) ≡ true → (d.site < e.site) ⊎ ((d.site ≡ e.site) × (d.seq < e.seq))
+dot_lt_true_at : (d e : DotValue) (o p : Ordering) → Compares d.site e.site o → Compares d.seq e.seq p
+    → is_lt (ordering_then o p) ≡ true → (d.site < e.site) ⊎ ((d.site ≡ e.site) × (d.seq < e.seq))
 dot_lt_true_at d e Less p a b h = inl a
 dot_lt_true_at d e Equal Less a b h = inr (a, b)
 dot_lt_true_at d e Equal Equal a b h = absurd (true≢false (sym h))
@@ -104,7 +109,8 @@ dot_lt_true_at d e Equal Greater a b h = absurd (true≢false (sym h))
 dot_lt_true_at d e Greater p a b h = absurd (true≢false (sym h))
 
 pub dot_lt_true : (d e : DotValue) → dot_lt d e ≡ true → (d.site < e.site) ⊎ ((d.site ≡ e.site) × (d.seq < e.seq))
-dot_lt_true d e h = dot_lt_true_at d e (nat_cmp d.site e.site) (nat_cmp d.seq e.seq) (compares d.site e.site) (compares d.seq e.seq) h
+dot_lt_true d e h = dot_lt_true_at d e (nat_cmp d.site e.site) (nat_cmp d.seq e.seq) (compares d.site e.site)
+    (compares d.seq e.seq) h
 
 -- and what is not smaller has no smaller site, and at one site no smaller number
 
@@ -120,15 +126,20 @@ pub dot_lt_false : (d e : DotValue) → dot_lt d e ≡ false → (e.site ≤ d.s
 dot_lt_false d e h =
     dot_lt_false_at d e (nat_cmp d.site e.site) (nat_cmp d.seq e.seq) (compares d.site e.site) (compares d.seq e.seq) h
 
-dot_lt_from_at : (d e : DotValue) (o p : Ordering) → Compares d.site e.site o → Compares d.seq e.seq p → (d.site < e.site) ⊎ ((d.site ≡ e.site) × (d.seq < e.seq)) → is_lt (ordering_then o p) ≡ true
+dot_lt_from_at : (d e : DotValue) (o p : Ordering) → Compares d.site e.site o → Compares d.seq e.seq p
+    → (d.site < e.site) ⊎ ((d.site ≡ e.site) × (d.seq < e.seq)) → is_lt (ordering_then o p) ≡ true
 dot_lt_from_at d e Less p a b h = refl
 dot_lt_from_at d e Equal Less a b h = refl
-dot_lt_from_at d e Equal Equal a b h = absurd (⊎_elim (λ (k : d.site < e.site). omega arith) (λ (k : (d.site ≡ e.site) × (d.seq < e.seq)). omega (arith, k.1)) h)
-dot_lt_from_at d e Equal Greater a b h = absurd (⊎_elim (λ (k : d.site < e.site). omega arith) (λ (k : (d.site ≡ e.site) × (d.seq < e.seq)). omega (arith, k.1)) h)
-dot_lt_from_at d e Greater p a b h = absurd (⊎_elim (λ (k : d.site < e.site). omega arith) (λ (k : (d.site ≡ e.site) × (d.seq < e.seq)). omega (arith, k.0)) h)
+dot_lt_from_at d e Equal Equal a b h = absurd (⊎_elim (λ (k : d.site < e.site). omega arith)
+    (λ (k : (d.site ≡ e.site) × (d.seq < e.seq)). omega (arith, k.1)) h)
+dot_lt_from_at d e Equal Greater a b h = absurd
+    (⊎_elim (λ (k : d.site < e.site). omega arith) (λ (k : (d.site ≡ e.site) × (d.seq < e.seq)). omega (arith, k.1)) h)
+dot_lt_from_at d e Greater p a b h = absurd (⊎_elim (λ (k : d.site < e.site). omega arith)
+    (λ (k : (d.site ≡ e.site) × (d.seq < e.seq)). omega (arith, k.0)) h)
 
 pub dot_lt_from : (d e : DotValue) → (d.site < e.site) ⊎ ((d.site ≡ e.site) × (d.seq < e.seq)) → dot_lt d e ≡ true
-dot_lt_from d e h = dot_lt_from_at d e (nat_cmp d.site e.site) (nat_cmp d.seq e.seq) (compares d.site e.site) (compares d.seq e.seq) h
+dot_lt_from d e h = dot_lt_from_at d e (nat_cmp d.site e.site) (nat_cmp d.seq e.seq) (compares d.site e.site)
+    (compares d.seq e.seq) h
 
 -- an order is told from the test of it
 
@@ -142,6 +153,8 @@ less_of Greater h = absurd (true≢false (sym h))
 pub dot_apart : (d e : DotValue) → dot_lt d e ≡ true → dot_lt e d ≡ true → ⊥
 dot_apart d e h k =
     ⊎_elim
-    (λ (a : d.site < e.site). ⊎_elim (λ (b : e.site < d.site). omega arith) (λ (b : (e.site ≡ d.site) × (e.seq < d.seq)). omega arith) (dot_lt_true e d k))
-    (λ (a : (d.site ≡ e.site) × (d.seq < e.seq)). ⊎_elim (λ (b : e.site < d.site). omega arith) (λ (b : (e.site ≡ d.site) × (e.seq < d.seq)). omega arith) (dot_lt_true e d k))
+    (λ (a : d.site < e.site). ⊎_elim (λ (b : e.site < d.site). omega arith)
+    (λ (b : (e.site ≡ d.site) × (e.seq < d.seq)). omega arith) (dot_lt_true e d k))
+    (λ (a : (d.site ≡ e.site) × (d.seq < e.seq)). ⊎_elim (λ (b : e.site < d.site). omega arith)
+    (λ (b : (e.site ≡ d.site) × (e.seq < d.seq)). omega arith) (dot_lt_true e d k))
     (dot_lt_true d e h)

@@ -1,5 +1,6 @@
 -- What holds of all of a list, of two lists place by place, and of what a filter keeps.
-use Rattle.std.proofs.Common.{◌≡◌, ◌<◌, ◌++◌, ◌∷◌, [], List, Bool, false, not, length, filter, refl, sym, ap, subst, arith, inl, inr}
+use Rattle.std.proofs.Common.{◌≡◌, ◌<◌, ◌++◌, ◌∷◌, [], List, Bool, false, not, length}
+use Rattle.std.proofs.Common.{filter, refl, sym, ap, subst, arith, inl, inr}
 use Rattle.std.specs.List.{AllByRecursion, AllZip}
 use Rattle.std.proofs.lemmas.List.Filters.{length-filter_both}
 use Rattle.td_base.specs.Lists.{In}

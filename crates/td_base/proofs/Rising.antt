@@ -4,39 +4,53 @@ use Rattle.td_base.specs.Lists.{In, Successive, StandsBefore}
 use Rattle.td_base.proofs.Lists.{all_in}
 
 -- two elements of a list that rises: one, or in the one order or the other
-pub rises_tri : {X : Type 0} (R : X → X → Type 0) (xs : List X) → Successive R xs → (x y : X) → In x xs → In y xs → (x ≡ y) ⊎ (R x y ⊎ R y x)
+pub rises_tri : {X : Type 0} (R : X → X → Type 0) (xs : List X) → Successive R xs → (x y : X) → In x xs → In y xs
+    → (x ≡ y) ⊎ (R x y ⊎ R y x)
 rises_tri R [] h x y i j = absurd i
 rises_tri R (z ∷ xs) h x y i j =
     ⊎_elim
-    (λ (p : x ≡ z). ⊎_elim (λ (q : y ≡ z). inl (p ∙ sym q)) (λ q. inr (inl (subst (λ u. R u y) (sym p) (all_in (R z) xs h.0 y q)))) j)
-    (λ (p : In x xs). ⊎_elim (λ (q : y ≡ z). inr (inr (subst (λ u. R u x) (sym q) (all_in (R z) xs h.0 x p)))) (λ q. rises_tri R xs h.1 x y p q) j)
+    (λ (p : x ≡ z). ⊎_elim (λ (q : y ≡ z). inl (p ∙ sym q))
+    (λ q. inr (inl (subst (λ u. R u y) (sym p) (all_in (R z) xs h.0 y q)))) j)
+    (λ (p : In x xs). ⊎_elim (λ (q : y ≡ z). inr (inr (subst (λ u. R u x) (sym q) (all_in (R z) xs h.0 x p))))
+    (λ q. rises_tri R xs h.1 x y p q) j)
     i
 
 -- a list that rises in two orders
-pub both_rise : {X : Type 0} (R S : X → X → Type 0) → ((x : X) → R x x → ⊥) → ((x y z : X) → R x y → R y z → R x z) → (xs : List X) → Successive R xs → Successive S xs → (x y : X) → In x xs → In y xs → R x y → S x y
+pub both_rise : {X : Type 0} (R S : X → X → Type 0) → ((x : X) → R x x → ⊥) → ((x y z : X) → R x y → R y z → R x z)
+    → (xs : List X) → Successive R xs → Successive S xs → (x y : X) → In x xs → In y xs → R x y → S x y
 both_rise R S never onto [] a b x y i j h = absurd i
 both_rise R S never onto (z ∷ xs) a b x y i j h =
     ⊎_elim
-    (λ (p : x ≡ z). ⊎_elim (λ (q : y ≡ z). absurd (never z (subst (λ u. R u z) p (subst (λ u. R x u) q h)))) (λ q. subst (λ u. S u y) (sym p) (all_in (S z) xs b.0 y q)) j)
-    (λ (p : In x xs). ⊎_elim (λ (q : y ≡ z). absurd (never z (onto z x z (all_in (R z) xs a.0 x p) (subst (λ u. R x u) q h)))) (λ q. both_rise R S never onto xs a.1 b.1 x y p q h) j)
+    (λ (p : x ≡ z). ⊎_elim (λ (q : y ≡ z). absurd (never z (subst (λ u. R u z) p (subst (λ u. R x u) q h))))
+    (λ q. subst (λ u. S u y) (sym p) (all_in (S z) xs b.0 y q)) j)
+    (λ (p : In x xs). ⊎_elim (λ (q : y ≡ z). absurd
+    (never z (onto z x z (all_in (R z) xs a.0 x p) (subst (λ u. R x u) q h))))
+    (λ q. both_rise R S never onto xs a.1 b.1 x y p q h) j)
     i
 
-module _ {X : Type 0} (lt : X → X → Type 0) (irrefl : (x : X) → lt x x → ⊥) (trans : (x y z : X) → lt x y → lt y z → lt x z) where
+module _ {X : Type 0} (lt : X → X → Type 0) (irrefl : (x : X) → lt x x → ⊥)
+    (trans : (x y z : X) → lt x y → lt y z → lt x z) where
   -- two lists that rise and have the same elements are one
-  pub one_rising : (xs ys : List X) → Successive lt xs → Successive lt ys → ((x : X) → In x xs → In x ys) → ((x : X) → In x ys → In x xs) → xs ≡ ys
+  pub one_rising : (xs ys : List X) → Successive lt xs → Successive lt ys → ((x : X) → In x xs → In x ys)
+      → ((x : X) → In x ys → In x xs) → xs ≡ ys
   one_rising [] [] r q h k = refl
   one_rising [] (y ∷ ys) r q h k = absurd (k y (inl refl))
   one_rising (x ∷ xs) [] r q h k = absurd (h x (inl refl))
   one_rising (x ∷ xs) (y ∷ ys) r q h k =
-      let first : x ≡ y = ⊎_elim (λ e. e) (λ (i : In x ys). ⊎_elim (λ e. sym e) (λ (j : In y xs). absurd (irrefl x (trans x y x (all_in (lt x) xs r.0 y j) (all_in (lt y) ys q.0 x i)))) (k y (inl refl))) (h x (inl refl)) in
+      let first : x ≡ y = ⊎_elim (λ e. e) (λ (i : In x ys). ⊎_elim (λ e. sym e)
+      (λ (j : In y xs). absurd (irrefl x (trans x y x (all_in (lt x) xs r.0 y j) (all_in (lt y) ys q.0 x i))))
+      (k y (inl refl))) (h x (inl refl)) in
       let rest : xs ≡ ys =
       one_rising xs ys r.1 q.1
-      (λ z i. ⊎_elim (λ (e : z ≡ y). absurd (irrefl x (subst (λ w. lt x w) (e ∙ sym first) (all_in (lt x) xs r.0 z i)))) (λ j. j) (h z (inr i)))
-      (λ z i. ⊎_elim (λ (e : z ≡ x). absurd (irrefl y (subst (λ w. lt y w) (e ∙ first) (all_in (lt y) ys q.0 z i)))) (λ j. j) (k z (inr i))) in
+      (λ z i. ⊎_elim (λ (e : z ≡ y). absurd (irrefl x
+      (subst (λ w. lt x w) (e ∙ sym first) (all_in (lt x) xs r.0 z i)))) (λ j. j) (h z (inr i)))
+      (λ z i. ⊎_elim (λ (e : z ≡ x). absurd (irrefl y (subst (λ w. lt y w) (e ∙ first) (all_in (lt y) ys q.0 z i))))
+      (λ j. j) (k z (inr i))) in
       λ i. first i ∷ rest i
 
   -- in a list that rises the lesser of two elements stands first
-  pub stands_from : (list : List X) → Successive lt list → (x y : X) → In x list → In y list → lt x y → StandsBefore x y list
+  pub stands_from : (list : List X) → Successive lt list → (x y : X) → In x list → In y list → lt x y
+      → StandsBefore x y list
   stands_from [] r x y i j h = absurd i
   stands_from (w ∷ list) r x y i j h =
       ⊎_elim
@@ -59,7 +73,8 @@ stands_last x y (z ∷ list) h =
     ⊎_elim (λ (a : (x ≡ z) × In y list). inr a.1) (λ (b : StandsBefore x y list). inr (stands_last x y list b)) h
 
 -- where no element comes twice, standing before goes on
-pub stands_trans : {X : Type 0} (list : List X) → Successive (λ (x y : X). x ≢ y) list → (x z y : X) → StandsBefore x z list
+pub stands_trans : {X : Type 0} (list : List X) → Successive (λ (x y : X). x ≢ y) list → (x z y : X)
+    → StandsBefore x z list
     → StandsBefore z y list → StandsBefore x y list
 stands_trans [] d x z y h k = h
 stands_trans {X} (w ∷ list) d x z y h k =

@@ -1,5 +1,7 @@
 -- What is found in a list, what passes a test, and what a filter keeps.
-use Rattle.std.proofs.Common.{◌≡◌, ◌≤◌, ℕ, List, [], ◌∷◌, ◌++◌, Bool, true, false, ◌&&◌, ◌||◌, ◌+◌, zero, suc, cond, not, map, filter, length, take, drop, nat_lt, Option, Some, None, refl, sym, ap, ◌∙◌, subst, inl, inr, ⊎_elim, true≢false, arith, take-append-drop}
+use Rattle.std.proofs.Common.{◌≡◌, ◌≤◌, ℕ, List, [], ◌∷◌, ◌++◌, Bool, true, false, ◌&&◌, ◌||◌, ◌+◌, zero, suc, cond}
+use Rattle.std.proofs.Common.{not, map, filter, length, take, drop, nat_lt, Option, Some, None, refl, sym, ap, ◌∙◌}
+use Rattle.std.proofs.Common.{subst, inl, inr, ⊎_elim, true≢false, arith, take-append-drop}
 use Rattle.std.proofs.lemmas.Bool.{and_from, and_parts, or_right}
 use Rattle.std.proofs.lemmas.Bool.Decides.{nat_tests}
 use Rattle.std.proofs.lemmas.List.Elements.{All-from_recursion, filter-append}
@@ -13,7 +15,9 @@ use Rattle.std.proofs.lemmas.Map.Entries.{option_filter}
 
 -- what a search finds
 
-find_In_at : {X : Type 0} (test : X → Bool) (y : X) (ys : List X) (b : Bool) (x : X) → test y ≡ b → (find test ys ≡ Some x → In x ys × (test x ≡ true)) → cond b (Some y) (find test ys) ≡ Some x → In x (y ∷ ys) × (test x ≡ true)
+find_In_at : {X : Type 0} (test : X → Bool) (y : X) (ys : List X) (b : Bool) (x : X) → test y ≡ b
+    → (find test ys ≡ Some x → In x ys × (test x ≡ true)) → cond b (Some y) (find test ys) ≡ Some x → In x (y ∷ ys)
+    × (test x ≡ true)
 find_In_at test y ys true x t rest e = let p : y ≡ x = cc in (inl (sym p), subst (λ z. test z ≡ true) p t)
 find_In_at test y ys false x t rest e = let r = rest e in (inr r.0, r.1)
 
@@ -21,48 +25,63 @@ pub find_In : {X : Type 0} (test : X → Bool) (xs : List X) (x : X) → find te
 find_In test [] x e = absurd (cc)
 find_In test (y ∷ ys) x e = find_In_at test y ys (test y) x refl (find_In test ys x) e
 
-find_none_at : {X : Type 0} (test : X → Bool) (y : X) (ys : List X) (b : Bool) (x : X) → test y ≡ b → (find test ys ≡ None → In x ys → test x ≡ false) → cond b (Some y) (find test ys) ≡ None → In x (y ∷ ys) → test x ≡ false
+find_none_at : {X : Type 0} (test : X → Bool) (y : X) (ys : List X) (b : Bool) (x : X) → test y ≡ b
+    → (find test ys ≡ None → In x ys → test x ≡ false) → cond b (Some y) (find test ys) ≡ None → In x (y ∷ ys)
+    → test x ≡ false
 find_none_at test y ys true x t rest e i = absurd (cc)
-find_none_at test y ys false x t rest e i = ⊎_elim (λ (p : x ≡ y). subst (λ z. test z ≡ false) (sym p) t) (λ k. rest e k) i
+find_none_at test y ys false x t rest e i = ⊎_elim (λ (p : x ≡ y). subst (λ z. test z ≡ false) (sym p) t)
+    (λ k. rest e k) i
 
 pub find_none : {X : Type 0} (test : X → Bool) (xs : List X) (x : X) → find test xs ≡ None → In x xs → test x ≡ false
 find_none test [] x e i = absurd i
 find_none test (y ∷ ys) x e i = find_none_at test y ys (test y) x refl (find_none test ys x) e i
 
-find_at : {X : Type 0} (test : X → Bool) (y a : X) (ys : List X) (b : Bool) → test y ≡ b → In a (y ∷ ys) → test a ≡ true → (test y ≡ true → y ≡ a) → (In a ys → find test ys ≡ Some a) → cond b (Some y) (find test ys) ≡ Some a
+find_at : {X : Type 0} (test : X → Bool) (y a : X) (ys : List X) (b : Bool) → test y ≡ b → In a (y ∷ ys) → test a
+    ≡ true → (test y ≡ true → y ≡ a) → (In a ys → find test ys ≡ Some a) → cond b (Some y) (find test ys) ≡ Some a
 find_at test y a ys true h i p one ih = ap Some (one h)
-find_at test y a ys false h i p one ih = ih (⊎_elim (λ (e : a ≡ y). absurd (true≢false (sym p ∙ (ap test e ∙ h)))) (λ k. k) i)
+find_at test y a ys false h i p one ih = ih (⊎_elim (λ (e : a ≡ y). absurd (true≢false (sym p ∙ (ap test e ∙ h))))
+    (λ k. k) i)
 
 -- the one element that passes is found
-pub find_one : {X : Type 0} (test : X → Bool) (xs : List X) (a : X) → In a xs → test a ≡ true → ((b : X) → In b xs → test b ≡ true → b ≡ a) → find test xs ≡ Some a
+pub find_one : {X : Type 0} (test : X → Bool) (xs : List X) (a : X) → In a xs → test a ≡ true
+    → ((b : X) → In b xs → test b ≡ true → b ≡ a) → find test xs ≡ Some a
 find_one test [] a i p one = absurd i
-find_one test (y ∷ ys) a i p one = find_at test y a ys (test y) refl i p (λ q. one y (inl refl) q) (λ k. find_one test ys a k p (λ b j q. one b (inr j) q))
+find_one test (y ∷ ys) a i p one = find_at test y a ys (test y) refl i p (λ q. one y (inl refl) q)
+    (λ k. find_one test ys a k p (λ b j q. one b (inr j) q))
 
 place_of_position : (k n : ℕ) → k ≤ n → unwrap_or (cond (nat_lt k n) (Some k) None) n ≡ k
 place_of_position k n h = grind (arith, nat_tests)
 
-pub first_or_length : {X : Type 0} (test : X → Bool) (xs : List X) → unwrap_or (position test xs) (length xs) ≡ position_or_len test xs
-first_or_length {X = X} test xs = place_of_position (position_or_len test xs) (length xs) (prefix_len-le-length (λ (x : X). not (test x)) xs)
+pub first_or_length : {X : Type 0} (test : X → Bool) (xs : List X) → unwrap_or (position test xs) (length xs)
+    ≡ position_or_len test xs
+first_or_length {X = X} test xs = place_of_position (position_or_len test xs) (length xs)
+    (prefix_len-le-length (λ (x : X). not (test x)) xs)
 
 some_if : {X : Type 0} (b : Bool) (x : X) → is_some (cond b (Some x) None) ≡ b
 some_if true x = refl
 some_if false x = refl
 
-position_of_find_at : {X : Type 0} (x : X) (k n : ℕ) (b : Bool) (o : Option X) → nat_lt k n ≡ is_some o → nat_lt (cond (not b) (1 + k) 0) (suc n) ≡ is_some (cond b (Some x) o)
+position_of_find_at : {X : Type 0} (x : X) (k n : ℕ) (b : Bool) (o : Option X) → nat_lt k n ≡ is_some o
+    → nat_lt (cond (not b) (1 + k) 0) (suc n) ≡ is_some (cond b (Some x) o)
 position_of_find_at x k n true o h = grind (arith, nat_tests)
 position_of_find_at x k n false o h = grind (arith, nat_tests)
 
-find_below : {X : Type 0} (test : X → Bool) (xs : List X) → nat_lt (position_or_len test xs) (length xs) ≡ is_some (find test xs)
+find_below : {X : Type 0} (test : X → Bool) (xs : List X) → nat_lt (position_or_len test xs) (length xs)
+    ≡ is_some (find test xs)
 find_below test [] = refl
-find_below test (x ∷ xs) = position_of_find_at x (position_or_len test xs) (length xs) (test x) (find test xs) (find_below test xs)
+find_below test (x ∷ xs) = position_of_find_at x (position_or_len test xs) (length xs) (test x) (find test xs)
+    (find_below test xs)
 
 -- there is a place exactly where something is found
-pub position_of_find : {X : Type 0} (test : X → Bool) (xs : List X) → is_some (position test xs) ≡ is_some (find test xs)
-position_of_find test xs = some_if (nat_lt (position_or_len test xs) (length xs)) (position_or_len test xs) ∙ find_below test xs
+pub position_of_find : {X : Type 0} (test : X → Bool) (xs : List X) → is_some (position test xs)
+    ≡ is_some (find test xs)
+position_of_find test xs = some_if (nat_lt (position_or_len test xs) (length xs)) (position_or_len test xs)
+    ∙ find_below test xs
 
 -- what passes a test
 
-pub each_passes : {X : Type 0} (test : X → Bool) (xs : List X) → list_all test xs ≡ true → (x : X) → In x xs → test x ≡ true
+pub each_passes : {X : Type 0} (test : X → Bool) (xs : List X) → list_all test xs ≡ true → (x : X) → In x xs → test x
+    ≡ true
 each_passes test [] h x i = absurd i
 each_passes test (y ∷ ys) h x i =
     let p = and_parts (test y) (list_all test ys) h in
@@ -110,24 +129,30 @@ find_both {X} p q r (x ∷ xs) same one =
 
 -- a filter, and what it keeps, through a map
 
-filter_map_at : {X Y : Type 0} (f : X → Y) (test : Y → Bool) (x : X) (xs : List X) (b : Bool) → filter test (map f xs) ≡ map f (filter (λ z. test (f z)) xs) → cond b (f x ∷ filter test (map f xs)) (filter test (map f xs)) ≡ map f (cond b (x ∷ filter (λ z. test (f z)) xs) (filter (λ z. test (f z)) xs))
+filter_map_at : {X Y : Type 0} (f : X → Y) (test : Y → Bool) (x : X) (xs : List X) (b : Bool) → filter test (map f xs)
+    ≡ map f (filter (λ z. test (f z)) xs) → cond b (f x ∷ filter test (map f xs)) (filter test (map f xs))
+    ≡ map f (cond b (x ∷ filter (λ z. test (f z)) xs) (filter (λ z. test (f z)) xs))
 filter_map_at f test x xs true h = ap (λ z. f x ∷ z) h
 filter_map_at f test x xs false h = h
 
-pub filter_mapped : {X Y : Type 0} (f : X → Y) (test : Y → Bool) (xs : List X) → filter test (map f xs) ≡ map f (filter (λ z. test (f z)) xs)
+pub filter_mapped : {X Y : Type 0} (f : X → Y) (test : Y → Bool) (xs : List X) → filter test (map f xs)
+    ≡ map f (filter (λ z. test (f z)) xs)
 filter_mapped f test [] = refl
 filter_mapped f test (x ∷ xs) = filter_map_at f test x xs (test (f x)) (filter_mapped f test xs)
 
-kept_at : {X Y : Type 0} (f g : X → Y) (x : X) (b : Bool) (xs ys : List X) → f x ≡ g x → map f xs ≡ map g ys → map f (cond b (x ∷ xs) xs) ≡ map g (cond b (x ∷ ys) ys)
+kept_at : {X Y : Type 0} (f g : X → Y) (x : X) (b : Bool) (xs ys : List X) → f x ≡ g x → map f xs ≡ map g ys
+    → map f (cond b (x ∷ xs) xs) ≡ map g (cond b (x ∷ ys) ys)
 kept_at f g x true xs ys e h = λ i. e i ∷ h i
 kept_at f g x false xs ys e h = h
 
 -- two tests and two functions that agree on a list
-pub same_kept : {X Y : Type 0} (f g : X → Y) (p q : X → Bool) (xs : List X) → ((x : X) → In x xs → f x ≡ g x) → ((x : X) → In x xs → p x ≡ q x) → map f (filter p xs) ≡ map g (filter q xs)
+pub same_kept : {X Y : Type 0} (f g : X → Y) (p q : X → Bool) (xs : List X) → ((x : X) → In x xs → f x ≡ g x)
+    → ((x : X) → In x xs → p x ≡ q x) → map f (filter p xs) ≡ map g (filter q xs)
 same_kept f g p q [] e h = refl
 same_kept f g p q (x ∷ xs) e h =
     ap (λ b. map f (cond b (x ∷ filter p xs) (filter p xs))) (h x (inl refl))
-    ∙ kept_at f g x (q x) (filter p xs) (filter q xs) (e x (inl refl)) (same_kept f g p q xs (λ y i. e y (inr i)) (λ y i. h y (inr i)))
+    ∙ kept_at f g x (q x) (filter p xs) (filter q xs) (e x (inl refl))
+    (same_kept f g p q xs (λ y i. e y (inr i)) (λ y i. h y (inr i)))
 
 -- a part of a list
 
@@ -139,43 +164,56 @@ In-drop x k xs i = subst (λ z. In x z) (take-append-drop k xs) (In-back x (take
 
 -- what a filter keeps of all, of none, and of parts
 
-filter_all_at : {X : Type 0} (test : X → Bool) (x : X) (xs : List X) → test x ≡ true → filter test xs ≡ xs → filter test (x ∷ xs) ≡ x ∷ xs
+filter_all_at : {X : Type 0} (test : X → Bool) (x : X) (xs : List X) → test x ≡ true → filter test xs ≡ xs
+    → filter test (x ∷ xs) ≡ x ∷ xs
 filter_all_at test x xs e ih = ap (λ b. cond b (x ∷ filter test xs) (filter test xs)) e ∙ ap (λ q. x ∷ q) ih
 
-pub filter_all : {X : Type 0} (test : X → Bool) (xs : List X) → ((x : X) → In x xs → test x ≡ true) → filter test xs ≡ xs
+pub filter_all : {X : Type 0} (test : X → Bool) (xs : List X) → ((x : X) → In x xs → test x ≡ true) → filter test xs
+    ≡ xs
 filter_all test [] h = refl
 filter_all test (x ∷ xs) h = filter_all_at test x xs (h x (inl refl)) (filter_all test xs (λ y i. h y (inr i)))
 
-filter_none_at : {X : Type 0} (test : X → Bool) (x : X) (xs : List X) → test x ≡ false → filter test xs ≡ [] → filter test (x ∷ xs) ≡ []
+filter_none_at : {X : Type 0} (test : X → Bool) (x : X) (xs : List X) → test x ≡ false → filter test xs ≡ []
+    → filter test (x ∷ xs) ≡ []
 filter_none_at test x xs e ih = ap (λ b. cond b (x ∷ filter test xs) (filter test xs)) e ∙ ih
 
-pub filter_none : {X : Type 0} (test : X → Bool) (xs : List X) → ((x : X) → In x xs → test x ≡ false) → filter test xs ≡ []
+pub filter_none : {X : Type 0} (test : X → Bool) (xs : List X) → ((x : X) → In x xs → test x ≡ false) → filter test xs
+    ≡ []
 filter_none test [] h = refl
 filter_none test (x ∷ xs) h = filter_none_at test x xs (h x (inl refl)) (filter_none test xs (λ y i. h y (inr i)))
 
-pub filter_parts : {X : Type 0} (test : X → Bool) (xs ys zs : List X) → filter test (xs ++ ys ++ zs) ≡ filter test xs ++ filter test ys ++ filter test zs
+pub filter_parts : {X : Type 0} (test : X → Bool) (xs ys zs : List X) → filter test (xs ++ ys ++ zs) ≡ filter test xs
+    ++ filter test ys ++ filter test zs
 filter_parts test xs ys zs = filter-append test (xs ++ ys) zs ∙ ap (λ q. q ++ filter test zs) (filter-append test xs ys)
 
 -- what passes a test among what a filter keeps
 
-find_among_at : {X : Type 0} (kept test : X → Bool) (x : X) (xs : List X) (a b : Bool) → list_any (λ (y : X). kept y && test y) xs ≡ is_some (find test (filter kept xs)) → test x ≡ b
-    → ((a && b) || list_any (λ (y : X). kept y && test y) xs) ≡ is_some (find test (cond a (x ∷ filter kept xs) (filter kept xs)))
-find_among_at kept test x xs true true h is = ap (λ (b : Bool). is_some (cond b (Some x) (find test (filter kept xs)))) (sym is)
-find_among_at kept test x xs true false h is = h ∙ ap (λ (b : Bool). is_some (cond b (Some x) (find test (filter kept xs)))) (sym is)
+find_among_at : {X : Type 0} (kept test : X → Bool) (x : X) (xs : List X) (a b : Bool)
+    → list_any (λ (y : X). kept y && test y) xs ≡ is_some (find test (filter kept xs)) → test x ≡ b
+    → ((a && b) || list_any (λ (y : X). kept y && test y) xs)
+    ≡ is_some (find test (cond a (x ∷ filter kept xs) (filter kept xs)))
+find_among_at kept test x xs true true h is = ap
+    (λ (b : Bool). is_some (cond b (Some x) (find test (filter kept xs)))) (sym is)
+find_among_at kept test x xs true false h is = h
+    ∙ ap (λ (b : Bool). is_some (cond b (Some x) (find test (filter kept xs)))) (sym is)
 find_among_at kept test x xs false b h is = h
 
 -- whether one of those kept passes the test
-pub find_among : {X : Type 0} (kept test : X → Bool) (xs : List X) → list_any (λ (x : X). kept x && test x) xs ≡ is_some (find test (filter kept xs))
+pub find_among : {X : Type 0} (kept test : X → Bool) (xs : List X) → list_any (λ (x : X). kept x && test x) xs
+    ≡ is_some (find test (filter kept xs))
 find_among kept test [] = refl
 find_among kept test (x ∷ xs) = find_among_at kept test x xs (kept x) (test x) (find_among kept test xs) refl
 
-all_at : {X : Type 0} (kept test : X → Bool) (x : X) (xs : List X) (a : Bool) → list_all (λ (y : X). not (kept y) || test y) xs ≡ list_all test (filter kept xs)
-    → ((not a || test x) && list_all (λ (y : X). not (kept y) || test y) xs) ≡ list_all test (cond a (x ∷ filter kept xs) (filter kept xs))
+all_at : {X : Type 0} (kept test : X → Bool) (x : X) (xs : List X) (a : Bool)
+    → list_all (λ (y : X). not (kept y) || test y) xs ≡ list_all test (filter kept xs)
+    → ((not a || test x) && list_all (λ (y : X). not (kept y) || test y) xs)
+    ≡ list_all test (cond a (x ∷ filter kept xs) (filter kept xs))
 all_at kept test x xs true h = ap (λ (b : Bool). test x && b) h
 all_at kept test x xs false h = h
 
 -- whether all of those kept pass it
-pub all_among : {X : Type 0} (kept test : X → Bool) (xs : List X) → list_all (λ (x : X). not (kept x) || test x) xs ≡ list_all test (filter kept xs)
+pub all_among : {X : Type 0} (kept test : X → Bool) (xs : List X) → list_all (λ (x : X). not (kept x) || test x) xs
+    ≡ list_all test (filter kept xs)
 all_among kept test [] = refl
 all_among kept test (x ∷ xs) = all_at kept test x xs (kept x) (all_among kept test xs)
 
@@ -184,10 +222,12 @@ all_among kept test (x ∷ xs) = all_at kept test x xs (kept x) (all_among kept 
 pub any_false : {X : Type 0} (test : X → Bool) (x : X) → test x ≡ false → list_any test (x ∷ []) ≡ false
 any_false test x h = ap (λ b. b || false) h
 
-pub any_snoc : {X : Type 0} (test : X → Bool) (xs : List X) (x : X) → test x ≡ false → list_any test (xs ++ (x ∷ [])) ≡ list_any test xs
+pub any_snoc : {X : Type 0} (test : X → Bool) (xs : List X) (x : X) → test x ≡ false → list_any test (xs ++ (x ∷ []))
+    ≡ list_any test xs
 any_snoc test [] x h = any_false test x h
 any_snoc test (y ∷ ys) x h = ap (λ b. test y || b) (any_snoc test ys x h)
 
-pub any_last : {X : Type 0} (test : X → Bool) (xs : List X) (x : X) → test x ≡ true → list_any test (xs ++ (x ∷ [])) ≡ true
+pub any_last : {X : Type 0} (test : X → Bool) (xs : List X) (x : X) → test x ≡ true → list_any test (xs ++ (x ∷ []))
+    ≡ true
 any_last test [] x h = ap (λ b. b || false) h
 any_last test (y ∷ ys) x h = or_right (test y) (list_any test (ys ++ (x ∷ []))) (any_last test ys x h)

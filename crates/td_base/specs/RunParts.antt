@@ -1,6 +1,7 @@
 -- How a `Run` keeps its atoms: their bytes one after another in an array of fixed size, with zeros behind them, and a
 -- word whose bit i is set where an atom ends with byte i.
-use Rattle.std.specs.Prelude.{◌≡◌, ◌+◌, ◌-◌, ◌*◌, ◌/◌, ◌%◌, ◌^◌, ◌++◌, ◌==◌, ℕ, List, [], ◌∷◌, length, replicate, All, if◌then◌else◌}
+use Rattle.std.specs.Prelude.{◌≡◌, ◌+◌, ◌-◌, ◌*◌, ◌/◌, ◌%◌, ◌^◌, ◌++◌, ◌==◌, ℕ, List, []}
+use Rattle.std.specs.Prelude.{◌∷◌, length, replicate, All, if◌then◌else◌}
 use Rattle.std.specs.List.{concat}
 use Rattle.td_base.specs.Atom.{IsAtom}
 use Rattle.td_base.specs.Padded.{padded_with_zeros}

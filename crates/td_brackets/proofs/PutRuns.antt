@@ -1,5 +1,6 @@
 -- What the rows of a run leave, put as one leaf: brackets, whose rows are those of the insertion of the run.
-use Rattle.std.proofs.Common.{◌≡◌, ◌≢◌, ◌/◌, ◌≤◌, ℕ, suc, List, [], ◌∷◌, ◌++◌, Some, false, map, length, refl, sym, ap, ◌∙◌, subst, inl, ⊎_elim, arith}
+use Rattle.std.proofs.Common.{◌≡◌, ◌≢◌, ◌/◌, ◌≤◌, ℕ, suc, List, [], ◌∷◌, ◌++◌, Some, false, map}
+use Rattle.std.proofs.Common.{length, refl, sym, ap, ◌∙◌, subst, inl, ⊎_elim, arith}
 use Rattle.std.specs.Prelude.{IsTrue}
 use Rattle.std.proofs.lemmas.List.{append-nil}
 use Rattle.td_base.specs.Value.{DotValue, AtomIdValue}
@@ -24,24 +25,31 @@ use Rattle.td_brackets.proofs.Runs.{run_inserted}
 abbrev Differ : NamedAtom → NamedAtom → Type 0
 Differ a b = a.id ≢ b.id
 
-offset_from : (dot : DotValue) (k : ℕ) (run : List (List ℕ)) (a : NamedAtom) → In a (run_atoms_from dot k run) → k ≤ a.id.offset
+offset_from : (dot : DotValue) (k : ℕ) (run : List (List ℕ)) (a : NamedAtom) → In a (run_atoms_from dot k run)
+    → k ≤ a.id.offset
 offset_from dot k [] a i = absurd i
 offset_from dot k (atom ∷ run) a i =
-    ⊎_elim (λ (e : a ≡ record { id = record { dot = dot; offset = k }; atom = atom }). let same : a.id.offset ≡ k = ap (λ (b : NamedAtom). b.id.offset) e in omega arith)
+    ⊎_elim (λ (e : a ≡ record { id = record { dot = dot; offset = k }; atom = atom }). let same : a.id.offset
+    ≡ k = ap (λ (b : NamedAtom). b.id.offset) e in omega arith)
     (λ (j : In a (run_atoms_from dot (suc k) run)). let more = offset_from dot (suc k) run a j in omega arith) i
 
 run_differs : (dot : DotValue) (k : ℕ) (run : List (List ℕ)) → Successive Differ (run_atoms_from dot k run)
 run_differs dot k [] = tt
 run_differs dot k (atom ∷ run) = (
   all_of (Differ (record { id = record { dot = dot; offset = k }; atom = atom })) (run_atoms_from dot (suc k) run)
-      (λ a i e. let more = offset_from dot (suc k) run a i in let same : k ≡ a.id.offset = ap (λ (x : AtomIdValue). x.offset) e in absurd (omega arith)),
+      (λ a i e. let more = offset_from dot (suc k) run a i in
+      let same : k ≡ a.id.offset = ap (λ (x : AtomIdValue). x.offset) e in absurd (omega arith)),
   run_differs dot (suc k) run,
 )
 
-module _ (table next : ℕ → Entry) (tokens : List Token) (b : IsBrackets table tokens) (agree : (s : ℕ) → In s (numbers_of tokens) → next s ≡ table s) (dot : DotValue) (run : List (List ℕ))
-    (fresh : IsFresh (rows_of table tokens) dot) (before : List ℕ) (m : ℕ) (after : List ℕ) (half : length before ≡ length (before ++ m ∷ after) / 2)
-    (atoms : map (atom_of next) (before ++ m ∷ after) ≡ run_atoms dot run) (live : (r : ℕ) → In r (before ++ m ∷ after) → (next r).deletes ≡ [])
-    (front back : List Token) (parts : tokens ≡ front ++ back) (stack : List Level) (slot : Slot) (p : Standing next tokens stack (next m).id front back) (behind : AllAfter next stack (next m).id back)
+module _ (table next : ℕ → Entry) (tokens : List Token) (b : IsBrackets table tokens)
+    (agree : (s : ℕ) → In s (numbers_of tokens) → next s ≡ table s) (dot : DotValue) (run : List (List ℕ))
+    (fresh : IsFresh (rows_of table tokens) dot) (before : List ℕ) (m : ℕ) (after : List ℕ)
+    (half : length before ≡ length (before ++ m ∷ after) / 2)
+    (atoms : map (atom_of next) (before ++ m ∷ after) ≡ run_atoms dot run)
+    (live : (r : ℕ) → In r (before ++ m ∷ after) → (next r).deletes ≡ [])
+    (front back : List Token) (parts : tokens ≡ front ++ back) (stack : List Level) (slot : Slot)
+    (p : Standing next tokens stack (next m).id front back) (behind : AllAfter next stack (next m).id back)
     (there : slot_path (rows_of table tokens) slot ≡ Some (slot_of next stack)) where
   abbrev rs : List ℕ
   rs = before ++ m ∷ after
@@ -53,15 +61,18 @@ module _ (table next : ℕ → Entry) (tokens : List Token) (b : IsBrackets tabl
   rows = same_rows table next tokens b agree front back parts
 
   dot_of : (r : ℕ) → In r rs → (next r).id.dot ≡ dot
-  dot_of r i = run_atom_dot dot 0 run (atom_of next r) (subst (In (atom_of next r)) atoms (In-map (atom_of next) r rs i))
+  dot_of r i = run_atom_dot dot 0 run (atom_of next r)
+      (subst (In (atom_of next r)) atoms (In-map (atom_of next) r rs i))
 
   -- no row has an identity of the run
   other : (r : ℕ) → In r rs → (s : DocRow) → In s (rows_of table tokens) → row_id s ≢ (next r).id
-  other r i s j e = all_in (λ (q : DocRow). (row_id q).dot ≢ dot) (rows_of table tokens) fresh s j (ap (λ (x : AtomIdValue). x.dot) e ∙ dot_of r i)
+  other r i s j e = all_in (λ (q : DocRow). (row_id q).dot ≢ dot) (rows_of table tokens) fresh s j
+      (ap (λ (x : AtomIdValue). x.dot) e ∙ dot_of r i)
 
   pub put_run_is : rows_of next (front ++ Leaf rs ∷ back) ≡ insert_run slot dot run (rows_of table tokens)
   put_run_is =
-      run_inserted next tokens stack before m after half (live m middle) front back (subst IsDocument (sym rows) b.document) (λ s i. other m middle s (subst (In s) rows i)) p behind
+      run_inserted next tokens stack before m after half (live m middle) front back
+      (subst IsDocument (sym rows) b.document) (λ s i. other m middle s (subst (In s) rows i)) p behind
       slot dot run (ap (λ (q : List DocRow). slot_path q slot) rows ∙ there) atoms
       ∙ ap (insert_run slot dot run) rows
 
@@ -88,7 +99,8 @@ module _ (table next : ℕ → Entry) (tokens : List Token) (b : IsBrackets tabl
     word = ((not_empty before, tt), refl);
     apart = subst (Apart next) (sym (append-nil rs)) run_apart;
     other = differs;
-    live = λ xs r i j. ⊎_elim (λ (e : Leaf xs ≡ Leaf rs). live r (subst (In r) (same_leaf xs rs e) j)) (λ (z : ⊥). absurd z) i;
+    live = λ xs r i j. ⊎_elim (λ (e : Leaf xs ≡ Leaf rs). live r (subst (In r) (same_leaf xs rs e) j))
+        (λ (z : ⊥). absurd z) i;
   }
 
   pub put_run_brackets : IsTrue (is_rooted (rows_of table tokens) slot) → IsBrackets next (front ++ Leaf rs ∷ back)

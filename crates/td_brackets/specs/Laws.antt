@@ -8,7 +8,8 @@ use Rattle.td_doc.specs.Slots.{rows_in_slot}
 use Rattle.td_doc.specs.Allocation.{next_id}
 use Rattle.td_doc.specs.Array.{named, array}
 use Rattle.td_doc.specs.Flatten.{flatten}
-use Rattle.td_brackets.specs.Brackets.{Token, Open, Atom, Close, Leaf, Level, Entry, move_all, IsWord, IsBrackets, slot_of, rows_from, rows_of, next_row}
+use Rattle.td_brackets.specs.Brackets.{Token, Open, Atom, Close, Leaf, Level, Entry, move_all, IsWord}
+use Rattle.td_brackets.specs.Brackets.{IsBrackets, slot_of, rows_from, rows_of, next_row}
 use Rattle.std.specs.declared.cmp.Ordering.TheVariants.{Less}
 use Rattle.td_base.specs.Value.{AtomIdValue}
 use Rattle.td_base.specs.Lists.{In}

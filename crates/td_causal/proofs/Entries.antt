@@ -1,5 +1,6 @@
 -- The entries of a map by dots, and the list of what waits, which are its values.
-use Rattle.std.proofs.Common.{◌≡◌, ◌<◌, ◌≤◌, ◌^◌, ◌+◌, ◌-◌, ◌||◌, ℕ, List, [], ◌∷◌, length, Bool, true, false, cond, not, if◌then◌else◌, find, is_some, Some, refl, sym, ap, ◌∙◌, subst, true≢false, arith}
+use Rattle.std.proofs.Common.{◌≡◌, ◌<◌, ◌≤◌, ◌^◌, ◌+◌, ◌-◌, ◌||◌, ℕ, List, [], ◌∷◌, length, Bool, true, false, cond}
+use Rattle.std.proofs.Common.{not, if◌then◌else◌, find, is_some, Some, refl, sym, ap, ◌∙◌, subst, true≢false, arith}
 use Rattle.std.proofs.lemmas.Bool.{or_parts}
 use Rattle.std.proofs.lemmas.Cmp.{tied_itself}
 use Rattle.std.specs.declared.cmp.Ordering.{Ordering}

@@ -1,6 +1,9 @@
 -- The ready operation of a site, which is the next one there, and the least of all sites.
-use Rattle.std.proofs.Common.{◌≡◌, ◌≤◌, ◌<◌, ◌+◌, ◌⊎◌, ◌==◌, ◌&&◌, ℕ, List, [], ◌∷◌, length, Bool, true, false, not, find, filter, if◌then◌else◌, nat_le, Option, Some, None, IfSome, is_some, option_map, refl, sym, ap, ◌∙◌, subst, inl, inr, ⊎_elim, true≢false, arith}
-use Rattle.std.proofs.lemmas.Bool.{and_parts, and_from, eqb-true, eq-eqb, leb-true, le-leb, false_from_ne_true, not-true}
+use Rattle.std.proofs.Common.{◌≡◌, ◌≤◌, ◌<◌, ◌+◌, ◌⊎◌, ◌==◌, ◌&&◌, ℕ, List, [], ◌∷◌, length, Bool, true, false, not}
+use Rattle.std.proofs.Common.{find, filter, if◌then◌else◌, nat_le, Option, Some, None, IfSome, is_some, option_map}
+use Rattle.std.proofs.Common.{refl, sym, ap, ◌∙◌, subst, inl, inr, ⊎_elim, true≢false, arith}
+use Rattle.std.proofs.lemmas.Bool.{and_parts, and_from, eqb-true, eq-eqb, leb-true}
+use Rattle.std.proofs.lemmas.Bool.{le-leb, false_from_ne_true, not-true}
 use Rattle.std.proofs.lemmas.Bool.Decides.{nat_tests}
 use Rattle.std.proofs.lemmas.Map.Entries.{option_filter}
 use borrow.Author.Count.{below_more}
@@ -222,7 +225,8 @@ module _ (have : List ℕ) (ws : List Waiting) (a : AreWaiting ws) where
 
   -- those that wait have vectors of the size
   -- the first site of which one is ready has the least
-  pub least_of : (n : ℕ) → NoneBelow n have ws → (o : Option Waiting) → find (is_ready_of n have) ws ≡ o → is_some o ≡ true
+  pub least_of : (n : ℕ) → NoneBelow n have ws → (o : Option Waiting) → find (is_ready_of n have) ws ≡ o → is_some o
+      ≡ true
       → option_map (λ (w : Waiting). w.op) (find (is_ready_of n have) ws) ≡ next_ready have (ops_waiting ws)
   least_of n none None e h = absurd cc
   least_of n none (Some w) e h = ap (option_map (λ (v : Waiting). v.op)) e ∙ sym (least_ready n w none e)
@@ -235,7 +239,8 @@ is_some_passed test w = at (test w)
     at true = refl
     at false = refl
 
-pub passed : (test : Waiting → Bool) (o : Option Waiting) → is_some (option_filter test o) ≡ true → option_filter test o ≡ o
+pub passed : (test : Waiting → Bool) (o : Option Waiting) → is_some (option_filter test o) ≡ true
+    → option_filter test o ≡ o
 passed test None h = refl
 passed test (Some w) h = at (test w) h
   where
@@ -243,7 +248,8 @@ passed test (Some w) h = at (test w) h
     at true h = refl
     at false h = absurd cc
 
-pub waits_found : (test : Waiting → Bool) (ws : List Waiting) (o : Option Waiting) → o ≡ find test ws → IfSome o (λ w. In w ws)
+pub waits_found : (test : Waiting → Bool) (ws : List Waiting) (o : Option Waiting) → o ≡ find test ws
+    → IfSome o (λ w. In w ws)
 waits_found test ws None e = tt
 waits_found test ws (Some w) e = (find_In test ws w (sym e)).0
 

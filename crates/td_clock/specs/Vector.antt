@@ -1,5 +1,6 @@
 -- Version vectors as lists of numbers, the number of site s at place s - 1.
-use Rattle.std.specs.Prelude.{◌<◌, ◌≤◌, ◌+◌, ◌-◌, ℕ, Bool, true, false, ◌&&◌, nat_le, List, [], ◌∷◌, length, max, slice_index, slice_set, All}
+use Rattle.std.specs.Prelude.{◌<◌, ◌≤◌, ◌+◌, ◌-◌, ℕ, Bool, true, false, ◌&&◌, nat_le, List, []}
+use Rattle.std.specs.Prelude.{◌∷◌, length, max, slice_index, slice_set, All}
 use Rattle.td_base.specs.Value.{DotValue}
 use Rattle.td_base.specs.declared.site.TheConstants.{MAX_SITE}
 use Rattle.td_base.specs.declared.dot.TheConstants.{MAX_SEQ}

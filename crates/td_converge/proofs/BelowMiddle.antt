@@ -1,5 +1,6 @@
 -- What hangs below a middle atom that was never renamed.
-use Rattle.std.proofs.Common.{◌≡◌, ◌++◌, ℕ, List, ◌∷◌, true, false, Some, refl, sym, ap, ◌∙◌, subst, true≢false, append_assoc}
+use Rattle.std.proofs.Common.{◌≡◌, ◌++◌, ℕ, List, ◌∷◌, true, false, Some, refl, sym, ap}
+use Rattle.std.proofs.Common.{◌∙◌, subst, true≢false, append_assoc}
 use Rattle.td_base.specs.declared.bit.Bit.{Bit}
 use Rattle.td_base.specs.Value.{DotValue, AtomIdValue}
 use Rattle.td_base.specs.Lists.{In}

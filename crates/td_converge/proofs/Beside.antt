@@ -1,5 +1,6 @@
 -- Where the rows of a new insertion go in a document is where its atoms go in the order.
-use Rattle.std.proofs.Common.{◌≡◌, ◌⊎◌, ◌<◌, ◌≤◌, ℕ, List, [], ◌∷◌, ◌++◌, true, false, refl, sym, ap, ◌∙◌, subst, inl, inr, ⊎_elim, arith, append_assoc, append-nil}
+use Rattle.std.proofs.Common.{◌≡◌, ◌⊎◌, ◌<◌, ◌≤◌, ℕ, List, [], ◌∷◌, ◌++◌, true, false, refl, sym, ap, ◌∙◌}
+use Rattle.std.proofs.Common.{subst, inl, inr, ⊎_elim, arith, append_assoc, append-nil}
 use Rattle.std.proofs.lemmas.Bool.{cases_Bool}
 use Rattle.td_base.specs.declared.bit.Bit.{Bit}
 use Rattle.td_base.specs.declared.bit.Bit.TheVariants.{Left, Right}
@@ -14,10 +15,13 @@ use Rattle.td_order.specs.Under.{under}
 use Rattle.td_order.specs.Place.{precedes}
 use Rattle.td_order.proofs.Lex.{Tri, below, same, above, lex_append, lex_cancel, lex_between}
 use Rattle.td_order.proofs.Keys.{Key, StepLt, KeyLt, key_strict, step_strict, step, id_of, rank_first, dot_first}
-use Rattle.td_order.proofs.Fits.{slot_key, OlderRank, Names, AllFit, fits_at, rooted_at, same_insert, key_end, Found, find, UnderKey, under_key, Mate, mate}
+use Rattle.td_order.proofs.Fits.{slot_key, OlderRank, Names, AllFit, fits_at, rooted_at, same_insert}
+use Rattle.td_order.proofs.Fits.{key_end, Found, find, UnderKey, under_key, Mate, mate}
 use Rattle.td_order.proofs.Placing.{IdLt, id_trans}
-use Rattle.td_order.proofs.PlaceRises.{dot_other, pinned, one_or_two, zero_or_one, one_two, zero_one, cons_nil, step_same, step_dot}
-use Rattle.td_logs.proofs.Paths.{PathLt, RowLt, path_trans, path_not, above_left, above_right, path_append, first_less, PathCase, sooner, later, here, deeper, path_case}
+use Rattle.td_order.proofs.PlaceRises.{dot_other, pinned, one_or_two, zero_or_one, one_two}
+use Rattle.td_order.proofs.PlaceRises.{zero_one, cons_nil, step_same, step_dot}
+use Rattle.td_logs.proofs.Paths.{PathLt, RowLt, path_trans, path_not, above_left, above_right, path_append}
+use Rattle.td_logs.proofs.Paths.{first_less, PathCase, sooner, later, here, deeper, path_case}
 
 module _ (K : AtomIdValue → ℕ → Key) (rank : Insertion → ℕ) (all : List Insertion) (g : AllFit K rank all)
     (a : Insertion) (ia : In a all)

@@ -11,11 +11,13 @@ use Rattle.td_decide.proofs.KeptText.{commits_keep_text}
 use Rattle.td_decide.proofs.Voted.{voted}
 use Rattle.td_agree.proofs.EveryFamily.{stable, none_unfit}
 use Rattle.td_converge.specs.Headline.{KeepsPromises}
-use Rattle.td_converge.specs.Promises.{RowsAreTheOrder, RowsArePart, RowsAgree, ConvergentAtoms, ConvergentText, TextsConverge, row_ids}
+use Rattle.td_converge.specs.Promises.{RowsAreTheOrder, RowsArePart, RowsAgree, ConvergentAtoms}
+use Rattle.td_converge.specs.Promises.{ConvergentText, TextsConverge, row_ids}
 use Rattle.td_converge.specs.Subtrees.{SubtreesMeet}
 use Rattle.td_converge.proofs.Sublists.{sub_trans, sub_stands, stands_sub}
 use Rattle.td_converge.proofs.BelowMiddle.{subtrees_meet}
-use Rattle.td_converge.proofs.Texts.{rows_are_the_order, rows_are_part, convergent_atoms, convergent_text, texts_converge}
+use Rattle.td_converge.proofs.Texts.{rows_are_the_order, rows_are_part, convergent_atoms}
+use Rattle.td_converge.proofs.Texts.{convergent_text, texts_converge}
 
 module _ (family : Family) (c : IsConsistent family) where
   pub subtrees : SubtreesMeet family

@@ -1,5 +1,7 @@
 -- At every site, whatever was flattened, rows stand in the document as their atoms stand in the one order.
-use Rattle.std.proofs.Common.{◌≡◌, ◌⊎◌, ◌<◌, ◌++◌, ℕ, List, [], ◌∷◌, length, map, true, false, not, ◌||◌, Option, Some, None, refl, sym, ap, ◌∙◌, subst, inl, inr, ⊎_elim, true≢false, append_assoc, arith}
+use Rattle.std.proofs.Common.{◌≡◌, ◌⊎◌, ◌<◌, ◌++◌, ℕ, List, [], ◌∷◌, length, map, true, false, not, ◌||◌, Option}
+use Rattle.std.proofs.Common.{Some, None, refl, sym, ap, ◌∙◌, subst, inl, inr, ⊎_elim, true≢false, append_assoc}
+use Rattle.std.proofs.Common.{arith}
 use Rattle.std.proofs.lemmas.Bool.{cases_Bool}
 use Rattle.std.specs.Prelude.{IsTrue}
 use Rattle.td_base.specs.declared.bit.Bit.{Bit}
@@ -74,7 +76,8 @@ use Rattle.td_logs.proofs.Steps.{doc, insert_slot}
 use Rattle.td_agree.proofs.OwnSlots.{own_at, in_own, middle_of}
 use Rattle.td_agree.proofs.FamilyRecord.{premises}
 use Rattle.td_logs.proofs.Commits.{edit_log}
-use Rattle.td_agree.proofs.SlotsRecord.{written_of, top_parts, top_from, both_from, Both as TwoWritten, both_parts, middle_named, slots, tops}
+use Rattle.td_agree.proofs.SlotsRecord.{written_of, top_parts, top_from, both_from}
+use Rattle.td_agree.proofs.SlotsRecord.{Both as TwoWritten, both_parts, middle_named, slots, tops}
 use Rattle.td_agree.proofs.Epochs.{has_epochs, parts_in_order}
 use Rattle.td_logs.proofs.RowsBefore.{at_middle, Hangs, hangs, below_from}
 use Rattle.td_converge.proofs.Subtree.{none_under, mid, subtree}

@@ -1,5 +1,6 @@
 -- What hangs below the middle atom of an insert that no commit renamed is what is under that insert.
-use Rattle.std.proofs.Common.{◌≡◌, ◌⊎◌, ◌<◌, ◌/◌, ◌++◌, ℕ, List, [], ◌∷◌, length, drop, Bool, true, false, Option, Some, None, refl, sym, ap, ◌∙◌, subst, inl, inr, ⊎_elim, true≢false, append_assoc}
+use Rattle.std.proofs.Common.{◌≡◌, ◌⊎◌, ◌<◌, ◌/◌, ◌++◌, ℕ, List, [], ◌∷◌, length, drop, Bool, true, false, Option}
+use Rattle.std.proofs.Common.{Some, None, refl, sym, ap, ◌∙◌, subst, inl, inr, ⊎_elim, true≢false, append_assoc}
 use Rattle.std.specs.Option.{is_some}
 use Rattle.td_base.specs.declared.bit.Bit.{Bit}
 use Rattle.td_base.specs.Value.{DotValue, AtomIdValue}
@@ -45,7 +46,8 @@ use Rattle.td_logs.proofs.Bases.{tail, causal, fits}
 use Rattle.td_logs.proofs.Steps.{doc, stays, commit_body}
 use Rattle.td_agree.proofs.OwnSlots.{Middle, middle_of, middle_in}
 use Rattle.td_agree.proofs.Meeting.{agrees}
-use Rattle.td_logs.proofs.RowsBefore.{AtMiddle, at_middle, RowWas, same_path, put_in, within_slot, row_was, no_row_yet, below_from, Hangs, hangs}
+use Rattle.td_logs.proofs.RowsBefore.{AtMiddle, at_middle, RowWas, same_path, put_in, within_slot}
+use Rattle.td_logs.proofs.RowsBefore.{row_was, no_row_yet, below_from, Hangs, hangs}
 use Rattle.std.proofs.lemmas.Bool.{false_from_ne_true}
 use Rattle.std.proofs.lemmas.Option.{same_Some}
 

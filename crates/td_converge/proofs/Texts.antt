@@ -1,5 +1,7 @@
 -- At every moment a site shows the text that the operations of its log show.
-use Rattle.std.proofs.Common.{◌≡◌, ◌⊎◌, ℕ, suc, List, [], ◌∷◌, length, map, Bool, true, false, cond, not, ◌||◌, Option, Some, None, refl, sym, ap, ◌∙◌, subst, inl, inr, ⊎_elim, true≢false, arith, zero, ◌+◌}
+use Rattle.std.proofs.Common.{◌≡◌, ◌⊎◌, ℕ, suc, List, [], ◌∷◌, length, map, Bool, true, false}
+use Rattle.std.proofs.Common.{cond, not, ◌||◌, Option, Some, None, refl, sym, ap, ◌∙◌, subst, inl}
+use Rattle.std.proofs.Common.{inr, ⊎_elim, true≢false, arith, zero, ◌+◌}
 use Rattle.std.proofs.lemmas.Bool.{or_left, cases_Bool}
 use Rattle.std.specs.Prelude.{find, slice_get, option_and_then, unwrap_or}
 use Rattle.std.specs.List.{concat}
@@ -50,7 +52,8 @@ use Rattle.td_logs.proofs.WellRooted.{insertion_parts}
 use Rattle.td_logs.specs.Logs.{IsLogOf}
 use Rattle.td_decide.specs.Voted.{IsVoted}
 use Rattle.td_decide.specs.Promises.{OneDecision}
-use Rattle.td_converge.specs.Promises.{NoCommit, RowsAreTheOrder, RowsArePart, ConvergentAtoms, ConvergentText, TextsConverge}
+use Rattle.td_converge.specs.Promises.{NoCommit, RowsAreTheOrder, RowsArePart}
+use Rattle.td_converge.specs.Promises.{ConvergentAtoms, ConvergentText, TextsConverge}
 use Rattle.td_logs.proofs.WellRooted.{moment_part}
 use Rattle.td_logs.proofs.Moments.{moment_log}
 use Rattle.td_logs.proofs.Fitting.{moment_doc}

@@ -1,5 +1,7 @@
 -- What a tally keeps of its parts, through each change of a ballot.
-use Rattle.std.proofs.Common.{◌≡◌, ◌<◌, ◌≤◌, ◌+◌, ◌^◌, ◌==◌, ℕ, suc, List, Bool, true, false, cond, if◌then◌else◌, length, get_or, set, Option, Some, None, Ok, Err, min, ◌-◌, refl, sym, ap, ◌∙◌, subst, true≢false, arith}
+use Rattle.std.proofs.Common.{◌≡◌, ◌<◌, ◌≤◌, ◌+◌, ◌^◌, ◌==◌, ℕ, suc, List, Bool, true, false, cond}
+use Rattle.std.proofs.Common.{if◌then◌else◌, length, get_or, set, Option, Some, None, Ok, Err, min}
+use Rattle.std.proofs.Common.{◌-◌, refl, sym, ap, ◌∙◌, subst, true≢false, arith}
 use Rattle.std.specs.Prelude.{insert, reverse}
 use Rattle.std.specs.Option.{is_some, is_none}
 use Rattle.std.specs.Int.{from_bool}

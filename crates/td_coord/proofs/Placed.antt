@@ -1,5 +1,7 @@
 -- A ballot at its place: it is found there, changed there, and put there.
-use Rattle.std.proofs.Common.{◌≡◌, ◌≢◌, ◌⊎◌, ◌<◌, ℕ, zero, suc, List, [], ◌∷◌, ◌++◌, Bool, true, false, if◌then◌else◌, length, take, drop, get_or, set, map, Option, Some, None, Result, Ok, Err, refl, sym, ap, ◌∙◌, subst, inl, inr, ⊎_elim, true≢false, arith, append_assoc, take-append-drop}
+use Rattle.std.proofs.Common.{◌≡◌, ◌≢◌, ◌⊎◌, ◌<◌, ℕ, zero, suc, List, [], ◌∷◌, ◌++◌, Bool, true, false, if◌then◌else◌}
+use Rattle.std.proofs.Common.{length, take, drop, get_or, set, map, Option, Some, None, Result, Ok, Err, refl, sym}
+use Rattle.std.proofs.Common.{ap, ◌∙◌, subst, inl, inr, ⊎_elim, true≢false, arith, append_assoc, take-append-drop}
 use Rattle.std.specs.Prelude.{IsSome, IsNone, is_ok, is_err, is_some, reverse, insert}
 use Rattle.std.specs.List.{find}
 use Rattle.std.specs.declared.cmp.Ordering.TheVariants.{Less}
@@ -12,7 +14,8 @@ use Rattle.td_base.specs.Value.{DotValue}
 use Rattle.td_base.specs.Lists.{In, Successive}
 use Rattle.td_base.specs.Order.{dot_cmp, dot_lt}
 use Rattle.td_base.specs.Equality.{same_dot}
-use Rattle.td_base.proofs.Lists.{all_in, all_of, In-append, In-permutation, Contains-In_at, across, successive_append, successive_front, successive_back, successive_map, map_successive}
+use Rattle.td_base.proofs.Lists.{all_in, all_of, In-append, In-permutation, Contains-In_at, across, successive_append}
+use Rattle.td_base.proofs.Lists.{successive_front, successive_back, successive_map, map_successive}
 use Rattle.td_base.proofs.Searches.{find_one}
 use Rattle.td_base.proofs.Equals.{same_dot_true, same_dot_refl, same_dot_other}
 use Rattle.td_base.proofs.Rising.{rises_tri}

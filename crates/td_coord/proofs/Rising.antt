@@ -1,5 +1,6 @@
 -- Ballots in the order of their proposals, and the search among them.
-use Rattle.std.proofs.Common.{◌≡◌, ◌<◌, ◌+◌, ℕ, zero, suc, List, [], ◌∷◌, false, length, get_or, Result, Ok, Err, ap, ◌∙◌, arith, add-one, length-take, length-drop}
+use Rattle.std.proofs.Common.{◌≡◌, ◌<◌, ◌+◌, ℕ, zero, suc, List, [], ◌∷◌, false, length, get_or, Result}
+use Rattle.std.proofs.Common.{Ok, Err, ap, ◌∙◌, arith, add-one, length-take, length-drop}
 use Rattle.std.specs.List.Sorted.{IsSortedBy, IsBinarySearchResult, IsSearchInRange}
 use Rattle.std.specs.declared.cmp.Ordering.{Ordering}
 use Rattle.std.specs.declared.cmp.Ordering.TheVariants.{Less, Equal, Greater}

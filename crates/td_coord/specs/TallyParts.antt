@@ -1,5 +1,6 @@
 -- How a `Tally` keeps its parts.
-use Rattle.std.specs.Prelude.{◌≡◌, ◌<◌, ◌≤◌, ◌^◌, ◌-◌, min, ℕ, List, length, reverse, All, Bool, true, false, if◌then◌else◌}
+use Rattle.std.specs.Prelude.{◌≡◌, ◌<◌, ◌≤◌, ◌^◌, ◌-◌, min, ℕ, List, length, reverse}
+use Rattle.std.specs.Prelude.{All, Bool, true, false, if◌then◌else◌}
 use Rattle.std.specs.declared.cmp.Ordering.TheVariants.{Less}
 use Rattle.td_base.specs.Lists.{Successive}
 use Rattle.td_base.specs.Order.{dot_cmp}

@@ -1,5 +1,6 @@
 -- Each proposal has one decision; every site voted on the proposal of a commit, and holds it until it has the commit.
-use Rattle.std.proofs.Common.{◌≡◌, ◌≢◌, ◌⊎◌, ◌<◌, ◌≤◌, ◌++◌, ℕ, List, [], ◌∷◌, length, Bool, true, false, cond, nat_eq, Option, Some, None, refl, sym, ap, ◌∙◌, subst, inl, inr, ⊎_elim, true≢false}
+use Rattle.std.proofs.Common.{◌≡◌, ◌≢◌, ◌⊎◌, ◌<◌, ◌≤◌, ◌++◌, ℕ, List, [], ◌∷◌, length, Bool, true, false, cond}
+use Rattle.std.proofs.Common.{nat_eq, Option, Some, None, refl, sym, ap, ◌∙◌, subst, inl, inr, ⊎_elim, true≢false}
 use Rattle.std.proofs.lemmas.Bool.{eqb-true, eq-eqb}
 use Rattle.std.specs.Prelude.{IsTrue}
 use Rattle.std.specs.Option.{option_or}
@@ -22,7 +23,8 @@ use Rattle.td_machine.specs.Log.{decides, decision, proposed_slot}
 use Rattle.td_machine.specs.Machine.{Machine, start}
 use Rattle.td_machine.specs.Step.{step}
 use Rattle.td_doc.specs.Answers.{is_rooted}
-use Rattle.td_machine.specs.History.{History, Family, IsConsistent, machine_at, IsOpOf, after, history, machine, machine_after, log_of}
+use Rattle.td_machine.specs.History.{History, Family, IsConsistent, machine_at, IsOpOf, after}
+use Rattle.td_machine.specs.History.{history, machine, machine_after, log_of}
 use Rattle.td_base.proofs.Equals.{same_dot_refl, same_dot_true}
 use Rattle.td_machine.proofs.Family.{made_at}
 use Rattle.td_logs.proofs.Moments.{past_in_log, log_after, moment_log}

@@ -1,10 +1,12 @@
 -- At one site: a commit that overlaps a held slot is in the base of the hold's proposal; and an edit that touches a
 -- slot voted on later is in the base of the proposal.
-use Rattle.std.proofs.Common.{◌≡◌, ◌⊎◌, ◌<◌, ◌≤◌, ℕ, zero, suc, List, ◌∷◌, length, true, false, Some, refl, sym, ◌∙◌, subst, inl, inr, ⊎_elim, true≢false, arith}
+use Rattle.std.proofs.Common.{◌≡◌, ◌⊎◌, ◌<◌, ◌≤◌, ℕ, zero, suc, List, ◌∷◌, length, true, false, Some}
+use Rattle.std.proofs.Common.{refl, sym, ◌∙◌, subst, inl, inr, ⊎_elim, true≢false, arith}
 use Rattle.td_base.specs.Lists.{In}
 use Rattle.td_decide.proofs.SiteWords.{SiteWords, Overlap, one_slot, in_first, in_second, Held, Site}
 use Rattle.std.proofs.lemmas.Bool.{cases_Bool}
-use Rattle.td_logs.proofs.Suffixes.{Suffix, whole, more, suffix_keeps, suffix_in, suffix_few, suffix_next, ends, split_end}
+use Rattle.td_logs.proofs.Suffixes.{Suffix, whole, more, suffix_keeps, suffix_in}
+use Rattle.td_logs.proofs.Suffixes.{suffix_few, suffix_next, ends, split_end}
 use Rattle.std.proofs.lemmas.Option.{same_Some}
 
 module _ {Op Id Path : Type 0} (w : SiteWords Op Id Path) (f : Site w) where

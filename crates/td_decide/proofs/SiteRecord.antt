@@ -1,6 +1,8 @@
 -- The record of one site, for the logs of each site of a consistent family; so "in turn" and "no edit beside" hold
 -- there.
-use Rattle.std.proofs.Common.{◌≡◌, ◌≢◌, ◌⊎◌, ◌<◌, ◌≤◌, ◌++◌, ℕ, List, [], ◌∷◌, length, Bool, true, false, ◌&&◌, ◌||◌, not, nat_eq, Option, Some, None, refl, sym, ap, ◌∙◌, subst, inl, inr, ⊎_elim, true≢false, append_assoc, length-append, append-nil, arith}
+use Rattle.std.proofs.Common.{◌≡◌, ◌≢◌, ◌⊎◌, ◌<◌, ◌≤◌, ◌++◌, ℕ, List, [], ◌∷◌, length, Bool, true, false, ◌&&◌}
+use Rattle.std.proofs.Common.{◌||◌, not, nat_eq, Option, Some, None, refl, sym, ap, ◌∙◌, subst, inl, inr, ⊎_elim}
+use Rattle.std.proofs.Common.{true≢false, append_assoc, length-append, append-nil, arith}
 use Rattle.std.proofs.lemmas.Bool.{and_parts, or_left, or_right, not-true, eqb-true, eq-eqb, cases_Bool, or_cases}
 use Rattle.std.specs.Prelude.{IsTrue}
 use Rattle.std.specs.List.{list_all, list_any}
@@ -49,15 +51,20 @@ use Rattle.td_logs.proofs.Words.{held_by, holds, atom_at, focus, focus_by, born,
 use Rattle.td_logs.proofs.DocumentFacts.{nobody}
 use Rattle.td_decide.specs.Voted.{IsHeld}
 use Rattle.td_logs.proofs.Passes.{Passes, passes_parts, passes_from}
-use Rattle.td_logs.proofs.Rows.{Standing, standing, place_is, place_at, on_way, holds_of, held_in, in_slot, within_of, contains_root, both_hold, root_first, root_second, same_overlap, atom_overlap, atom_overlap_back}
+use Rattle.td_logs.proofs.Rows.{Standing, standing, place_is, place_at, on_way, holds_of, held_in}
+use Rattle.td_logs.proofs.Rows.{in_slot, within_of, contains_root, both_hold, root_first, root_second}
+use Rattle.td_logs.proofs.Rows.{same_overlap, atom_overlap, atom_overlap_back}
 use Rattle.td_logs.proofs.LogRows.{rows_born, born_true, born_inserted, born_dot, run_places}
-use Rattle.td_logs.proofs.Bases.{op_in, tail, causal, past_older, past_in, one_op, in_base, base_log, base_onward, known, before_is, proposal_of, log_at_is}
+use Rattle.td_logs.proofs.Bases.{op_in, tail, causal, past_older, past_in, one_op, in_base, base_log}
+use Rattle.td_logs.proofs.Bases.{base_onward, known, before_is, proposal_of, log_at_is}
 use Rattle.td_logs.proofs.Steps.{commit_slot, commit_body, doc, slot_known, stays}
 use Rattle.td_logs.proofs.Commits.{focus_commit, commit_of, commit_slot_of}
-use Rattle.td_logs.proofs.RowsBefore.{RowWas, same_path, put_in, within_slot, row_was, Hangs, hangs, AtMiddle, at_middle}
+use Rattle.td_logs.proofs.RowsBefore.{RowWas, same_path, put_in, within_slot, row_was}
+use Rattle.td_logs.proofs.RowsBefore.{Hangs, hangs, AtMiddle, at_middle}
 use Rattle.td_logs.proofs.SameRows.{fits_all}
 use Rattle.td_decide.proofs.Traces.{Came, Yes, traced_end, IsClear}
-use Rattle.td_decide.proofs.Decided.{everywhere, rooted, apart, came, said_yes, one_decision, decides_own, HoldAt, hold_at}
+use Rattle.td_decide.proofs.Decided.{everywhere, rooted, apart, came, said_yes}
+use Rattle.td_decide.proofs.Decided.{one_decision, decides_own, HoldAt, hold_at}
 use Rattle.td_decide.proofs.SiteFacts.{dots_from, commit_listed}
 use Rattle.td_order.specs.Show.{deletes}
 use Rattle.td_base.proofs.Equals.{same_id_true}

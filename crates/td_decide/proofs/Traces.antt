@@ -1,5 +1,7 @@
 -- What a site did, operation by operation: the machine before each, and what was known there.
-use Rattle.std.proofs.Common.{◌≡◌, ◌≢◌, ◌<◌, ◌≤◌, ◌-◌, ◌++◌, ℕ, List, [], ◌∷◌, length, Bool, true, false, nat_lt, Some, None, refl, sym, ap, ◌∙◌, subst, inl, inr, ⊎_elim, true≢false, append-nil, if◌then◌else◌, arith}
+use Rattle.std.proofs.Common.{◌≡◌, ◌≢◌, ◌<◌, ◌≤◌, ◌-◌, ◌++◌, ℕ, List, [], ◌∷◌, length, Bool, true}
+use Rattle.std.proofs.Common.{false, nat_lt, Some, None, refl, sym, ap, ◌∙◌, subst, inl, inr, ⊎_elim}
+use Rattle.std.proofs.Common.{true≢false, append-nil, if◌then◌else◌, arith}
 use Rattle.std.proofs.lemmas.Bool.{ltb-true, ltb-false, or_left}
 use Rattle.td_base.specs.Value.{DotValue}
 use Rattle.td_base.specs.Lists.{In}
@@ -21,7 +23,9 @@ use Rattle.td_machine.specs.Making.{done, make}
 use Rattle.td_machine.specs.Decision.{revise, counted as counted_vote}
 use Rattle.td_machine.specs.Taking.{answer, vote_on, keep_waiting, forget}
 use Rattle.td_machine.specs.History.{History, Family, IsConsistent, after, history, machine, machine_after}
-use Rattle.td_machine.proofs.Parts.{MayMake, IsOpenAt, IsFit, IsCounting, IsBuilt, Goes, Part, Makes, Proposes, Counts, Takes, Agrees, Declines, Delays, Forgets, IsDone, Own, Other, Begins, proposed_here, by_parts}
+use Rattle.td_machine.proofs.Parts.{MayMake, IsOpenAt, IsFit, IsCounting, IsBuilt, Goes, Part, Makes}
+use Rattle.td_machine.proofs.Parts.{Proposes, Counts, Takes, Agrees, Declines, Delays, Forgets, IsDone}
+use Rattle.td_machine.proofs.Parts.{Own, Other, Begins, proposed_here, by_parts}
 use Rattle.td_machine.proofs.Turns.{counted, comes_next}
 use Rattle.td_machine.proofs.Induction.{IsSent, built_at}
 use Rattle.td_machine.proofs.Ballots.{find_ballot}
@@ -29,7 +33,8 @@ use Rattle.td_machine.proofs.Family.{not_older}
 use Rattle.td_machine.proofs.Holding.{held_none}
 use Rattle.td_base.proofs.Equals.{same_dot_refl, same_dot_true}
 use Rattle.td_logs.proofs.Moments.{moment_of}
-use Rattle.td_decide.proofs.Ballots.{all_numbers, Core, NewOp, core_done, core_send, core_hold, core_vote, core_count, core_propose}
+use Rattle.td_decide.proofs.Ballots.{all_numbers, Core, NewOp, core_done, core_send}
+use Rattle.td_decide.proofs.Ballots.{core_hold, core_vote, core_count, core_propose}
 use Rattle.td_logs.proofs.Fitting.{IsFitting, fitted, IsDecisionIn, FitsBody, Fits}
 use Rattle.td_decide.proofs.VotesSent.{IsVoting, voting, no_slot}
 use Rattle.td_logs.proofs.Bases.{slot_from, history_past}

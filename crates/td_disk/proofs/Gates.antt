@@ -1,5 +1,6 @@
 -- What is left of a file with a closed gate when a piece is written behind it, and when the gate is opened.
-use Rattle.std.proofs.Common.{◌≡◌, ◌≢◌, inl, inr, ℕ, ◌+◌, ◌<◌, List, [], ◌∷◌, ◌++◌, length, get_or, take, drop, refl, sym, ◌∙◌, ap, arith, append_assoc, length-append, take-append-drop}
+use Rattle.std.proofs.Common.{◌≡◌, ◌≢◌, inl, inr, ℕ, ◌+◌, ◌<◌, List, [], ◌∷◌, ◌++◌, length, get_or, take, drop, refl}
+use Rattle.std.proofs.Common.{sym, ◌∙◌, ap, arith, append_assoc, length-append, take-append-drop}
 use Rattle.std.proofs.lemmas.Bool.{cases_eq}
 use Rattle.std.proofs.lemmas.List.{take_at, drop_at, drop_more}
 use Rattle.td_disk.specs.Device.{overwritten, Torn}
@@ -29,13 +30,15 @@ module _ (front : List ℕ) (gate : ℕ) (rest : List ℕ) where
   drop_shut = ap (λ (l : List ℕ). drop (length front + 1) l) split ∙ drop_at shut rest (length front + 1) length_shut
 
   -- whatever is torn behind the gate, the front and the gate stand
-  pub torn_behind : (n : ℕ) (c : List ℕ) → Torn (length front + 1) n file c → c ≡ front ++ gate ∷ drop (length front + 1) c
+  pub torn_behind : (n : ℕ) (c : List ℕ) → Torn (length front + 1) n file c → c ≡ front
+      ++ gate ∷ drop (length front + 1) c
   torn_behind n c torn =
       sym (take-append-drop (length front + 1) c)
       ∙ ap (λ (l : List ℕ). l ++ drop (length front + 1) c) (torn.before ∙ take_shut)
       ∙ append_assoc front (gate ∷ []) (drop (length front + 1) c)
 
-  pub written_behind : (bytes : List ℕ) → overwritten file (length front + 1) bytes ≡ front ++ gate ∷ (bytes ++ drop (length front + 1 + length bytes) file)
+  pub written_behind : (bytes : List ℕ) → overwritten file (length front + 1) bytes ≡ front
+      ++ gate ∷ (bytes ++ drop (length front + 1 + length bytes) file)
   written_behind bytes =
       append_assoc (take (length front + 1) file) bytes (drop (length front + 1 + length bytes) file)
       ∙ ap (λ (l : List ℕ). l ++ (bytes ++ drop (length front + 1 + length bytes) file)) take_shut
@@ -46,7 +49,8 @@ module _ (front : List ℕ) (gate : ℕ) (rest : List ℕ) where
   torn_gate c torn =
       let long : length front < length c = omega (arith, torn.no_shorter, length_file) in
       let behind : drop (length front) c ≡ get_or c (length front) 0 ∷ rest =
-      drop_more c (length front) 0 long ∙ ap (λ (l : List ℕ). get_or c (length front) 0 ∷ l) (torn.behind ∙ drop_shut) in
+      drop_more c (length front) 0 long ∙ ap (λ (l : List ℕ). get_or c (length front) 0 ∷ l) (torn.behind ∙ drop_shut)
+      in
       sym (take-append-drop (length front) c)
       ∙ ap (λ (l : List ℕ). l ++ drop (length front) c) (torn.before ∙ take_at front (gate ∷ rest) (length front) refl)
       ∙ ap (λ (l : List ℕ). front ++ l) behind
@@ -61,7 +65,8 @@ module _ (front : List ℕ) (gate : ℕ) (rest : List ℕ) where
   stands_shut closed = record { gate = gate; rest = rest; shut = closed; is = refl }
 
 -- a gate over a whole piece is open or it isn't
-pub at_any_gate : (front body rest : List ℕ) (gate : ℕ) → StandsBeforeOrAfter front (1 ∷ body) (front ++ gate ∷ (body ++ 0 ∷ rest))
+pub at_any_gate : (front body rest : List ℕ) (gate : ℕ)
+    → StandsBeforeOrAfter front (1 ∷ body) (front ++ gate ∷ (body ++ 0 ∷ rest))
 at_any_gate front body rest gate = elim (cases_eq gate 1) [
   | inl is_open ↦ inr (record {
     gate = 0;

@@ -1,5 +1,7 @@
 -- What a disk reads as, and what a crash leaves of it, while a piece is added to a file.
-use Rattle.std.proofs.Common.{◌≡◌, ◌≢◌, inl, ℕ, ◌+◌, ◌-◌, ◌<◌, List, [], ◌∷◌, ◌++◌, length, take, drop, refl, sym, ◌∙◌, ap, subst, arith, append_assoc, length-append, slice_index, take-append-drop, length-drop}
+use Rattle.std.proofs.Common.{◌≡◌, ◌≢◌, inl, ℕ, ◌+◌, ◌-◌, ◌<◌, List, [], ◌∷◌, ◌++◌, length, take}
+use Rattle.std.proofs.Common.{drop, refl, sym, ◌∙◌, ap, subst, arith, append_assoc, length-append}
+use Rattle.std.proofs.Common.{slice_index, take-append-drop, length-drop}
 use Rattle.std.proofs.lemmas.List.{take_at, drop_more, take_all, length-take-le}
 use Rattle.td_disk.specs.declared.disk.Disk as disk
 use Rattle.td_disk.specs.Device.{overwritten, Torn}
@@ -15,8 +17,11 @@ at_seam (x ∷ xs) y ys = at_seam xs y ys
 
 pub not_both : (front body file : List ℕ) → Stands front file → ¬ Stands (front ++ 1 ∷ body) file
 not_both front body file without with =
-    let behind : file ≡ front ++ 1 ∷ (body ++ with.gate ∷ with.rest) = with.is ∙ append_assoc front (1 ∷ body) (with.gate ∷ with.rest) in
-    without.shut (sym (at_seam front without.gate without.rest) ∙ ap (λ (l : List ℕ). slice_index l (length front)) (sym without.is ∙ behind) ∙ at_seam front 1 (body ++ with.gate ∷ with.rest))
+    let behind : file ≡ front ++ 1 ∷ (body ++ with.gate ∷ with.rest) = with.is
+    ∙ append_assoc front (1 ∷ body) (with.gate ∷ with.rest) in
+    without.shut (sym (at_seam front without.gate without.rest)
+    ∙ ap (λ (l : List ℕ). slice_index l (length front)) (sym without.is ∙ behind)
+    ∙ at_seam front 1 (body ++ with.gate ∷ with.rest))
 
 -- a file with a closed gate, in its parts
 pub stands_of : (file : List ℕ) (end : ℕ) → end < length file → slice_index file end ≢ 1 → Stands (take end file) file
@@ -34,10 +39,12 @@ pub record Grown (front bytes now : List ℕ) (place : ℕ) : Type 0 where
   pub within : place < length now
   pub shut : slice_index now place ≢ 1
 
-module _ (file front rest : List ℕ) (gate end : ℕ) (is : file ≡ front ++ gate ∷ rest) (long : length front ≡ end) (bytes body : List ℕ) (piece : bytes ≡ 1 ∷ body ++ 0 ∷ []) where
+module _ (file front rest : List ℕ) (gate end : ℕ) (is : file ≡ front ++ gate ∷ rest) (long : length front ≡ end)
+    (bytes body : List ℕ) (piece : bytes ≡ 1 ∷ body ++ 0 ∷ []) where
   pub piece_is : piece_of bytes ≡ 1 ∷ body
   piece_is =
-      let size : length bytes - 1 ≡ length (1 ∷ body) = omega (arith, ap length piece, length-append (1 ∷ body) (0 ∷ [])) in
+      let size : length bytes - 1 ≡ length (1 ∷ body) =
+      omega (arith, ap length piece, length-append (1 ∷ body) (0 ∷ [])) in
       ap (λ (l : List ℕ). take (length bytes - 1) l) piece ∙ take_at (1 ∷ body) (0 ∷ []) (length bytes - 1) (sym size)
 
   abbrev pub P : List ℕ → Type 0
@@ -59,12 +66,16 @@ module _ (file front rest : List ℕ) (gate end : ℕ) (is : file ≡ front ++ g
 
   pub staged_is : overwritten file (end + 1) (drop 1 bytes) ≡ staged
   staged_is =
-      let at_front : overwritten (front ++ gate ∷ rest) (length front + 1) (drop 1 bytes) ≡ front ++ gate ∷ (drop 1 bytes ++ drop (length front + 1 + length (drop 1 bytes)) (front ++ gate ∷ rest)) =
+      let at_front : overwritten (front ++ gate ∷ rest) (length front + 1) (drop 1 bytes) ≡ front
+      ++ gate ∷ (drop 1 bytes ++ drop (length front + 1 + length (drop 1 bytes)) (front ++ gate ∷ rest)) =
       written_behind front gate rest (drop 1 bytes) in
       let here : overwritten file (end + 1) (drop 1 bytes) ≡ front ++ gate ∷ (drop 1 bytes ++ tail) =
-      subst (λ (f : List ℕ). overwritten f (end + 1) (drop 1 bytes) ≡ front ++ gate ∷ (drop 1 bytes ++ drop (end + 1 + length (drop 1 bytes)) f)) (sym is)
-      (subst (λ (n : ℕ). overwritten (front ++ gate ∷ rest) (n + 1) (drop 1 bytes) ≡ front ++ gate ∷ (drop 1 bytes ++ drop (n + 1 + length (drop 1 bytes)) (front ++ gate ∷ rest))) long at_front) in
-      here ∙ ap (λ (l : List ℕ). front ++ gate ∷ (l ++ tail)) behind ∙ ap (λ (l : List ℕ). front ++ gate ∷ l) (append_assoc body (0 ∷ []) tail)
+      subst (λ (f : List ℕ). overwritten f (end + 1) (drop 1 bytes) ≡ front
+      ++ gate ∷ (drop 1 bytes ++ drop (end + 1 + length (drop 1 bytes)) f)) (sym is)
+      (subst (λ (n : ℕ). overwritten (front ++ gate ∷ rest) (n + 1) (drop 1 bytes) ≡ front
+      ++ gate ∷ (drop 1 bytes ++ drop (n + 1 + length (drop 1 bytes)) (front ++ gate ∷ rest))) long at_front) in
+      here ∙ ap (λ (l : List ℕ). front ++ gate ∷ (l ++ tail)) behind
+      ∙ ap (λ (l : List ℕ). front ++ gate ∷ l) (append_assoc body (0 ∷ []) tail)
 
   pub grown_is : overwritten staged end (1 ∷ []) ≡ grown
   grown_is = subst (λ (n : ℕ). overwritten staged n (1 ∷ []) ≡ grown) long (written_gate front gate (body ++ 0 ∷ tail))
@@ -73,8 +84,14 @@ module _ (file front rest : List ℕ) (gate end : ℕ) (is : file ≡ front ++ g
   pub behind_torn : gate ≢ 1 → (n : ℕ) (c : List ℕ) → Torn (end + 1) n file c → P c
   behind_torn shut n c torn =
       let here : Torn (end + 1) n (front ++ gate ∷ rest) c = subst (λ (f : List ℕ). Torn (end + 1) n f c) is torn in
-      let torn_at : Torn (length front + 1) n (front ++ gate ∷ rest) c = subst (λ (m : ℕ). Torn (m + 1) n (front ++ gate ∷ rest) c) (sym long) here in
-      inl (record { gate = gate; rest = drop (length front + 1) c; shut = shut; is = torn_behind front gate rest n c torn_at })
+      let torn_at : Torn (length front + 1) n (front ++ gate ∷ rest) c =
+      subst (λ (m : ℕ). Torn (m + 1) n (front ++ gate ∷ rest) c) (sym long) here in
+      inl (record {
+        gate = gate;
+        rest = drop (length front + 1) c;
+        shut = shut;
+        is = torn_behind front gate rest n c torn_at;
+      })
 
   -- whatever is torn at the gate, the front stands with the piece or without it
   pub gate_torn : (c : List ℕ) → Torn end 1 staged c → P c
@@ -86,19 +103,25 @@ module _ (file front rest : List ℕ) (gate end : ℕ) (is : file ≡ front ++ g
 
   pub grown_stands : (now : List ℕ) → now ≡ grown → Grown front bytes now (end + (length bytes - 1))
   grown_stands now is_grown =
-      let size : length bytes - 1 ≡ length (1 ∷ body) = omega (arith, ap length piece, length-append (1 ∷ body) (0 ∷ [])) in
-      let place : length (front ++ 1 ∷ body) ≡ end + (length bytes - 1) = omega (arith, long, size, length-append front (1 ∷ body)) in
+      let size : length bytes - 1 ≡ length (1 ∷ body) =
+      omega (arith, ap length piece, length-append (1 ∷ body) (0 ∷ [])) in
+      let place : length (front ++ 1 ∷ body) ≡ end + (length bytes - 1) =
+      omega (arith, long, size, length-append front (1 ∷ body)) in
       let parts : now ≡ (front ++ 1 ∷ body) ++ 0 ∷ tail = is_grown ∙ sym (append_assoc front (1 ∷ body) (0 ∷ tail)) in
       let front_now : take (end + (length bytes - 1)) now ≡ front ++ 1 ∷ body =
-      ap (λ (l : List ℕ). take (end + (length bytes - 1)) l) parts ∙ take_at (front ++ 1 ∷ body) (0 ∷ tail) (end + (length bytes - 1)) place in
+      ap (λ (l : List ℕ). take (end + (length bytes - 1)) l) parts
+      ∙ take_at (front ++ 1 ∷ body) (0 ∷ tail) (end + (length bytes - 1)) place in
       record {
         front_is = front_now ∙ ap (λ (l : List ℕ). front ++ l) (sym piece_is);
         within = omega (arith, place, ap length parts, length-append (front ++ 1 ∷ body) (0 ∷ tail));
-        shut = subst (λ (l : List ℕ). slice_index l (end + (length bytes - 1)) ≢ 1) (sym parts) (subst (λ (n : ℕ). slice_index ((front ++ 1 ∷ body) ++ 0 ∷ tail) n ≢ 1) place (subst (λ (n : ℕ). n ≢ 1) (sym (at_seam (front ++ 1 ∷ body) 0 tail)) (omega arith)));
+        shut = subst (λ (l : List ℕ). slice_index l (end + (length bytes - 1)) ≢ 1) (sym parts)
+            (subst (λ (n : ℕ). slice_index ((front ++ 1 ∷ body) ++ 0 ∷ tail) n ≢ 1) place
+            (subst (λ (n : ℕ). n ≢ 1) (sym (at_seam (front ++ 1 ∷ body) 0 tail)) (omega arith)));
       }
 
 -- The two puts of a piece, at a disk that holds a file with a closed gate at this place.
-module _ {D : Type 0} (w : disk.Ghosts D) (old : D) (end : ℕ) (bytes : List ℕ) (within : end < length (w.reads old)) (shut : slice_index (w.reads old) end ≢ 1) (piece : IsPiece bytes) where
+module _ {D : Type 0} (w : disk.Ghosts D) (old : D) (end : ℕ) (bytes : List ℕ) (within : end < length (w.reads old))
+    (shut : slice_index (w.reads old) end ≢ 1) (piece : IsPiece bytes) where
   abbrev held : List ℕ
   held = w.reads old
 
@@ -120,19 +143,29 @@ module _ {D : Type 0} (w : disk.Ghosts D) (old : D) (end : ℕ) (bytes : List �
 
   pub behind_put : (mid : D) (n : ℕ) → LeavesOnly w old mid (Torn (end + 1) n held) → LeavesOnly w old mid Q
   behind_put mid n only =
-      weakened w old mid (Torn (end + 1) n held) Q only (behind_torn held (take end held) stands.rest stands.gate end stands.is front_long bytes piece.body piece.is stands.shut n)
+      weakened w old mid (Torn (end + 1) n held) Q only
+      (behind_torn held (take end held) stands.rest stands.gate end stands.is front_long bytes piece.body piece.is
+      stands.shut n)
 
   is_staged : (mid : D) → w.reads mid ≡ overwritten held (end + 1) rest_of → w.reads mid ≡ put_behind
   is_staged mid put =
-      let sliced : rest_of ≡ drop 1 bytes = take_all (length bytes - 1) (drop 1 bytes) (omega (arith, length-drop 1 bytes)) in
-      put ∙ ap (λ (l : List ℕ). overwritten held (end + 1) l) sliced ∙ staged_is held (take end held) stands.rest stands.gate end stands.is front_long bytes piece.body piece.is
+      let sliced : rest_of ≡ drop 1 bytes = take_all (length bytes - 1) (drop 1 bytes)
+      (omega (arith, length-drop 1 bytes)) in
+      put ∙ ap (λ (l : List ℕ). overwritten held (end + 1) l) sliced
+      ∙ staged_is held (take end held) stands.rest stands.gate end stands.is front_long bytes piece.body piece.is
 
-  pub gate_put : (mid new : D) → w.reads mid ≡ overwritten held (end + 1) rest_of → LeavesOnly w mid new (Torn end 1 (w.reads mid)) → LeavesOnly w mid new Q
+  pub gate_put : (mid new : D) → w.reads mid ≡ overwritten held (end + 1) rest_of
+      → LeavesOnly w mid new (Torn end 1 (w.reads mid)) → LeavesOnly w mid new Q
   gate_put mid new put only =
       weakened w mid new (Torn end 1 (w.reads mid)) Q only
-      (λ (c : List ℕ) (torn : Torn end 1 (w.reads mid) c). gate_torn held (take end held) stands.rest stands.gate end stands.is front_long bytes piece.body piece.is c (subst (λ (f : List ℕ). Torn end 1 f c) (is_staged mid put) torn))
+      (λ (c : List ℕ) (torn : Torn end 1 (w.reads mid) c). gate_torn held (take end held) stands.rest stands.gate end
+      stands.is front_long bytes piece.body piece.is c
+      (subst (λ (f : List ℕ). Torn end 1 f c) (is_staged mid put) torn))
 
-  pub both_put : (mid new : D) → w.reads mid ≡ overwritten held (end + 1) rest_of → w.reads new ≡ overwritten (w.reads mid) end (1 ∷ []) → Grown (take end held) bytes (w.reads new) (end + (length bytes - 1))
+  pub both_put : (mid new : D) → w.reads mid ≡ overwritten held (end + 1) rest_of → w.reads new
+      ≡ overwritten (w.reads mid) end (1 ∷ []) → Grown (take end held) bytes (w.reads new) (end + (length bytes - 1))
   both_put mid new put opened =
-      grown_stands held (take end held) stands.rest stands.gate end stands.is front_long bytes piece.body piece.is (w.reads new)
-      (opened ∙ ap (λ (l : List ℕ). overwritten l end (1 ∷ [])) (is_staged mid put) ∙ grown_is held (take end held) stands.rest stands.gate end stands.is front_long bytes piece.body piece.is)
+      grown_stands held (take end held) stands.rest stands.gate end stands.is front_long bytes piece.body piece.is
+      (w.reads new)
+      (opened ∙ ap (λ (l : List ℕ). overwritten l end (1 ∷ [])) (is_staged mid put)
+      ∙ grown_is held (take end held) stands.rest stands.gate end stands.is front_long bytes piece.body piece.is)

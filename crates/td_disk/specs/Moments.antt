@@ -1,4 +1,5 @@
--- What is said of a disk by its trait's words: what is kept of it now, and what a crash leaves at each moment of a call.
+-- What is said of a disk by its trait's words: what is kept of it now, and what a crash leaves at each moment of a
+-- call.
 use Rattle.std.specs.Prelude.{◌≡◌, ◌⊎◌, ◌≤◌, ℕ, List, true}
 use Rattle.td_disk.specs.declared.disk.Disk as disk
 use Rattle.td_disk.specs.Device.{Only}

@@ -45,9 +45,9 @@ impl<D: Disk> Gated<D> {
         self.disk
     }
 
-    /// Adds a piece; `bytes` has the next closed gate behind it. A crash at any moment of the call leaves the front with
-    /// the piece or without it; at Ok it is kept, and each later crash leaves a file that has it. After a fault the file
-    /// is not settled, and grows no more.
+    /// Adds a piece; `bytes` has the next closed gate behind it. A crash at any moment of the call leaves the front
+    /// with the piece or without it; at Ok it is kept, and each later crash leaves a file that has it. After a fault
+    /// the file is not settled, and grows no more.
     pub fn grow(&mut self, bytes: &[u8]) -> Result<(), Failed>
         requires settled { IsSettled D.Disk self.old }
         requires piece { IsPiece bytes.now }

@@ -1,5 +1,6 @@
 -- A delete leaves a document, moves no row, and takes one atom out of the text.
-use Rattle.std.proofs.Common.{◌≡◌, ◌≢◌, ◌⊎◌, List, [], ◌∷◌, Bool, true, false, not, cond, map, filter, refl, sym, ap, ◌∙◌, subst, inl, inr, ⊎_elim, true≢false}
+use Rattle.std.proofs.Common.{◌≡◌, ◌≢◌, ◌⊎◌, List, [], ◌∷◌, Bool, true, false, not, cond, map, filter}
+use Rattle.std.proofs.Common.{refl, sym, ap, ◌∙◌, subst, inl, inr, ⊎_elim, true≢false}
 use Rattle.std.specs.declared.cmp.Ordering.{Ordering}
 use Rattle.std.specs.declared.cmp.Ordering.TheVariants.{Less, Equal, Greater}
 use Rattle.std.specs.Ordering.{is_lt, is_eq, ordering_reverse}
@@ -26,7 +27,8 @@ greater_of Less h k = absurd (true≢false h)
 greater_of Equal h k = absurd (true≢false k)
 greater_of Greater h k = refl
 
-add_in_at : (d e : DotValue) (dots : List DotValue) (b c : Bool) → is_eq (dot_cmp d e) ≡ c → In d (add_dot d dots) → In d (cond b (d ∷ e ∷ dots) (cond c (e ∷ dots) (e ∷ add_dot d dots)))
+add_in_at : (d e : DotValue) (dots : List DotValue) (b c : Bool) → is_eq (dot_cmp d e) ≡ c → In d (add_dot d dots)
+    → In d (cond b (d ∷ e ∷ dots) (cond c (e ∷ dots) (e ∷ add_dot d dots)))
 add_in_at d e dots true c h ih = inl refl
 add_in_at d e dots false true h ih = inl (equal_dots d e (is_eq_true _ h))
 add_in_at d e dots false false h ih = inr ih
@@ -35,29 +37,38 @@ pub add_in : (d : DotValue) (dots : List DotValue) → In d (add_dot d dots)
 add_in d [] = inl refl
 add_in d (e ∷ dots) = add_in_at d e dots (is_lt (dot_cmp d e)) (is_eq (dot_cmp d e)) refl (add_in d dots)
 
-in_add_at : (d e x : DotValue) (dots : List DotValue) (b c : Bool) → (In x (add_dot d dots) → (x ≡ d) ⊎ In x dots) → In x (cond b (d ∷ e ∷ dots) (cond c (e ∷ dots) (e ∷ add_dot d dots))) → (x ≡ d) ⊎ In x (e ∷ dots)
+in_add_at : (d e x : DotValue) (dots : List DotValue) (b c : Bool) → (In x (add_dot d dots) → (x ≡ d) ⊎ In x dots)
+    → In x (cond b (d ∷ e ∷ dots) (cond c (e ∷ dots) (e ∷ add_dot d dots))) → (x ≡ d) ⊎ In x (e ∷ dots)
 in_add_at d e x dots true c ih h = h
 in_add_at d e x dots false true ih h = inr h
-in_add_at d e x dots false false ih h = ⊎_elim (λ (q : x ≡ e). inr (inl q)) (λ (k : In x (add_dot d dots)). ⊎_elim (λ (q : x ≡ d). inl q) (λ (j : In x dots). inr (inr j)) (ih k)) h
+in_add_at d e x dots false false ih h = ⊎_elim (λ (q : x ≡ e). inr (inl q))
+    (λ (k : In x (add_dot d dots)). ⊎_elim (λ (q : x ≡ d). inl q) (λ (j : In x dots). inr (inr j)) (ih k)) h
 
 pub in_add : (d x : DotValue) (dots : List DotValue) → In x (add_dot d dots) → (x ≡ d) ⊎ In x dots
 in_add d x [] h = h
 in_add d x (e ∷ dots) h = in_add_at d e x dots (is_lt (dot_cmp d e)) (is_eq (dot_cmp d e)) (in_add d x dots) h
 
-add_ordered_at : (d e : DotValue) (dots : List DotValue) (b c : Bool) → is_lt (dot_cmp d e) ≡ b → is_eq (dot_cmp d e) ≡ c → Successive Earlier (e ∷ dots) → Successive Earlier (add_dot d dots) → Successive Earlier (cond b (d ∷ e ∷ dots) (cond c (e ∷ dots) (e ∷ add_dot d dots)))
+add_ordered_at : (d e : DotValue) (dots : List DotValue) (b c : Bool) → is_lt (dot_cmp d e) ≡ b → is_eq (dot_cmp d e)
+    ≡ c → Successive Earlier (e ∷ dots) → Successive Earlier (add_dot d dots)
+    → Successive Earlier (cond b (d ∷ e ∷ dots) (cond c (e ∷ dots) (e ∷ add_dot d dots)))
 add_ordered_at d e dots true c h k up ih =
     let first : Earlier d e = less_of _ h in
     ((first, all_of (Earlier d) dots (λ x i. dot_total.trans d e x first (all_in (Earlier e) dots up.0 x i))), up)
 add_ordered_at d e dots false true h k up ih = up
 add_ordered_at d e dots false false h k up ih =
-    let later : Earlier e d = dot_total.antisymm e d ∙ greater_of _ h k in
-    (all_of (Earlier e) (add_dot d dots) (λ x i. ⊎_elim (λ (q : x ≡ d). subst (Earlier e) (sym q) later) (λ (j : In x dots). all_in (Earlier e) dots up.0 x j) (in_add d x dots i)), ih)
+    let later : Earlier e d = dot_total.antisymm e d ∙ greater_of _ h k in (
+      all_of (Earlier e) (add_dot d dots) (λ x i. ⊎_elim (λ (q : x ≡ d). subst (Earlier e) (sym q) later)
+          (λ (j : In x dots). all_in (Earlier e) dots up.0 x j) (in_add d x dots i)),
+      ih,
+    )
 
 add_ordered : (d : DotValue) (dots : List DotValue) → Successive Earlier dots → Successive Earlier (add_dot d dots)
 add_ordered d [] up = (tt, tt)
-add_ordered d (e ∷ dots) up = add_ordered_at d e dots (is_lt (dot_cmp d e)) (is_eq (dot_cmp d e)) refl refl up (add_ordered d dots up.1)
+add_ordered d (e ∷ dots) up = add_ordered_at d e dots (is_lt (dot_cmp d e)) (is_eq (dot_cmp d e)) refl refl up
+    (add_ordered d dots up.1)
 
-some_dot_at : (d e : DotValue) (dots more : List DotValue) (b c : Bool) → is_empty_list (cond b (d ∷ e ∷ dots) (cond c (e ∷ dots) (e ∷ more))) ≡ false
+some_dot_at : (d e : DotValue) (dots more : List DotValue) (b c : Bool)
+    → is_empty_list (cond b (d ∷ e ∷ dots) (cond c (e ∷ dots) (e ∷ more))) ≡ false
 some_dot_at d e dots more true c = refl
 some_dot_at d e dots more false true = refl
 some_dot_at d e dots more false false = refl
@@ -92,13 +103,15 @@ module _ (x : AtomIdValue) (by : DotValue) where
   mark_id : (r : DocRow) → row_id (mark r) ≡ row_id r
   mark_id r = ap (λ (a : NamedAtom). a.id) (mark_named r)
 
-  mark_ordered_at : (r : DocRow) (b : Bool) → Successive Earlier r.deletes → Successive Earlier (cond b (marked r) r).deletes
+  mark_ordered_at : (r : DocRow) (b : Bool) → Successive Earlier r.deletes
+      → Successive Earlier (cond b (marked r) r).deletes
   mark_ordered_at r true up = add_ordered by r.deletes up
   mark_ordered_at r false up = up
 
   -- no row moves
 
-  pub delete_paths : (rows : List DocRow) → map (λ (r : DocRow). r.path) (delete x by rows) ≡ map (λ (r : DocRow). r.path) rows
+  pub delete_paths : (rows : List DocRow) → map (λ (r : DocRow). r.path) (delete x by rows)
+      ≡ map (λ (r : DocRow). r.path) rows
   delete_paths [] = refl
   delete_paths (r ∷ rows) = λ i. mark_path r i ∷ delete_paths rows i
 
@@ -116,20 +129,26 @@ module _ (x : AtomIdValue) (by : DotValue) where
 
   pub delete_document : (rows : List DocRow) → IsDocument rows → IsDocument (delete x by rows)
   delete_document rows d = record {
-    ascending = successive_map Before mark rows (successive_imp Before (λ (r s : DocRow). Before (mark r) (mark s)) still_before rows d.ascending);
-    apart = successive_map Differ mark rows (successive_imp Differ (λ (r s : DocRow). Differ (mark r) (mark s)) still_differ rows d.apart);
-    paths = λ r i. let m = map_In mark r rows i in subst IsPath (sym (ap (λ (q : DocRow). q.path) m.2 ∙ mark_path m.0)) (d.paths m.0 m.1);
+    ascending = successive_map Before mark rows (successive_imp Before (λ (r s : DocRow). Before (mark r) (mark s))
+        still_before rows d.ascending);
+    apart = successive_map Differ mark rows (successive_imp Differ (λ (r s : DocRow). Differ (mark r) (mark s))
+        still_differ rows d.apart);
+    paths = λ r i. let m = map_In mark r rows i in
+        subst IsPath (sym (ap (λ (q : DocRow). q.path) m.2 ∙ mark_path m.0)) (d.paths m.0 m.1);
     rooted = λ r front next rest i e some.
         let m = map_In mark r rows i in
         let at = d.rooted m.0 front next rest m.1 (sym (ap (λ (q : DocRow). q.path) m.2 ∙ mark_path m.0) ∙ e) some in
         (mark at.0, In-map mark at.0 rows at.1, mark_path at.0 ∙ at.2);
-    deletes = λ r i. let m = map_In mark r rows i in subst (λ (q : DocRow). Successive Earlier q.deletes) (sym m.2) (mark_ordered_at m.0 (has_id x m.0) (d.deletes m.0 m.1));
+    deletes = λ r i. let m = map_In mark r rows i in
+        subst (λ (q : DocRow). Successive Earlier q.deletes) (sym m.2)
+        (mark_ordered_at m.0 (has_id x m.0) (d.deletes m.0 m.1));
   }
 
   -- the row that is named, and the others
 
   mark_adds : (r : DocRow) → row_id r ≡ x → In by (mark r).deletes
-  mark_adds r e = subst (λ b. In by (cond b (marked r) r).deletes) (sym (ap (λ (y : AtomIdValue). has_id y r) (sym e) ∙ self_id r)) (add_in by r.deletes)
+  mark_adds r e = subst (λ b. In by (cond b (marked r) r).deletes)
+      (sym (ap (λ (y : AtomIdValue). has_id y r) (sym e) ∙ self_id r)) (add_in by r.deletes)
 
   pub delete_marks : (rows : List DocRow) (r : DocRow) → In r (delete x by rows) → row_id r ≡ x → In by r.deletes
   delete_marks rows r i e =
@@ -140,7 +159,8 @@ module _ (x : AtomIdValue) (by : DotValue) where
   mark_other r e = ap (λ b. cond b (marked r) r) e
 
   pub delete_leaves : (rows : List DocRow) (r : DocRow) → In r rows → row_id r ≢ x → In r (delete x by rows)
-  delete_leaves rows r i n = subst (λ (q : DocRow). In q (delete x by rows)) (mark_other r (has_id-false x r n)) (In-map mark r rows i)
+  delete_leaves rows r i n = subst (λ (q : DocRow). In q (delete x by rows)) (mark_other r (has_id-false x r n))
+      (In-map mark r rows i)
 
   -- the live rows
 
@@ -150,14 +170,20 @@ module _ (x : AtomIdValue) (by : DotValue) where
   abbrev other : DocRow → Bool
   other r = not (has_id x r)
 
-  live_at : (r : DocRow) (rows : List DocRow) (b c : Bool) → has_id x r ≡ b → is_live r ≡ c → live_rows (delete x by rows) ≡ filter other (live_rows rows) → live_rows (mark r ∷ delete x by rows) ≡ filter other (cond c (r ∷ live_rows rows) (live_rows rows))
+  live_at : (r : DocRow) (rows : List DocRow) (b c : Bool) → has_id x r ≡ b → is_live r ≡ c
+      → live_rows (delete x by rows) ≡ filter other (live_rows rows) → live_rows (mark r ∷ delete x by rows)
+      ≡ filter other (cond c (r ∷ live_rows rows) (live_rows rows))
   live_at r rows true true e f ih =
-      ap (λ b. cond b (mark r ∷ live_rows (delete x by rows)) (live_rows (delete x by rows))) (mark_dead r e) ∙ ih ∙ ap (λ b. cond (not b) (r ∷ filter other (live_rows rows)) (filter other (live_rows rows))) (sym e)
-  live_at r rows true false e f ih = ap (λ b. cond b (mark r ∷ live_rows (delete x by rows)) (live_rows (delete x by rows))) (mark_dead r e) ∙ ih
-  live_at r rows false true e f ih =
-      ap (λ b. cond b (mark r ∷ live_rows (delete x by rows)) (live_rows (delete x by rows))) (ap is_live (mark_other r e) ∙ f) ∙ (λ i. mark_other r e i ∷ ih i)
+      ap (λ b. cond b (mark r ∷ live_rows (delete x by rows)) (live_rows (delete x by rows))) (mark_dead r e) ∙ ih
       ∙ ap (λ b. cond (not b) (r ∷ filter other (live_rows rows)) (filter other (live_rows rows))) (sym e)
-  live_at r rows false false e f ih = ap (λ b. cond b (mark r ∷ live_rows (delete x by rows)) (live_rows (delete x by rows))) (ap is_live (mark_other r e) ∙ f) ∙ ih
+  live_at r rows true false e f ih = ap (λ b. cond b (mark r ∷ live_rows (delete x by rows))
+      (live_rows (delete x by rows))) (mark_dead r e) ∙ ih
+  live_at r rows false true e f ih =
+      ap (λ b. cond b (mark r ∷ live_rows (delete x by rows)) (live_rows (delete x by rows)))
+      (ap is_live (mark_other r e) ∙ f) ∙ (λ i. mark_other r e i ∷ ih i)
+      ∙ ap (λ b. cond (not b) (r ∷ filter other (live_rows rows)) (filter other (live_rows rows))) (sym e)
+  live_at r rows false false e f ih = ap (λ b. cond b (mark r ∷ live_rows (delete x by rows))
+      (live_rows (delete x by rows))) (ap is_live (mark_other r e) ∙ f) ∙ ih
 
   pub delete_live : (rows : List DocRow) → live_rows (delete x by rows) ≡ filter other (live_rows rows)
   delete_live [] = refl

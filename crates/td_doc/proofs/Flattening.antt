@@ -13,7 +13,9 @@ use Rattle.td_doc.proofs.ArrayPlaces.{length_array}
 abbrev inside : SlotPath → DocRow → Bool
 inside slot r = slot_contains slot r.path
 
-pub fits : (slot : SlotPath) (rows : List DocRow) → length (rows_beside slot rows) + length (array slot (map named (live_rows (rows_below rows (Some slot))))) ≤ length rows
+pub fits : (slot : SlotPath) (rows : List DocRow)
+    → length (rows_beside slot rows) + length (array slot
+    (map named (live_rows (rows_below rows (Some slot))))) ≤ length rows
 fits slot rows =
     let below = rows_below rows (Some slot) in
     let both = length-filter_both (inside slot) (λ (r : DocRow). not (inside slot r)) (λ r. refl) rows in

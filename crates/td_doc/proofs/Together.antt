@@ -1,5 +1,6 @@
 -- The rows of an array of new identities hang below one node that no row had, so they stand together.
-use Rattle.std.proofs.Common.{◌≡◌, ◌≢◌, ◌⊎◌, ◌/◌, ℕ, List, [], ◌∷◌, ◌++◌, true, false, ◌&&◌, take, drop, length, Option, Some, None, refl, sym, ap, ◌∙◌, subst, inl, inr, ⊎_elim, true≢false}
+use Rattle.std.proofs.Common.{◌≡◌, ◌≢◌, ◌⊎◌, ◌/◌, ℕ, List, [], ◌∷◌, ◌++◌, true, false, ◌&&◌, take, drop, length}
+use Rattle.std.proofs.Common.{Option, Some, None, refl, sym, ap, ◌∙◌, subst, inl, inr, ⊎_elim, true≢false}
 use Rattle.std.specs.Prelude.{IsSome, IsTrue}
 use Rattle.std.specs.Option.{option_map}
 use Rattle.std.specs.declared.cmp.Ordering.TheVariants.{Less}
@@ -39,7 +40,8 @@ begins_more (c ∷ node) rest = ap (λ b. b && begins node (node ++ rest)) (same
 begins_itself : (node : Pairs) → begins node node ≡ true
 begins_itself node = subst (λ (p : Pairs). begins node p ≡ true) (append-nil node) (begins_more node [])
 
-before_all : (node p q : Pairs) → begins node p ≡ false → path_cmp p node ≡ Less → begins node q ≡ true → path_cmp p q ≡ Less
+before_all : (node p q : Pairs) → begins node p ≡ false → path_cmp p node ≡ Less → begins node q ≡ true → path_cmp p q
+    ≡ Less
 before_all node p q out h i =
     ⊎_elim (λ (k : path_cmp p q ≡ Less). k)
     (λ (k : (p ≡ q) ⊎ (path_cmp q p ≡ Less)).
@@ -47,7 +49,8 @@ before_all node p q out h i =
     (λ (m : path_cmp q p ≡ Less). true≢false (sym (begins_between node q p node i (begins_itself node) m h) ∙ out)) k))
     (three_ways p q)
 
-after_all : (node p q : Pairs) → begins node p ≡ false → path_cmp node p ≡ Less → begins node q ≡ true → path_cmp q p ≡ Less
+after_all : (node p q : Pairs) → begins node p ≡ false → path_cmp node p ≡ Less → begins node q ≡ true → path_cmp q p
+    ≡ Less
 after_all node p q out h i =
     ⊎_elim (λ (k : path_cmp q p ≡ Less). k)
     (λ (k : (q ≡ p) ⊎ (path_cmp p q ≡ Less)).
@@ -80,23 +83,28 @@ module _ (node : Pairs) (r : DocRow) (rows : List DocRow) (first : (x : DocRow) 
     front = r ∷ s.front;
     back = s.back;
     is = ap (λ (q : List DocRow). r ∷ q) s.is;
-    before = λ x i. ⊎_elim (λ (e : x ≡ r). subst (λ (q : DocRow). path_cmp q.path node ≡ Less) (sym e) h) (λ (j : In x s.front). s.before x j) i;
+    before = λ x i. ⊎_elim (λ (e : x ≡ r). subst (λ (q : DocRow). path_cmp q.path node ≡ Less) (sym e) h)
+        (λ (j : In x s.front). s.before x j) i;
     after = s.after;
   }
 
-sides : (node : Pairs) (rows : List DocRow) → Successive Before rows → ((r : DocRow) → In r rows → begins node r.path ≡ false) → Sides node rows
+sides : (node : Pairs) (rows : List DocRow) → Successive Before rows
+    → ((r : DocRow) → In r rows → begins node r.path ≡ false) → Sides node rows
 sides node [] up out = record { front = []; back = []; is = refl; before = λ x i. absurd i; after = λ x i. absurd i }
 sides node (r ∷ rows) up out =
-    ⊎_elim (λ (h : path_cmp r.path node ≡ Less). one_before node r rows (λ x i. all_in (Before r) rows up.0 x i) h (sides node rows up.1 (λ x i. out x (inr i))))
+    ⊎_elim (λ (h : path_cmp r.path node ≡ Less). one_before node r rows (λ x i. all_in (Before r) rows up.0 x i) h
+    (sides node rows up.1 (λ x i. out x (inr i))))
     (λ (k : (r.path ≡ node) ⊎ (path_cmp node r.path ≡ Less)).
-    ⊎_elim (λ (e : r.path ≡ node). absurd (true≢false (sym (ap (begins node) e ∙ begins_itself node) ∙ out r (inl refl))))
+    ⊎_elim (λ (e : r.path ≡ node). absurd (true≢false
+    (sym (ap (begins node) e ∙ begins_itself node) ∙ out r (inl refl))))
     (λ (h : path_cmp node r.path ≡ Less). all_after node r rows (λ x i. all_in (Before r) rows up.0 x i) h) k)
     (three_ways r.path node)
 
 -- the node below which an array hangs
 
 begins_side : (node path : Pairs) (side : Bit) → Starts (Below node side) path → begins node path ≡ true
-begins_side node path side s = ap (begins node) (s.is ∙ append_assoc node ((side, s.id) ∷ []) s.rest) ∙ begins_more node ((side, s.id) ∷ s.rest)
+begins_side node path side s = ap (begins node) (s.is ∙ append_assoc node ((side, s.id) ∷ []) s.rest)
+    ∙ begins_more node ((side, s.id) ∷ s.rest)
 
 -- an atom of the array below whose node all its rows hang
 record Top (slot : SlotPath) (atoms : List NamedAtom) (rows : List DocRow) : Type 0 where
@@ -114,9 +122,11 @@ top_of n slot atoms before (middle ∷ after) e =
     inr (record {
       atom = middle;
       is = subst (In middle) e (In-back middle before (middle ∷ after) (inl refl));
-      all = λ r i. ⊎_elim (λ (j : In r left). begins_side node r.path Left (array_starts n (Below node Left) before r j))
+      all = λ r i. ⊎_elim (λ (j : In r left). begins_side node r.path Left
+          (array_starts n (Below node Left) before r j))
           (λ (j : (r ≡ row_in slot middle) ⊎ In r right).
-          ⊎_elim (λ (q : r ≡ row_in slot middle). subst (λ (x : DocRow). begins node x.path ≡ true) (sym q) (begins_itself node))
+          ⊎_elim (λ (q : r ≡ row_in slot middle). subst (λ (x : DocRow). begins node x.path ≡ true) (sym q)
+          (begins_itself node))
           (λ (k : In r right). begins_side node r.path Right (array_starts n (Below node Right) after r k)) j)
           (In-append r left (row_in slot middle ∷ right) i);
     })
@@ -125,7 +135,8 @@ array_top : (slot : SlotPath) (atoms : List NamedAtom) → (array slot atoms ≡
 array_top slot [] = inl refl
 array_top slot (a ∷ atoms) =
     let half = length (a ∷ atoms) / 2 in
-    top_of (length atoms) slot (a ∷ atoms) (take half (a ∷ atoms)) (drop half (a ∷ atoms)) (take-append-drop half (a ∷ atoms))
+    top_of (length atoms) slot (a ∷ atoms) (take half (a ∷ atoms)) (drop half (a ∷ atoms))
+    (take-append-drop half (a ∷ atoms))
 
 -- no row hangs below the node of a new identity
 
@@ -140,7 +151,8 @@ node_some : (slot : SlotPath) (x : AtomIdValue) → path_in slot x ≢ []
 node_some Whole x e = cc
 node_some (Below front bit) x e = not_empty front (bit, x) e
 
-module _ (rows : List DocRow) (d : IsDocument rows) (slot : SlotPath) (a : NamedAtom) (new : (x : DocRow) → In x rows → a.id ≢ row_id x) where
+module _ (rows : List DocRow) (d : IsDocument rows) (slot : SlotPath) (a : NamedAtom)
+    (new : (x : DocRow) → In x rows → a.id ≢ row_id x) where
   no_node : (r : DocRow) → In r rows → r.path ≢ path_in slot a.id
   no_node r i e = new r i (sym (node_id slot a r e))
 
@@ -156,7 +168,8 @@ module _ (rows : List DocRow) (d : IsDocument rows) (slot : SlotPath) (a : Named
 -- an array of new identities stands together
 
 module _ (rows : List DocRow) (d : IsDocument rows) (atoms : List NamedAtom) (new : IsNewIn atoms rows) where
-  together_at : (slot : SlotPath) (front back : List DocRow) → rows ≡ front ++ back → put_rows (array slot atoms) rows ≡ front ++ array slot atoms ++ back
+  together_at : (slot : SlotPath) (front back : List DocRow) → rows ≡ front ++ back → put_rows (array slot atoms) rows
+      ≡ front ++ array slot atoms ++ back
       → IsPutTogether atoms rows (put_rows (array slot atoms) rows)
   together_at slot front back was is = record {
     front = front;
@@ -166,18 +179,23 @@ module _ (rows : List DocRow) (d : IsDocument rows) (atoms : List NamedAtom) (ne
   }
 
   nothing_put : (slot : SlotPath) → array slot atoms ≡ [] → IsPutTogether atoms rows (put_rows (array slot atoms) rows)
-  nothing_put slot none = together_at slot [] rows refl (ap (λ (q : List DocRow). put_rows q rows) none ∙ ap (λ (q : List DocRow). q ++ rows) (sym none))
+  nothing_put slot none = together_at slot [] rows refl
+      (ap (λ (q : List DocRow). put_rows q rows) none ∙ ap (λ (q : List DocRow). q ++ rows) (sym none))
 
-  below_top : (slot : SlotPath) → Top slot atoms (array slot atoms) → IsPutTogether atoms rows (put_rows (array slot atoms) rows)
+  below_top : (slot : SlotPath) → Top slot atoms (array slot atoms)
+      → IsPutTogether atoms rows (put_rows (array slot atoms) rows)
   below_top slot t =
       let node : Pairs = path_in slot t.atom.id in
-      let out : (r : DocRow) → In r rows → begins node r.path ≡ false = none_below rows d slot t.atom (new t.atom t.is) in
+      let out : (r : DocRow) → In r rows → begins node r.path
+      ≡ false = none_below rows d slot t.atom (new t.atom t.is) in
       let s = sides node rows d.ascending out in
       together_at slot s.front s.back s.is
       (ap (put_rows (array slot atoms)) s.is
       ∙ put_between (array slot atoms) s.front s.back (array_ascends (length atoms) slot atoms)
-      (λ r n i j. before_all node r.path n.path (out r (subst (In r) (sym s.is) (In-front r s.front s.back i))) (s.before r i) (t.all n j))
-      (λ n r j i. after_all node r.path n.path (out r (subst (In r) (sym s.is) (In-back r s.front s.back i))) (s.after r i) (t.all n j)))
+      (λ r n i j. before_all node r.path n.path (out r (subst (In r) (sym s.is) (In-front r s.front s.back i)))
+      (s.before r i) (t.all n j))
+      (λ n r j i. after_all node r.path n.path (out r (subst (In r) (sym s.is) (In-back r s.front s.back i)))
+      (s.after r i) (t.all n j)))
 
   array_together : (slot : SlotPath) → IsPutTogether atoms rows (put_rows (array slot atoms) rows)
   array_together slot = ⊎_elim (nothing_put slot) (below_top slot) (array_top slot atoms)
@@ -192,6 +210,8 @@ module _ (rows : List DocRow) (d : IsDocument rows) (atoms : List NamedAtom) (ne
   put_together (At x bit) rooted = put_at x bit (find_row x rows) rooted
 
 -- a new run stands together in any slot whose atom is a row
-pub run_together : (rows : List DocRow) (slot : Slot) (dot : DotValue) (run : List (List ℕ)) → IsDocument rows → IsFresh rows dot → IsTrue (is_rooted rows slot)
+pub run_together : (rows : List DocRow) (slot : Slot) (dot : DotValue) (run : List (List ℕ)) → IsDocument rows
+    → IsFresh rows dot → IsTrue (is_rooted rows slot)
     → IsPutTogether (run_atoms dot run) rows (insert_run slot dot run rows)
-run_together rows slot dot run d new rooted = put_together rows d (run_atoms dot run) (run_is_new rows dot run new) slot rooted
+run_together rows slot dot run d new rooted = put_together rows d (run_atoms dot run) (run_is_new rows dot run new)
+    slot rooted

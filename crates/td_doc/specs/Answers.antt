@@ -1,5 +1,6 @@
 -- What the calls of a document answer.
-use Rattle.std.specs.Prelude.{◌≡◌, ◌≢◌, ℕ, List, [], ◌∷◌, ◌+◌, Bool, true, false, if◌then◌else◌, length, Option, Some, None, IsNone, IsTrue}
+use Rattle.std.specs.Prelude.{◌≡◌, ◌≢◌, ℕ, List, [], ◌∷◌, ◌+◌, Bool, true, false}
+use Rattle.std.specs.Prelude.{if◌then◌else◌, length, Option, Some, None, IsNone, IsTrue}
 use Rattle.std.specs.Option.{option_map, is_some}
 use Rattle.std.specs.List.{AllByRecursion}
 use Rattle.td_base.specs.Value.{DotValue, AtomIdValue}

@@ -1,5 +1,6 @@
 -- The subtree of a row: the row and all that hangs below it; and how far below its slot a row hangs.
-use Rattle.std.specs.Prelude.{ℕ, ◌+◌, List, [], ◌∷◌, length, drop, map, Bool, true, false, ◌&&◌, filter, Option, Some, None}
+use Rattle.std.specs.Prelude.{ℕ, ◌+◌, List, [], ◌∷◌, length, drop, map, Bool, true}
+use Rattle.std.specs.Prelude.{false, ◌&&◌, filter, Option, Some, None}
 use Rattle.std.specs.Option.{is_some}
 use Rattle.td_base.specs.Value.{AtomIdValue}
 use Rattle.td_path.specs.Infix.{Pair, Pairs, same_pair}

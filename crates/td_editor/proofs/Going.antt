@@ -1,5 +1,7 @@
 -- An editor that takes what waits, after so many steps.
-use Rattle.std.proofs.Common.{◌≡◌, ◌<◌, ◌≤◌, ◌+◌, ◌-◌, ◌++◌, ℕ, zero, suc, List, [], ◌∷◌, Bool, true, false, if◌then◌else◌, length, refl, sym, ap, ◌∙◌, append-nil, append_assoc, length-append, arith}
+use Rattle.std.proofs.Common.{◌≡◌, ◌<◌, ◌≤◌, ◌+◌, ◌-◌, ◌++◌, ℕ, zero, suc, List, [], ◌∷◌, Bool, true, false}
+use Rattle.std.proofs.Common.{if◌then◌else◌, length, refl, sym, ap, ◌∙◌, append-nil, append_assoc, length-append}
+use Rattle.std.proofs.Common.{arith}
 use Rattle.std.specs.Prelude.{Result, Ok, Err, OnErr}
 use Rattle.td_op.specs.declared.change.Change.{Change}
 use Rattle.td_op.specs.declared.input.Input.{Input}
@@ -38,7 +40,8 @@ module _ {T : Type 0} (heard : T → Change → T) (most : ℕ) (old : EditorVal
       }
 
   left : (done : ℕ) (now : EditorValue T) → done < most → is_ready now.replica.machine ≡ true
-      → nexts (most - done) now.replica.machine ≡ Next ∷ nexts (most - (done + 1)) (step now.replica.machine Next).machine
+      → nexts (most - done) now.replica.machine ≡ Next ∷ nexts (most - (done + 1))
+      (step now.replica.machine Next).machine
   left done now few on =
       let n : most - done ≡ suc (most - (done + 1)) = omega (arith, few) in
       nexts_on (most - done) (most - (done + 1)) now.replica.machine n on
@@ -53,7 +56,8 @@ module _ {T : Type 0} (heard : T → Change → T) (most : ℕ) (old : EditorVal
         all = g.all
             ∙ ap (λ (l : List Input). g.front ++ l) (left done now few on)
             ∙ sym (append_assoc g.front (Next ∷ []) (nexts (most - (done + 1)) (step now.replica.machine Next).machine))
-            ∙ ap (λ (e : EditorValue T). (g.front ++ Next ∷ []) ++ nexts (most - (done + 1)) e.replica.machine) (sym is);
+            ∙ ap (λ (e : EditorValue T). (g.front ++ Next ∷ []) ++ nexts (most - (done + 1)) e.replica.machine)
+            (sym is);
       }
 
   ends : (done : ℕ) (now : EditorValue T) (g : IsGoing heard most done old now)

@@ -1,5 +1,6 @@
 -- The index of a change that is told of a step is in range of the atoms shown before.
-use Rattle.std.proofs.Common.{◌≡◌, ◌<◌, ◌≤◌, ◌+◌, ℕ, List, [], ◌∷◌, ◌++◌, Bool, true, false, if◌then◌else◌, map, length, Option, Some, None, refl, sym, ap, ◌∙◌, subst, arith, append-nil, append_assoc}
+use Rattle.std.proofs.Common.{◌≡◌, ◌<◌, ◌≤◌, ◌+◌, ℕ, List, [], ◌∷◌, ◌++◌, Bool, true, false, if◌then◌else◌, map}
+use Rattle.std.proofs.Common.{length, Option, Some, None, refl, sym, ap, ◌∙◌, subst, arith, append-nil, append_assoc}
 use Rattle.std.specs.Option.{option_and_then, option_map, is_some}
 use Rattle.std.proofs.lemmas.List.Elements.{filter-append}
 use Rattle.std.proofs.Common.{length-append}
@@ -54,7 +55,8 @@ use Rattle.std.proofs.lemmas.Bool.{ltb-false}
 abbrev one : Bool → ℕ
 one b = if b then 1 else 0
 
-live_more : (r : DocRow) (rows : List DocRow) → length (live_rows (r ∷ rows)) ≡ one (is_live r) + length (live_rows rows)
+live_more : (r : DocRow) (rows : List DocRow) → length (live_rows (r ∷ rows))
+    ≡ one (is_live r) + length (live_rows rows)
 live_more r rows = at (is_live r)
   where
     at : (b : Bool) → length (if b then r ∷ live_rows rows else live_rows rows) ≡ one b + length (live_rows rows)
@@ -92,9 +94,11 @@ before_front x (r ∷ front) n back e =
     at true more h = omega (arith, more)
     at false more h = omega (arith, more, h)
 
-live_both : (front back : List DocRow) → length (live_rows (front ++ back)) ≡ length (live_rows front) + length (live_rows back)
+live_both : (front back : List DocRow) → length (live_rows (front ++ back))
+    ≡ length (live_rows front) + length (live_rows back)
 live_both front back =
-    ap (λ (l : List DocRow). length l) (filter-append is_live front back) ∙ length-append (live_rows front) (live_rows back)
+    ap (λ (l : List DocRow). length l) (filter-append is_live front back)
+    ∙ length-append (live_rows front) (live_rows back)
 
 -- ---- what is put
 
@@ -108,7 +112,8 @@ module _ (dot : DotValue) (rows front back : List DocRow) (was : rows ≡ front 
   before_new : (run : List (List ℕ)) (new after : List DocRow) → map named new ≡ run_atoms dot run
       → after ≡ front ++ new ++ back → live_before (first_of dot) after ≤ length (live_rows rows)
   before_new run [] after e is =
-      subst (λ (l : List DocRow). live_before (first_of dot) l ≤ length (live_rows rows)) (was ∙ sym (ap (λ (l : List DocRow). l ++ back) (append-nil front)) ∙ sym is)
+      subst (λ (l : List DocRow). live_before (first_of dot) l ≤ length (live_rows rows))
+      (was ∙ sym (ap (λ (l : List DocRow). l ++ back) (append-nil front)) ∙ sym is)
       (before_few (first_of dot) rows)
   before_new [] (n ∷ new) after e is = absurd cc
   before_new (atom ∷ run) (n ∷ new) after e is =
@@ -154,9 +159,11 @@ cut_within rows x e =
     let named : has_id x s.row ≡ true = subst (λ (y : AtomIdValue). has_id y s.row ≡ true) s.named (self_id s.row) in
     let here : live_before x (s.front ++ s.row ∷ s.back) ≤ length (live_rows s.front) =
     before_front x s.front s.row s.back named in
-    let both : length (live_rows (s.front ++ s.row ∷ s.back)) ≡ length (live_rows s.front) + length (live_rows (s.row ∷ s.back)) =
+    let both : length (live_rows (s.front ++ s.row ∷ s.back))
+    ≡ length (live_rows s.front) + length (live_rows (s.row ∷ s.back)) =
     live_both s.front (s.row ∷ s.back) in
-    let more : length (live_rows (s.row ∷ s.back)) ≡ one (is_live s.row) + length (live_rows s.back) = live_more s.row s.back in
+    let more : length (live_rows (s.row ∷ s.back))
+    ≡ one (is_live s.row) + length (live_rows s.back) = live_more s.row s.back in
     let live : one (is_live s.row) ≡ 1 = ap one s.live in
     subst (λ (l : List DocRow). live_before x l < length (live_rows l)) (sym s.is)
     (omega (arith, here, both, more, live))
@@ -184,10 +191,12 @@ op_fits rows d dot (Insert slot run) fresh change e =
     put_within rows slot dot run d (fresh slot run refl) in
     let count : length (live_atoms rows) ≡ length (live_rows rows) = count_of_atoms rows in
     subst (λ (c : Change). CanChange c (live_atoms rows)) (same_some _ change e)
-    (put_fits (live_before (first_of dot) (insert_run slot dot run rows)) run (live_atoms rows) (omega (arith, within, count)))
+    (put_fits (live_before (first_of dot) (insert_run slot dot run rows)) run (live_atoms rows)
+    (omega (arith, within, count)))
 op_fits rows d dot (Delete target) fresh change e = at (is_live_id rows target) refl e
   where
-    at : (b : Bool) → is_live_id rows target ≡ b → (if b then Some (Cut (live_before target rows)) else None) ≡ Some change
+    at : (b : Bool) → is_live_id rows target ≡ b → (if b then Some (Cut (live_before target rows)) else None)
+        ≡ Some change
         → CanChange change (live_atoms rows)
     at true f k =
         let within : live_before target rows < length (live_rows rows) = cut_within rows target f in

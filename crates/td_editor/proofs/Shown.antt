@@ -50,7 +50,8 @@ module _ (r : ReplicaValue) (i : IsReplica r) (input : Input) (valid : IsInput i
 -- ---- the screen
 
 module _ {T : Type 0} (heard : T → Change → T) (shows : T → List (List ℕ) → Type 0)
-    (follows : (s : T) (atoms : List (List ℕ)) (change : Change) → shows s atoms → shows (heard s change) (changed change atoms)) where
+    (follows : (s : T) (atoms : List (List ℕ)) (change : Change) → shows s atoms
+    → shows (heard s change) (changed change atoms)) where
   hears : (change : Option Change) (s : T) (atoms : List (List ℕ)) → shows s atoms
       → shows (hear_all heard (option_to_list change) s) (changed_by change atoms)
   hears None s atoms h = h

@@ -1,5 +1,6 @@
 -- Steps one after another, and the changes that they tell.
-use Rattle.std.proofs.Common.{◌≡◌, List, [], ◌∷◌, ◌++◌, ℕ, Option, Some, None, refl, sym, ap, ◌∙◌, append-nil, append_assoc}
+use Rattle.std.proofs.Common.{◌≡◌, List, [], ◌∷◌, ◌++◌, ℕ, Option, Some, None, refl}
+use Rattle.std.proofs.Common.{sym, ap, ◌∙◌, append-nil, append_assoc}
 use Rattle.std.specs.List.{AllByRecursion}
 use Rattle.std.specs.Option.{option_to_list}
 use Rattle.td_op.specs.declared.change.Change.{Change}
@@ -30,7 +31,8 @@ changes_both [] back r = refl
 changes_both (input ∷ front) back r =
     let first : List Change = option_to_list (after_step input r).change in
     ap (λ (l : List Change). first ++ l) (changes_both front back (after_step input r))
-    ∙ sym (append_assoc first (changes_of front (after_step input r)) (changes_of back (after_steps front (after_step input r))))
+    ∙ sym (append_assoc first (changes_of front (after_step input r))
+    (changes_of back (after_steps front (after_step input r))))
 
 -- some steps, and then others
 pub after_both : {T : Type 0} (heard : T → Change → T) (front back : List Input) (e : EditorValue T)
@@ -39,7 +41,8 @@ after_both heard front back e =
     let replicas : after_steps (front ++ back) e.replica ≡ after_steps back (after_steps front e.replica) =
     steps_both front back e.replica in
     let screens : hear_all heard (changes_of (front ++ back) e.replica) e.screen
-    ≡ hear_all heard (changes_of back (after_steps front e.replica)) (hear_all heard (changes_of front e.replica) e.screen) =
+    ≡ hear_all heard (changes_of back (after_steps front e.replica))
+    (hear_all heard (changes_of front e.replica) e.screen) =
     ap (λ (l : List Change). hear_all heard l e.screen) (changes_both front back e.replica)
     ∙ hear_both heard (changes_of front e.replica) (changes_of back (after_steps front e.replica)) e.screen in
     λ i. record { replica = replicas i; screen = screens i }
@@ -48,7 +51,8 @@ after_both heard front back e =
 pub after_one : {T : Type 0} (heard : T → Change → T) (input : Input) (e : EditorValue T)
     → after_inputs heard (input ∷ []) e ≡ after_input heard input e
 after_one heard input e =
-    let same : option_to_list (after_step input e.replica).change ++ [] ≡ option_to_list (after_step input e.replica).change =
+    let same : option_to_list (after_step input e.replica).change ++ []
+    ≡ option_to_list (after_step input e.replica).change =
     append-nil (option_to_list (after_step input e.replica).change) in
     λ i. record { replica = after_step input e.replica; screen = hear_all heard (same i) e.screen }
 

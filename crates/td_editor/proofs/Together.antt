@@ -1,5 +1,6 @@
 -- The histories of editors that take packets of each other are a consistent family.
-use Rattle.std.proofs.Common.{◌≡◌, ◌≢◌, ◌<◌, ◌≤◌, ◌+◌, ◌-◌, ◌++◌, ◌↔◌, ℕ, zero, suc, List, [], ◌∷◌, length, Some, refl, sym, ap, ◌∙◌, subst, inl, inr, append-nil, arith}
+use Rattle.std.proofs.Common.{◌≡◌, ◌≢◌, ◌<◌, ◌≤◌, ◌+◌, ◌-◌, ◌++◌, ◌↔◌, ℕ, zero, suc, List, [], ◌∷◌, length}
+use Rattle.std.proofs.Common.{Some, refl, sym, ap, ◌∙◌, subst, inl, inr, append-nil, arith}
 use Rattle.std.specs.Prelude.{slice_get}
 use Rattle.std.proofs.lemmas.List.{length-map}
 use Rattle.std.proofs.lemmas.Option.{same_Some}
@@ -11,7 +12,8 @@ use Rattle.td_op.specs.declared.input.Input.TheVariants.{Take}
 use Rattle.td_op.specs.declared.message.Message.{Message}
 use Rattle.td_op.specs.Op.{OpValue}
 use Rattle.td_doc.specs.Document.{text_of}
-use Rattle.td_machine.specs.History.{Family, History, Moment, history, history_at, machine, machine_after, sender, after, known_of, IsAddressed, IsLegal, IsLegalFrom, IsConsistent, MayCome}
+use Rattle.td_machine.specs.History.{Family, History, Moment, history, history_at, machine, machine_after, sender}
+use Rattle.td_machine.specs.History.{after, known_of, IsAddressed, IsLegal, IsLegalFrom, IsConsistent, MayCome}
 use Rattle.td_machine.specs.Machine.{Machine, start, made}
 use Rattle.td_machine.specs.Step.{step}
 use Rattle.td_machine.proofs.Induction.{Anything}

@@ -17,10 +17,15 @@ ascii_byte byte h (suc i) = omega arith
 pub letter_is_atom : (n : ℕ) → IsAtom (letter n ∷ [])
 letter_is_atom n =
     let small : letter n < 128 = omega arith in
-    record { some = omega arith; short = omega arith; text = IsUtf8-from_ascii (letter n ∷ []) (ascii_byte (letter n) small) }
+    record {
+      some = omega arith;
+      short = omega arith;
+      text = IsUtf8-from_ascii (letter n ∷ []) (ascii_byte (letter n) small);
+    }
 
 -- one letter more
-pub one_more : (first count : ℕ) → letters_from first (count + 1) ≡ letters_from first count ++ (letter (first + count) ∷ []) ∷ []
+pub one_more : (first count : ℕ) → letters_from first (count + 1) ≡ letters_from first count
+    ++ (letter (first + count) ∷ []) ∷ []
 one_more first count =
     ap letters (map-range_with_len_more letter first count (first + count) refl)
     ∙ map-append (λ (byte : ℕ). byte ∷ []) (map letter (range_with_len first count)) (letter (first + count) ∷ [])

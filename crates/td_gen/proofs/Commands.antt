@@ -1,5 +1,6 @@
 -- The commands of a generated script, and how many there are.
-use Rattle.std.proofs.Common.{◌≡◌, ◌<◌, ◌≤◌, ◌+◌, ◌-◌, ◌*◌, ◌/◌, ◌%◌, ◌==◌, ◌&&◌, ◌++◌, ℕ, zero, suc, List, [], ◌∷◌, Bool, true, false, length, length-append, if◌then◌else◌, nat_le, nat_lt, arith}
+use Rattle.std.proofs.Common.{◌≡◌, ◌<◌, ◌≤◌, ◌+◌, ◌-◌, ◌*◌, ◌/◌, ◌%◌, ◌==◌, ◌&&◌, ◌++◌, ℕ, zero, suc, List, [], ◌∷◌}
+use Rattle.std.proofs.Common.{Bool, true, false, length, length-append, if◌then◌else◌, nat_le, nat_lt, arith}
 use Rattle.std.specs.Prelude.{All}
 use Rattle.std.proofs.lemmas.List.Elements.{All-append, All-cons, All-nil}
 use Rattle.rand_pcg.specs.Pcg.{pcg32}
@@ -7,7 +8,8 @@ use Rattle.td_script.specs.declared.command.Command.{Command}
 use Rattle.td_script.specs.declared.command.Command.TheVariants.{Sites, Ins, Del, Flat, Settle}
 use Rattle.td_script.specs.declared.command.Place.TheVariants.{Whole}
 use Rattle.td_gen.specs.Commands.{IsGenerated}
-use Rattle.td_gen.specs.Generator.{after_edits, edit_at, edited, flattened, generated, joined, least_at, letters_from, settled, site_of, turn}
+use Rattle.td_gen.specs.Generator.{after_edits, edit_at, edited, flattened, generated, joined}
+use Rattle.td_gen.specs.Generator.{least_at, letters_from, settled, site_of, turn}
 use Rattle.td_gen.specs.declared.edit.Edit.{Edit}
 use Rattle.td_gen.specs.declared.progress.Progress.{Progress}
 
@@ -90,8 +92,10 @@ settled_few : (i n : ℕ) (p : Progress) → length p.commands ≤ n → length 
 settled_few i n p few = at (i % 30 == 0)
   where
     at : (b : Bool)
-        → length (if b then record p { least = joined p.least; commands = p.commands ++ Settle ∷ [] } else p).commands ≤ n + 1
-    at true = let more : length (p.commands ++ Settle ∷ []) ≡ length p.commands + 1 = length-append p.commands (Settle ∷ []) in
+        → length (if b then record p { least = joined p.least; commands = p.commands ++ Settle ∷ [] } else
+        p).commands ≤ n + 1
+    at true = let more : length (p.commands ++ Settle ∷ [])
+        ≡ length p.commands + 1 = length-append p.commands (Settle ∷ []) in
         omega (arith, more, few)
     at false = omega (arith, few)
 
@@ -99,7 +103,8 @@ flattened_few : (i n : ℕ) (p : Progress) → length p.commands ≤ n → lengt
 flattened_few i n p few = at (i % 300 == 0)
   where
     at : (b : Bool)
-        → length (if b then record p { commands = p.commands ++ Flat (1 + i / 300 % 3) Whole ∷ Settle ∷ [] } else p).commands
+        → length (if b then record p { commands = p.commands ++ Flat (1 + i / 300 % 3) Whole ∷ Settle ∷ [] } else
+        p).commands
         ≤ n + 2
     at true =
         let more : length (p.commands ++ Flat (1 + i / 300 % 3) Whole ∷ Settle ∷ []) ≡ length p.commands + 2 =

@@ -1,5 +1,7 @@
 -- Each turn keeps the least lengths within what its edits can add.
-use Rattle.std.proofs.Common.{◌≡◌, ◌<◌, ◌≤◌, ◌+◌, ◌-◌, ◌*◌, ◌%◌, ◌∙◌, ◌==◌, if◌then◌else◌, ℕ, suc, List, [], ◌∷◌, ◌++◌, Bool, true, false, add-one, arith, refl, subst, sym, length-set, get_or, set, replicate}
+use Rattle.std.proofs.Common.{◌≡◌, ◌<◌, ◌≤◌, ◌+◌, ◌-◌, ◌*◌, ◌%◌, ◌∙◌, ◌==◌, if◌then◌else◌, ℕ, suc}
+use Rattle.std.proofs.Common.{List, [], ◌∷◌, ◌++◌, Bool, true, false, add-one, arith, refl, subst}
+use Rattle.std.proofs.Common.{sym, length-set, get_or, set, replicate}
 use Rattle.std.specs.Prelude.{sum}
 use Rattle.std.proofs.lemmas.List.Sums.{sum_by-set}
 use Rattle.std.proofs.lemmas.List.Folds.{sum_by-replicate}
@@ -17,7 +19,8 @@ pub more_edits : (edits others : ℕ) (l : Least) → edits ≤ others → AreWi
 more_edits edits others l more within = record {
   sites = within.sites;
   shared = omega (arith, within.shared);
-  each = All-weaker (λ x. x ≤ 8 * edits) (λ x. x ≤ 8 * others) (λ (x : ℕ) (small : x ≤ 8 * edits). omega arith) l.sites within.each;
+  each = All-weaker (λ x. x ≤ 8 * edits) (λ x. x ≤ 8 * others) (λ (x : ℕ) (small : x ≤ 8 * edits). omega arith)
+      l.sites within.each;
   together = omega (arith, within.together);
 }
 
@@ -37,7 +40,8 @@ adds_at_most site least a b = grind arith
 replaced : (edits : ℕ) (l : Least) (site least : ℕ) → AreWithin edits l → site - 1 < 3
     → least ≤ least_at l site + 8 → AreWithin (suc edits) (with_least l site least)
 replaced edits l site least within small h =
-    let now : least_at l site ≤ 8 * edits = All-get_or (λ x. x ≤ 8 * edits) l.sites (site - 1) 0 (omega (arith, within.sites)) within.each in
+    let now : least_at l site ≤ 8 * edits = All-get_or (λ x. x ≤ 8 * edits) l.sites (site - 1) 0
+    (omega (arith, within.sites)) within.each in
     let sums : sum (set l.sites (site - 1) least) + get_or l.sites (site - 1) 0 ≡ sum l.sites + least
     = sum_by-set (λ (x : ℕ). x) l.sites (site - 1) least 0 (omega (arith, within.sites)) in
     let wider = more_edits edits (suc edits) l (omega arith) within in
@@ -67,8 +71,10 @@ edit_within edits p within =
     let site : ℕ = site_of (suc edits) in
     replaced edits p.least site _ within (omega arith) (adds_at_most site (least_at p.least site) first.0 second.0)
 
-pub edits_within : (edits : ℕ) (p : Progress) → AreWithin edits p.least → AreWithin (edits + 1) (edited (edits + 1) p).least
-edits_within edits p within = subst (λ n. AreWithin n (edited n p).least) (sym (add-one edits)) (edit_within edits p within)
+pub edits_within : (edits : ℕ) (p : Progress) → AreWithin edits p.least
+    → AreWithin (edits + 1) (edited (edits + 1) p).least
+edits_within edits p within = subst (λ n. AreWithin n (edited n p).least) (sym (add-one edits))
+    (edit_within edits p within)
 
 settles_at : (edits i : ℕ) (p : Progress) (b : Bool) → AreWithin edits p.least
     → AreWithin edits (if b then record p { least = joined p.least; commands = p.commands ++ Settle ∷ [] } else p).least
@@ -83,8 +89,10 @@ flattens_at : (edits i : ℕ) (p : Progress) (commands : List Command) (b : Bool
 flattens_at edits i p commands true within = within
 flattens_at edits i p commands false within = within
 
-pub turns_within : (edits : ℕ) (p : Progress) → AreWithin edits p.least → AreWithin (edits + 1) (turn (edits + 1) p).least
+pub turns_within : (edits : ℕ) (p : Progress) → AreWithin edits p.least
+    → AreWithin (edits + 1) (turn (edits + 1) p).least
 turns_within edits p within =
     let i : ℕ = suc edits in
     subst (λ n. AreWithin n (turn n p).least) (sym (add-one edits))
-    (flattens_at i i (settled i (edited i p)) _ (i % 300 == 0) (settles_within i i (edited i p) (edit_within edits p within)))
+    (flattens_at i i (settled i (edited i p)) _ (i % 300 == 0)
+    (settles_within i i (edited i p) (edit_within edits p within)))

@@ -9,8 +9,10 @@ use Rattle.td_gen.specs.declared.progress.Progress.{Progress}
 use Rattle.td_script.specs.declared.command.Command.{Command}
 
 -- an edit by two words
-pub edit_made : (i : ℕ) (p : Progress) (site a b : ℕ) (first second : Lcg) (done : Edit) (least : Least) (commands : List Command)
-    → (a, first) ≡ pcg32 p.words → (b, second) ≡ pcg32 first → site ≡ site_of i → done ≡ edit_at site (least_at p.least site) a b
+pub edit_made : (i : ℕ) (p : Progress) (site a b : ℕ) (first second : Lcg) (done : Edit) (least : Least)
+    (commands : List Command)
+    → (a, first) ≡ pcg32 p.words → (b, second) ≡ pcg32 first → site ≡ site_of i → done
+    ≡ edit_at site (least_at p.least site) a b
     → least ≡ with_least p.least site done.least → commands ≡ p.commands ++ done.command ∷ []
     → ◌≡◌ {A = Progress} (record { words = second; least = least; commands = commands }) (edited i p)
 edit_made i p site a b first second done least commands word_a word_b at made noted put =
@@ -19,7 +21,8 @@ edit_made i p site a b first second done least commands word_a word_b at made no
     let again : pcg32 first ≡ pcg32 (pcg32 p.words).1 = ap pcg32 first_is in
     let b_is : b ≡ (pcg32 (pcg32 p.words).1).0 = ap (λ (w : ℕ × Lcg). w.0) (word_b ∙ again) in
     let second_is : second ≡ (pcg32 (pcg32 p.words).1).1 = ap (λ (w : ℕ × Lcg). w.1) (word_b ∙ again) in
-    let done_is : done ≡ edit_at (site_of i) (least_at p.least (site_of i)) (pcg32 p.words).0 (pcg32 (pcg32 p.words).1).0
+    let done_is : done ≡ edit_at (site_of i) (least_at p.least (site_of i)) (pcg32 p.words).0
+    (pcg32 (pcg32 p.words).1).0
     = made ∙ (λ j. edit_at (at j) (least_at p.least (at j)) (a_is j) (b_is j)) in
     let least_is = noted ∙ (λ j. with_least p.least (at j) (done_is j).least) in
     let commands_is = put ∙ (λ j. p.commands ++ (done_is j).command ∷ []) in

@@ -1,10 +1,13 @@
 -- A log and its index: what is in the index of a dot is the operation of the log with it, and what each call leaves.
-use Rattle.std.proofs.Common.{◌≡◌, ◌≢◌, ◌<◌, ◌≤◌, ◌+◌, ◌-◌, ◌⊎◌, ℕ, zero, suc, Bool, true, false, cond, ◌==◌, ◌&&◌, List, [], ◌∷◌, ◌++◌, length, replicate, reverse, set, Option, Some, None, refl, sym, ap, ◌∙◌, subst, inl, inr, ⊎_elim, true≢false, arith}
+use Rattle.std.proofs.Common.{◌≡◌, ◌≢◌, ◌<◌, ◌≤◌, ◌+◌, ◌-◌, ◌⊎◌, ℕ, zero, suc, Bool, true, false, cond, ◌==◌}
+use Rattle.std.proofs.Common.{◌&&◌, List, [], ◌∷◌, ◌++◌, length, replicate, reverse, set, Option, Some, None}
+use Rattle.std.proofs.Common.{refl, sym, ap, ◌∙◌, subst, inl, inr, ⊎_elim, true≢false, arith}
 use Rattle.std.specs.Prelude.{IfSome, IfNone}
 use Rattle.std.specs.List.{AllZip, find, slice_get}
 use Rattle.std.specs.Option.{is_some, option_and_then, option_map, option_or}
 use Rattle.std.proofs.lemmas.Bool.{eqb-true, eqb-false, cases_lt}
-use Rattle.std.proofs.lemmas.List.{reverse-append, reverse-reverse, length-reverse, length-set, get_or-set_same, get_or-set_other, get_or_past, length-replicate, get_or-replicate}
+use Rattle.std.proofs.lemmas.List.{reverse-append, reverse-reverse, length-reverse, length-set, get_or-set_same}
+use Rattle.std.proofs.lemmas.List.{get_or-set_other, get_or_past, length-replicate, get_or-replicate}
 use Rattle.std.proofs.lemmas.Option.{slice_get_past}
 use Rattle.td_base.specs.Value.{DotValue}
 use Rattle.td_base.specs.Equality.{same_dot}
@@ -20,7 +23,8 @@ use Rattle.td_history.specs.declared.index.Logged.{Logged}
 use Rattle.td_history.specs.Past.{decided_by, IsUndecided, IsNextIn}
 use Rattle.td_history.specs.Standing.{StandFor, IsGrown, Agree}
 use Rattle.td_history.proofs.Standing.{stand_push, stand_on, stand_filter_map, grown_get}
-use Rattle.td_history.specs.Index.{list_of, logged_at, with_logged, decided_in, with_decided, with_decision, last_of, IsLoggedAs, IsIndex, IsFromOne}
+use Rattle.td_history.specs.Index.{list_of, logged_at, with_logged, decided_in, with_decided}
+use Rattle.td_history.specs.Index.{with_decision, last_of, IsLoggedAs, IsIndex, IsFromOne}
 use Rattle.td_history.specs.Logs.{log_of, IsNextOf, IsOrderly, IsLog, IsFoundAs}
 
 -- what is found in a log by a dot stands at its place among those of its site
@@ -60,9 +64,11 @@ number_of n site x log next same =
     subst (λ (s : ℕ). x.dot.seq ≡ length (ops_of s log) + 1) same next.next in
     omega (arith, number, length-reverse (ops_of site log))
 
-found_more : (n : ℕ) (d : DotValue) (x : OpValue) (log : List OpValue) (a b : Bool) → (x.dot.site == d.site) ≡ a → (x.dot.seq == d.seq) ≡ b
+found_more : (n : ℕ) (d : DotValue) (x : OpValue) (log : List OpValue) (a b : Bool) → (x.dot.site == d.site) ≡ a
+    → (x.dot.seq == d.seq) ≡ b
     → 1 ≤ d.seq → IsNextOf n log x → FoundAt d log
-    → cond (a && b) (Some x) (find (is_dot_of d) log) ≡ slice_get (cond a (of_site d.site log ++ x ∷ []) (of_site d.site log)) (d.seq - 1)
+    → cond (a && b) (Some x) (find (is_dot_of d) log)
+    ≡ slice_get (cond a (of_site d.site log ++ x ∷ []) (of_site d.site log)) (d.seq - 1)
 found_more n d x log false b site seq some next ih = ih
 found_more n d x log true true site seq some next ih =
     let number = number_of n d.site x log next (eqb-true x.dot.site d.site site) in
@@ -70,7 +76,8 @@ found_more n d x log true true site seq some next ih =
     sym (get_last (of_site d.site log) x (d.seq - 1) (omega (arith, number, same)))
 found_more n d x log true false site seq some next ih =
     let number = number_of n d.site x log next (eqb-true x.dot.site d.site site) in
-    let other = place_other x.dot.seq d.seq (length (of_site d.site log)) some (sym number) (λ k. eqb-false x.dot.seq d.seq seq k) in
+    let other = place_other x.dot.seq d.seq (length (of_site d.site log)) some (sym number)
+    (λ k. eqb-false x.dot.seq d.seq seq k) in
     ih ∙ sym (get_before (of_site d.site log) x (d.seq - 1) other)
 
 pub found_at : (n : ℕ) (d : DotValue) (log : List OpValue) → 1 ≤ d.seq → IsOrderly n log → FoundAt d log
@@ -91,7 +98,8 @@ abbrev Numbered : ℕ → ℕ → List OpValue → Type 0
 Numbered site from [] = Unit {0}
 Numbered site from (x ∷ xs) = ((x.dot.site ≡ site) × (x.dot.seq ≡ suc from)) × Numbered site (suc from) xs
 
-numbered_push : (site from : ℕ) (xs : List OpValue) (x : OpValue) → Numbered site from xs → x.dot.site ≡ site → x.dot.seq ≡ from + length xs + 1
+numbered_push : (site from : ℕ) (xs : List OpValue) (x : OpValue) → Numbered site from xs → x.dot.site ≡ site
+    → x.dot.seq ≡ from + length xs + 1
     → Numbered site from (xs ++ x ∷ [])
 numbered_push site from [] x h s q = ((s, omega (arith, q)), tt)
 numbered_push site from (y ∷ xs) x h s q = (h.0, numbered_push site (suc from) xs x h.1 s (omega (arith, q)))
@@ -127,11 +135,13 @@ pub proposed_by : (d : DotValue) (log : List OpValue)
     → proposed_slot d log ≡ option_and_then proposed (option_map (λ (x : OpValue). x.body) (find (is_dot_of d) log))
 proposed_by d log = proposed_at d log ∙ by_body (find (is_dot_of d) log)
   where
-    by_body : (o : Option OpValue) → option_and_then (λ (x : OpValue). proposed x.body) o ≡ option_and_then proposed (option_map (λ (x : OpValue). x.body) o)
+    by_body : (o : Option OpValue) → option_and_then (λ (x : OpValue). proposed x.body) o
+        ≡ option_and_then proposed (option_map (λ (x : OpValue). x.body) o)
     by_body None = refl
     by_body (Some x) = refl
 
-none_found_at : (d : DotValue) (x : OpValue) (log : List OpValue) (b : Bool) → cond b (Some x) (find (is_dot_of d) log) ≡ None
+none_found_at : (d : DotValue) (x : OpValue) (log : List OpValue) (b : Bool)
+    → cond b (Some x) (find (is_dot_of d) log) ≡ None
     → find (is_dot_of d) log ≡ None
 none_found_at d x log true e = absurd (cc)
 none_found_at d x log false e = e
@@ -140,8 +150,10 @@ not_decided : (d p : DotValue) (log : List OpValue) (said b : Bool) → same_dot
     → find (is_dot_of d) log ≡ None → cond b (Some said) None ≡ None
 not_decided d p log said false e may none = refl
 not_decided d p log said true e may none =
-    let no_slot : proposed_slot d log ≡ None = proposed_at d log ∙ ap (option_and_then (λ (x : OpValue). proposed x.body)) none in
-    let slot : is_some (proposed_slot d log) ≡ true = subst (λ (q : DotValue). is_some (proposed_slot q log) ≡ true) (same_dot_true p d e) may.proposed in
+    let no_slot : proposed_slot d log ≡ None = proposed_at d log
+    ∙ ap (option_and_then (λ (x : OpValue). proposed x.body)) none in
+    let slot : is_some (proposed_slot d log) ≡ true =
+    subst (λ (q : DotValue). is_some (proposed_slot q log) ≡ true) (same_dot_true p d e) may.proposed in
     absurd (true≢false (sym slot ∙ ap is_some no_slot))
 
 undecided_by : (d : DotValue) (log : List OpValue) (body : Body) → IfSome (decided_by body) (IsUndecided log)
@@ -153,27 +165,32 @@ undecided_by d log (Commit p) may none = not_decided d p log true (same_dot p d)
 undecided_by d log (Abort p) may none = not_decided d p log false (same_dot p d) refl may none
 
 -- only what is in the log is decided
-pub undecided : (n : ℕ) (d : DotValue) (log : List OpValue) → IsOrderly n log → find (is_dot_of d) log ≡ None → decision d log ≡ None
+pub undecided : (n : ℕ) (d : DotValue) (log : List OpValue) → IsOrderly n log → find (is_dot_of d) log ≡ None
+    → decision d log ≡ None
 undecided n d [] h e = refl
 undecided n d (x ∷ log) h e =
     let none : find (is_dot_of d) log ≡ None = none_found_at d x log (same_dot x.dot d) e in
     ap (λ o. option_or o (decision d log)) (undecided_by d log x.body h.0.decides none) ∙ undecided n d log h.1 none
 
 -- no operation that comes is in the log already
-pub is_new : (n : ℕ) (log : List OpValue) (x : OpValue) → IsOrderly n log → IsNextOf n log x → find (is_dot_of x.dot) log ≡ None
+pub is_new : (n : ℕ) (log : List OpValue) (x : OpValue) → IsOrderly n log → IsNextOf n log x
+    → find (is_dot_of x.dot) log ≡ None
 is_new n log x h next =
     found_at n x.dot log (omega (arith, next.next)) h
-    ∙ slice_get_past (of_site x.dot.site log) (x.dot.seq - 1) (omega (arith, next.next, length-reverse (ops_of x.dot.site log)))
+    ∙ slice_get_past (of_site x.dot.site log) (x.dot.seq - 1)
+    (omega (arith, next.next, length-reverse (ops_of x.dot.site log)))
 
 -- lists whose elements stand in a relation
 
-pub zip_on : {X Y : Type 0} (R S : X → Y → Type 0) → ((x : X) (y : Y) → R x y → S x y) → (xs : List X) (ys : List Y) → AllZip R xs ys → AllZip S xs ys
+pub zip_on : {X Y : Type 0} (R S : X → Y → Type 0) → ((x : X) (y : Y) → R x y → S x y) → (xs : List X) (ys : List Y)
+    → AllZip R xs ys → AllZip S xs ys
 zip_on R S f [] [] h = h
 zip_on R S f [] (y ∷ ys) h = absurd h
 zip_on R S f (x ∷ xs) [] h = absurd h
 zip_on R S f (x ∷ xs) (y ∷ ys) h = (f x y h.0, zip_on R S f xs ys h.1)
 
-zip_push : {X Y : Type 0} (R : X → Y → Type 0) (xs : List X) (ys : List Y) (x : X) (y : Y) → AllZip R xs ys → R x y → AllZip R (xs ++ x ∷ []) (ys ++ y ∷ [])
+zip_push : {X Y : Type 0} (R : X → Y → Type 0) (xs : List X) (ys : List Y) (x : X) (y : Y) → AllZip R xs ys → R x y
+    → AllZip R (xs ++ x ∷ []) (ys ++ y ∷ [])
 zip_push R [] [] x y h r = (r, tt)
 zip_push R [] (b ∷ ys) x y h r = absurd h
 zip_push R (a ∷ xs) [] x y h r = absurd h
@@ -208,12 +225,14 @@ module _ (n : ℕ) (ops : List OpValue) where
 
       at : (site : ℕ) → 1 ≤ site → site ≤ n → (b : Bool) → (x.dot.site == site) ≡ b
           → AllZip (IsLoggedAs ops of) (list_of site lists) (of_site site log)
-          → AllZip (IsLoggedAs ops of) (list_of site (set lists (x.dot.site - 1) new)) (cond b (of_site site log ++ x ∷ []) (of_site site log))
+          → AllZip (IsLoggedAs ops of) (list_of site (set lists (x.dot.site - 1) new))
+          (cond b (of_site site log ++ x ∷ []) (of_site site log))
       at site some within true e old =
           let same : x.dot.site ≡ site = eqb-true x.dot.site site e in
           let place : site - 1 < length lists = omega (arith, some, within, index.size) in
           let is : list_of site (set lists (x.dot.site - 1) new) ≡ list_of site lists ++ l ∷ [] =
-          ap (λ (s : ℕ). list_of site (set lists (s - 1) (list_of s lists ++ l ∷ []))) same ∙ get_or-set_same lists (site - 1) (list_of site lists ++ l ∷ []) [] place in
+          ap (λ (s : ℕ). list_of site (set lists (s - 1) (list_of s lists ++ l ∷ []))) same
+          ∙ get_or-set_same lists (site - 1) (list_of site lists ++ l ∷ []) [] place in
           subst (λ (q : List Logged). AllZip (IsLoggedAs ops of) q (of_site site log ++ x ∷ [])) (sym is)
           (zip_push (IsLoggedAs ops of) (list_of site lists) (of_site site log) l x old here)
       at site some within false e old =
@@ -224,30 +243,38 @@ module _ (n : ℕ) (ops : List OpValue) where
 
   -- and after a decision
 
-  module _ (d : DotValue) (said : Bool) (of more : DotValue → Option Bool) (now : (e : DotValue) → more e ≡ cond (same_dot d e) (Some said) (of e)) where
+  module _ (d : DotValue) (said : Bool) (of more : DotValue → Option Bool)
+      (now : (e : DotValue) → more e ≡ cond (same_dot d e) (Some said) (of e)) where
     as_before : (l : Logged) (x : OpValue) → d ≢ x.dot → IsLoggedAs ops of l x → IsLoggedAs ops more l x
     as_before l x other h =
         record {
           number = h.number;
-          decided = h.decided ∙ sym (now x.dot ∙ ap (λ b. cond b (Some said) (of x.dot)) (same_dot_other d x.dot other));
+          decided = h.decided ∙ sym (now x.dot ∙ ap (λ b. cond b (Some said) (of x.dot))
+              (same_dot_other d x.dot other));
         }
 
-    decided_now : (l : Logged) (x : OpValue) → d ≡ x.dot → IsLoggedAs ops of l x → IsLoggedAs ops more (record l { decided = Some said }) x
+    decided_now : (l : Logged) (x : OpValue) → d ≡ x.dot → IsLoggedAs ops of l x
+        → IsLoggedAs ops more (record l { decided = Some said }) x
     decided_now l x same h =
         record {
           number = h.number;
-          decided = sym (now x.dot ∙ ap (λ b. cond b (Some said) (of x.dot)) (subst (λ (e : DotValue). same_dot d e ≡ true) same (same_dot_refl d)));
+          decided = sym (now x.dot ∙ ap (λ b. cond b (Some said) (of x.dot))
+              (subst (λ (e : DotValue). same_dot d e ≡ true) same (same_dot_refl d)));
         }
 
     -- those behind the place, or of another site
-    zip_apart : (site from : ℕ) (ls : List Logged) (xs : List OpValue) → Numbered site from xs → (d.site ≢ site) ⊎ (d.seq ≤ from)
+    zip_apart : (site from : ℕ) (ls : List Logged) (xs : List OpValue) → Numbered site from xs → (d.site ≢ site)
+        ⊎ (d.seq ≤ from)
         → AllZip (IsLoggedAs ops of) ls xs → AllZip (IsLoggedAs ops more) ls xs
     zip_apart site from [] [] num apart h = h
     zip_apart site from [] (x ∷ xs) num apart h = absurd h
     zip_apart site from (l ∷ ls) [] num apart h = absurd h
     zip_apart site from (l ∷ ls) (x ∷ xs) num apart h =
-        let other : d ≢ x.dot = λ (e : d ≡ x.dot). ⊎_elim (λ (q : d.site ≢ site). q (ap (λ (c : DotValue). c.site) e ∙ num.0.0)) (λ (q : d.seq ≤ from). behind d.seq from (ap (λ (c : DotValue). c.seq) e ∙ num.0.1) q) apart in
-        let later : (d.site ≢ site) ⊎ (d.seq ≤ suc from) = ⊎_elim (λ (q : d.site ≢ site). inl q) (λ (q : d.seq ≤ from). inr (omega (arith, q))) apart in
+        let other : d ≢ x.dot = λ (e : d ≡ x.dot). ⊎_elim
+        (λ (q : d.site ≢ site). q (ap (λ (c : DotValue). c.site) e ∙ num.0.0))
+        (λ (q : d.seq ≤ from). behind d.seq from (ap (λ (c : DotValue). c.seq) e ∙ num.0.1) q) apart in
+        let later : (d.site ≢ site) ⊎ (d.seq ≤ suc from) =
+        ⊎_elim (λ (q : d.site ≢ site). inl q) (λ (q : d.seq ≤ from). inr (omega (arith, q))) apart in
         (as_before l x other h.0, zip_apart site (suc from) ls xs num.1 later h.1)
 
     zip_decided : (from i : ℕ) (ls : List Logged) (xs : List OpValue) → Numbered d.site from xs → d.seq ≡ suc (from + i)
@@ -280,17 +307,22 @@ module _ (n : ℕ) (ops : List OpValue) where
         at site least within true e old =
             let same : d.site ≡ site = eqb-true d.site site e in
             let place : d.site - 1 < length lists = omega (arith, same, some, within, index.size) in
-            let is : list_of d.site (set lists (d.site - 1) new) ≡ new = get_or-set_same lists (d.site - 1) new [] place in
+            let is : list_of d.site (set lists (d.site - 1) new)
+            ≡ new = get_or-set_same lists (d.site - 1) new [] place in
             let here : AllZip (IsLoggedAs ops of) (list_of d.site lists) (of_site d.site log) =
             subst (λ (s : ℕ). AllZip (IsLoggedAs ops of) (list_of s lists) (of_site s log)) (sym same) old in
-            subst (λ (s : ℕ). AllZip (IsLoggedAs ops more) (list_of s (set lists (d.site - 1) new)) (of_site s log)) same
+            subst (λ (s : ℕ). AllZip (IsLoggedAs ops more) (list_of s (set lists (d.site - 1) new)) (of_site s log))
+            same
             (subst (λ (q : List Logged). AllZip (IsLoggedAs ops more) q (of_site d.site log)) (sym is)
-            (zip_decided 0 (d.seq - 1) (list_of d.site lists) (of_site d.site log) (numbered n d.site log orderly) (omega (arith, first)) here))
+            (zip_decided 0 (d.seq - 1) (list_of d.site lists) (of_site d.site log) (numbered n d.site log orderly)
+            (omega (arith, first)) here))
         at site least within false e old =
-            let other : site - 1 ≢ d.site - 1 = place_apart site d.site least some (λ k. eqb-false d.site site e (sym k)) in
+            let other : site - 1 ≢ d.site - 1 = place_apart site d.site least some
+            (λ k. eqb-false d.site site e (sym k)) in
             subst (λ (q : List Logged). AllZip (IsLoggedAs ops more) q (of_site site log))
             (sym (get_or-set_other lists (d.site - 1) (site - 1) new [] other))
-            (zip_apart site 0 (list_of site lists) (of_site site log) (numbered n site log orderly) (inl (λ k. eqb-false d.site site e k)) old)
+            (zip_apart site 0 (list_of site lists) (of_site site log) (numbered n site log orderly)
+            (inl (λ k. eqb-false d.site site e k)) old)
 
 -- a log, after one more operation
 
@@ -306,11 +338,14 @@ decision_noted n ops lists older log (Insert slot run) may dot orderly index = i
 decision_noted n ops lists older log (Delete target) may dot orderly index = index
 decision_noted n ops lists older log (Propose slot) may dot orderly index = index
 decision_noted n ops lists older log (Commit p) may dot orderly index =
-    decided_more n ops p true _ _ (λ e. or_if (same_dot p e) true (decision e older)) lists log dot.site dot.seq orderly index
+    decided_more n ops p true _ _ (λ e. or_if (same_dot p e) true (decision e older)) lists log dot.site dot.seq
+    orderly index
 decision_noted n ops lists older log (Abort p) may dot orderly index =
-    decided_more n ops p false _ _ (λ e. or_if (same_dot p e) false (decision e older)) lists log dot.site dot.seq orderly index
+    decided_more n ops p false _ _ (λ e. or_if (same_dot p e) false (decision e older)) lists log dot.site dot.seq
+    orderly index
 
-pub noted : (n : ℕ) (ops : List OpValue) (numbers : List ℕ) (lists : List (List Logged)) (log : List OpValue) (x : OpValue) (k : ℕ)
+pub noted : (n : ℕ) (ops : List OpValue) (numbers : List ℕ) (lists : List (List Logged)) (log : List OpValue)
+    (x : OpValue) (k : ℕ)
     → IsLog n ops numbers lists log → slice_get ops k ≡ Some x → IsNextOf n log x → IfSome (decided_by x.body) IsFromOne
     → IsLog n ops (numbers ++ k ∷ []) (with_decision x.body (with_logged x.dot.site k lists)) (x ∷ log)
 noted n ops numbers lists log x k is kept next dot =
@@ -322,13 +357,15 @@ noted n ops numbers lists log x k is kept next dot =
           subst (λ q. StandFor (slice_get ops) (numbers ++ k ∷ []) q) (sym (reverse-append (x ∷ []) log))
           (stand_push (slice_get ops) numbers (reverse log) k x is.standing kept);
       orderly = orderly;
-      index = decision_noted n ops (with_logged x.dot.site k lists) log (x ∷ log) x.body next.decides dot orderly (logged n ops of lists log x k is.index kept next none);
+      index = decision_noted n ops (with_logged x.dot.site k lists) log (x ∷ log) x.body next.decides dot orderly
+          (logged n ops of lists log x k is.index kept next none);
     }
 
 pub log_grown : (n : ℕ) (ops more : List OpValue) (numbers : List ℕ) (lists : List (List Logged)) (log : List OpValue)
     → IsGrown ops more → IsLog n ops numbers lists log → IsLog n more numbers lists log
 log_grown n ops more numbers lists log grown is =
-    let on : (k : ℕ) (x : OpValue) → slice_get ops k ≡ Some x → slice_get more k ≡ Some x = λ k x e. grown_get ops more k x grown e in
+    let on : (k : ℕ) (x : OpValue) → slice_get ops k ≡ Some x → slice_get more k
+    ≡ Some x = λ k x e. grown_get ops more k x grown e in
     let of : DotValue → Option Bool = λ (d : DotValue). decision d log in
     record {
       standing = stand_on (slice_get ops) (slice_get more) on numbers (reverse log) is.standing;
@@ -336,12 +373,14 @@ log_grown n ops more numbers lists log grown is =
       index = record {
         size = is.index.size;
         each = λ site some within. zip_on (IsLoggedAs ops of) (IsLoggedAs more of)
-            (λ (l : Logged) (x : OpValue) (h : IsLoggedAs ops of l x). record { number = on l.number x h.number; decided = h.decided })
+            (λ (l : Logged) (x : OpValue) (h : IsLoggedAs ops of l x). record
+            { number = on l.number x h.number; decided = h.decided })
             (list_of site lists) (of_site site log) (is.index.each site some within);
       };
     }
 
-pub log_is : (n : ℕ) (ops : List OpValue) (numbers : List ℕ) (lists : List (List Logged)) (log : List OpValue) → IsLog n ops numbers lists log
+pub log_is : (n : ℕ) (ops : List OpValue) (numbers : List ℕ) (lists : List (List Logged)) (log : List OpValue)
+    → IsLog n ops numbers lists log
     → log_of ops numbers ≡ log
 log_is n ops numbers lists log is =
     ap reverse (stand_filter_map (slice_get ops) numbers (reverse log) is.standing) ∙ reverse-reverse log
@@ -359,7 +398,8 @@ agree_some R None p x h e = absurd (cc)
 agree_some R (Some z) None x h e = absurd h
 agree_some R (Some z) (Some y) x h e = let same : z ≡ x = cc in (y, refl, subst (λ q. R q y) same h)
 
-zip_get : {X Y : Type 0} (R : X → Y → Type 0) (xs : List X) (ys : List Y) (k : ℕ) → AllZip R xs ys → Agree R (slice_get xs k) (slice_get ys k)
+zip_get : {X Y : Type 0} (R : X → Y → Type 0) (xs : List X) (ys : List Y) (k : ℕ) → AllZip R xs ys
+    → Agree R (slice_get xs k) (slice_get ys k)
 zip_get R [] [] k h = tt
 zip_get R [] (y ∷ ys) k h = absurd h
 zip_get R (x ∷ xs) [] k h = absurd h
@@ -373,7 +413,8 @@ zip_length R (x ∷ xs) [] h = absurd h
 zip_length R (x ∷ xs) (y ∷ ys) h = ap suc (zip_length R xs ys h.1)
 
 -- a site past the size has no operations
-none_past_more : (n site : ℕ) (x : OpValue) (log : List OpValue) (b : Bool) → (x.dot.site == site) ≡ b → n < site → x.dot.site ≤ n
+none_past_more : (n site : ℕ) (x : OpValue) (log : List OpValue) (b : Bool) → (x.dot.site == site) ≡ b → n < site
+    → x.dot.site ≤ n
     → ops_of site log ≡ [] → cond b (x ∷ ops_of site log) (ops_of site log) ≡ []
 none_past_more n site x log true e past within ih = absurd (omega (arith, eqb-true x.dot.site site e))
 none_past_more n site x log false e past within ih = ih
@@ -383,19 +424,24 @@ none_past n site [] past h = refl
 none_past n site (x ∷ log) past h =
     none_past_more n site x log (x.dot.site == site) refl past h.0.within (none_past n site log past h.1)
 
-found_as : (ops log : List OpValue) (d : DotValue) (o : Option Logged) (p : Option OpValue) → ((x : OpValue) → p ≡ Some x → x.dot ≡ d)
+found_as : (ops log : List OpValue) (d : DotValue) (o : Option Logged) (p : Option OpValue)
+    → ((x : OpValue) → p ≡ Some x → x.dot ≡ d)
     → Agree (IsLoggedAs ops (λ (e : DotValue). decision e log)) o p → Agree (IsFoundAs ops log d) o p
 found_as ops log d None None is h = tt
 found_as ops log d None (Some x) is h = absurd h
 found_as ops log d (Some l) None is h = absurd h
-found_as ops log d (Some l) (Some x) is h = record { number = h.number; decided = h.decided ∙ ap (λ (e : DotValue). decision e log) (is x refl) }
+found_as ops log d (Some l) (Some x) is h = record
+    { number = h.number; decided = h.decided ∙ ap (λ (e : DotValue). decision e log) (is x refl) }
 
-pub at_dot : (n : ℕ) (ops : List OpValue) (numbers : List ℕ) (lists : List (List Logged)) (log : List OpValue) (d : DotValue)
-    → IsLog n ops numbers lists log → IsFromOne d → Agree (IsFoundAs ops log d) (logged_at d lists) (find (is_dot_of d) log)
+pub at_dot : (n : ℕ) (ops : List OpValue) (numbers : List ℕ) (lists : List (List Logged)) (log : List OpValue)
+    (d : DotValue)
+    → IsLog n ops numbers lists log → IsFromOne d → Agree (IsFoundAs ops log d) (logged_at d lists)
+    (find (is_dot_of d) log)
 at_dot n ops numbers lists log d is from_one =
     found_as ops log d (logged_at d lists) (find (is_dot_of d) log)
     (λ x e. same_dot_true x.dot d (find_In (is_dot_of d) log x e).1)
-    (subst (λ q. Agree R (logged_at d lists) q) (sym (found_at n d log from_one.seq is.orderly)) (⊎_elim past within (cases_lt n d.site)))
+    (subst (λ q. Agree R (logged_at d lists) q) (sym (found_at n d log from_one.seq is.orderly))
+    (⊎_elim past within (cases_lt n d.site)))
   where
     R : Logged → OpValue → Type 0
     R = IsLoggedAs ops (λ (e : DotValue). decision e log)
@@ -404,7 +450,8 @@ at_dot n ops numbers lists log d is from_one =
     past h =
         let no_list : list_of d.site lists ≡ [] = get_or_past lists (d.site - 1) [] (omega (arith, h, is.index.size)) in
         let no_op : of_site d.site log ≡ [] = ap reverse (none_past n d.site log h is.orderly) in
-        subst (λ q. Agree R q (slice_get (of_site d.site log) (d.seq - 1))) (sym (ap (λ q. slice_get q (d.seq - 1)) no_list))
+        subst (λ q. Agree R q (slice_get (of_site d.site log) (d.seq - 1)))
+        (sym (ap (λ q. slice_get q (d.seq - 1)) no_list))
         (subst (λ q. Agree R None (slice_get q (d.seq - 1))) (sym no_op) tt)
 
     within : d.site ≤ n → Agree R (logged_at d lists) (slice_get (of_site d.site log) (d.seq - 1))
@@ -418,14 +465,17 @@ first_reversed (x ∷ xs) k e =
     ap (λ q. slice_get q (k - 1)) (reverse-append (x ∷ []) xs)
     ∙ get_last (reverse xs) x (k - 1) (omega (arith, e, length-reverse xs))
 
-pub at_last : (n : ℕ) (ops : List OpValue) (numbers : List ℕ) (lists : List (List Logged)) (log : List OpValue) (site : ℕ)
+pub at_last : (n : ℕ) (ops : List OpValue) (numbers : List ℕ) (lists : List (List Logged)) (log : List OpValue)
+    (site : ℕ)
     → IsLog n ops numbers lists log → 1 ≤ site → site ≤ n
-    → Agree (IsLoggedAs ops (λ (e : DotValue). decision e log)) (last_of (list_of site lists)) (slice_get (ops_of site log) 0)
+    → Agree (IsLoggedAs ops (λ (e : DotValue). decision e log)) (last_of (list_of site lists))
+    (slice_get (ops_of site log) 0)
 at_last n ops numbers lists log site is some within =
     let list : List Logged = list_of site lists in
     let zipped = is.index.each site some within in
     let R : Logged → OpValue → Type 0 = IsLoggedAs ops (λ (e : DotValue). decision e log) in
-    let as_many : length list ≡ length (ops_of site log) = zip_length R list (of_site site log) zipped ∙ length-reverse (ops_of site log) in
+    let as_many : length list ≡ length (ops_of site log) = zip_length R list (of_site site log) zipped
+    ∙ length-reverse (ops_of site log) in
     subst (λ q. Agree R (last_of list) q) (first_reversed (ops_of site log) (length list) as_many)
     (zip_get R list (of_site site log) (length list - 1) zipped)
 
@@ -435,12 +485,15 @@ if_none (Some x) P h = tt
 
 -- the log, after what was noted
 
-pub log_after : (n : ℕ) (ops more : List OpValue) (numbers numbers_new : List ℕ) (lists lists_new : List (List Logged)) (log : List OpValue)
+pub log_after : (n : ℕ) (ops more : List OpValue) (numbers numbers_new : List ℕ)
+    (lists lists_new : List (List Logged)) (log : List OpValue)
     (x : OpValue) (k site : ℕ)
-    → IsLog n ops numbers lists log → IsGrown ops more → slice_get more k ≡ Some x → IsNextIn n site log x → 1 ≤ site → site ≤ n
+    → IsLog n ops numbers lists log → IsGrown ops more → slice_get more k ≡ Some x → IsNextIn n site log x → 1 ≤ site
+    → site ≤ n
     → IfSome (decided_by x.body) IsFromOne → numbers_new ≡ numbers ++ k ∷ []
     → lists_new ≡ with_decision x.body (with_logged site k lists) → IsLog n more numbers_new lists_new (x ∷ log)
-log_after n ops more numbers numbers_new lists lists_new log x k site is grown kept next some within dot numbers_are lists_are =
+log_after n ops more numbers numbers_new lists lists_new log x k site is grown kept next some within dot numbers_are
+    lists_are =
     let of : IsNextOf n log x = record {
       some = subst (λ (s : ℕ). 1 ≤ s) (sym next.own) some;
       within = subst (λ (s : ℕ). s ≤ n) (sym next.own) within;
@@ -454,9 +507,11 @@ log_after n ops more numbers numbers_new lists lists_new log x k site is grown k
     (subst (λ q. IsLog n more (numbers ++ k ∷ []) q (x ∷ log)) lists_as after)
 
 -- the log that the numbers tell
-pub as_told : (n : ℕ) (ops : List OpValue) (numbers : List ℕ) (lists : List (List Logged)) (log : List OpValue) → IsLog n ops numbers lists log
+pub as_told : (n : ℕ) (ops : List OpValue) (numbers : List ℕ) (lists : List (List Logged)) (log : List OpValue)
+    → IsLog n ops numbers lists log
     → IsLog n ops numbers lists (log_of ops numbers)
-as_told n ops numbers lists log is = subst (λ q. IsLog n ops numbers lists q) (sym (log_is n ops numbers lists log is)) is
+as_told n ops numbers lists log is = subst (λ q. IsLog n ops numbers lists q)
+    (sym (log_is n ops numbers lists log is)) is
 
 pub no_log : (n : ℕ) → IsLog n [] [] (replicate n []) []
 no_log n =

@@ -1,5 +1,7 @@
 -- Lists that stand in places of a list: one of them replaced.
-use Rattle.std.proofs.Common.{◌≡◌, ◌<◌, ◌≤◌, ◌+◌, ℕ, zero, suc, Bool, true, false, ⊎_elim, true≢false, List, [], ◌∷◌, length, set, get_or, map, Option, Some, None, Vec, Global, refl, sym, ap, ◌∙◌, subst, arith}
+use Rattle.std.proofs.Common.{◌≡◌, ◌<◌, ◌≤◌, ◌+◌, ℕ, zero, suc, Bool, true, false, ⊎_elim}
+use Rattle.std.proofs.Common.{true≢false, List, [], ◌∷◌, length, set, get_or, map, Option, Some}
+use Rattle.std.proofs.Common.{None, Vec, Global, refl, sym, ap, ◌∙◌, subst, arith}
 use Rattle.std.proofs.lemmas.List.{map-set}
 use Rattle.std.proofs.lemmas.Bool.{cases_lt}
 use Rattle.std.proofs.Math.Seq.{map-set_same}
@@ -8,13 +10,15 @@ use Rattle.std.specs.Option.{IfSome}
 use Rattle.td_history.specs.declared.index.Logged.{Logged}
 use Rattle.td_history.specs.Index.{decided_in}
 
-mapped_at : {V L : Type 0} (f : V → List L) (xs : List V) (i : ℕ) (e : V) → i < length xs → e ≡ get_or xs i e → get_or (map f xs) i [] ≡ f e
+mapped_at : {V L : Type 0} (f : V → List L) (xs : List V) (i : ℕ) (e : V) → i < length xs → e ≡ get_or xs i e
+    → get_or (map f xs) i [] ≡ f e
 mapped_at f [] i e lt is = absurd (omega arith)
 mapped_at f (x ∷ xs) zero e lt is = ap f (sym is)
 mapped_at f (x ∷ xs) (suc i) e lt is = mapped_at f xs i e (omega arith) is
 
 -- the list at a place becomes g of it
-pub replaced : {V L : Type 0} (f : V → List L) (g : List L → List L) (xs : List V) (i : ℕ) (e v : V) → i < length xs → e ≡ get_or xs i e
+pub replaced : {V L : Type 0} (f : V → List L) (g : List L → List L) (xs : List V) (i : ℕ) (e v : V) → i < length xs
+    → e ≡ get_or xs i e
     → f v ≡ g (f e) → map f (set xs i v) ≡ set (map f xs) i (g (get_or (map f xs) i []))
 replaced f g xs i e v lt is same =
     let old : get_or (map f xs) i [] ≡ f e = mapped_at f xs i e lt is in
@@ -22,7 +26,8 @@ replaced f g xs i e v lt is same =
     map-set f xs i v ∙ ap (λ w. set (map f xs) i w) new
 
 -- or stays as it is
-pub replaced_same : {V L : Type 0} (f : V → List L) (xs : List V) (i : ℕ) (e v : V) → e ≡ get_or xs i e → f v ≡ f e → map f (set xs i v) ≡ map f xs
+pub replaced_same : {V L : Type 0} (f : V → List L) (xs : List V) (i : ℕ) (e v : V) → e ≡ get_or xs i e → f v ≡ f e
+    → map f (set xs i v) ≡ map f xs
 replaced_same f xs i e v is same = map-set_same f xs i v e (same ∙ ap f is)
 
 pub set_get : {X : Type 0} (xs : List X) (i : ℕ) (x : X) → i < length xs → slice_get (set xs i x) i ≡ Some x
@@ -30,7 +35,8 @@ set_get [] i x h = absurd (omega arith)
 set_get (y ∷ xs) zero x h = refl
 set_get (y ∷ xs) (suc i) x h = set_get xs i x (omega arith)
 
-pub set_some : {X : Type 0} (P : X → Type 0) (xs : List X) (i : ℕ) (x : X) → i < length xs → P x → IfSome (slice_get (set xs i x) i) P
+pub set_some : {X : Type 0} (P : X → Type 0) (xs : List X) (i : ℕ) (x : X) → i < length xs → P x
+    → IfSome (slice_get (set xs i x) i) P
 set_some P xs i x h p = subst (λ q. IfSome q P) (sym (set_get xs i x h)) p
 
 -- no vector has more elements than room

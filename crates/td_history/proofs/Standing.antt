@@ -35,7 +35,8 @@ module _ {X Y : Type 0} (f : X → Option Y) where
   stand_get (x ∷ xs) (y ∷ ys) (suc k) h = stand_get xs ys k h.1
 
   -- an element stands for something
-  pub stand_some : (xs : List X) (ys : List Y) (k : ℕ) (x : X) → StandFor f xs ys → slice_get xs k ≡ Some x → IsSome (f x)
+  pub stand_some : (xs : List X) (ys : List Y) (k : ℕ) (x : X) → StandFor f xs ys → slice_get xs k ≡ Some x
+      → IsSome (f x)
   stand_some [] ys k x h at = absurd (cc)
   stand_some (z ∷ xs) [] k x h at = absurd h
   stand_some (z ∷ xs) (y ∷ ys) zero x h at =

@@ -1,5 +1,6 @@
 -- The operations of a log by their site: what an index has of a dot, and what its calls make of it.
-use Rattle.std.specs.Prelude.{◌≡◌, ◌≤◌, ◌-◌, ℕ, zero, suc, Bool, true, false, List, [], ◌∷◌, ◌++◌, length, Option, Some, None, reverse, slice_index_or, slice_set}
+use Rattle.std.specs.Prelude.{◌≡◌, ◌≤◌, ◌-◌, ℕ, zero, suc, Bool, true, false, List, [], ◌∷◌, ◌++◌, length}
+use Rattle.std.specs.Prelude.{Option, Some, None, reverse, slice_index_or, slice_set}
 use Rattle.std.specs.List.{slice_get, AllZip}
 use Rattle.td_base.specs.Value.{DotValue}
 use Rattle.td_op.specs.declared.body.Body.{Body}

@@ -2,7 +2,9 @@
 use Rattle.std.specs.Prelude.{ℕ, List, Option, Some}
 use Rattle.std.specs.List.{slice_get}
 use Rattle.std.specs.Option.{option_map, option_and_then}
-use Rattle.td_op.specs.declared.request.Request.TheVariants.{Delete as AskDelete, DeleteAtom as AskDeleteAtom, Propose as AskPropose, ProposeAt as AskProposeAt, Cancel as AskCancel}
+use Rattle.td_op.specs.declared.request.Request.TheVariants.{Delete as AskDelete, DeleteAtom as AskDeleteAtom}
+use Rattle.td_op.specs.declared.request.Request.TheVariants.{Propose as AskPropose, ProposeAt as AskProposeAt}
+use Rattle.td_op.specs.declared.request.Request.TheVariants.{Cancel as AskCancel}
 use Rattle.td_op.specs.declared.input.Input.{Input}
 use Rattle.td_op.specs.declared.input.Input.TheVariants.{Local, Take, Next}
 use Rattle.td_op.specs.declared.message.Message.TheVariants.{Op as AnOp, Vote as AVote}
@@ -10,7 +12,12 @@ use Rattle.td_op.specs.Op.{OpValue}
 use Rattle.td_store.specs.Compact.{slot_of}
 use Rattle.td_history.specs.declared.put.CompactPut.{CompactPut}
 use Rattle.td_history.specs.declared.input.CompactInput.{CompactInput}
-use Rattle.td_history.specs.declared.input.CompactInput.TheVariants.{Done, Refused, Delete as CompactDelete, DeleteAtom as CompactDeleteAtom, Propose as CompactPropose, ProposeAt as CompactProposeAt, Cancel as CompactCancel, Taken, Offered, Vote as CompactVote, Next as CompactNext}
+use Rattle.td_history.specs.declared.input.CompactInput.TheVariants.{Done, Refused, Delete as CompactDelete}
+use Rattle.td_history.specs.declared.input.CompactInput.TheVariants.{DeleteAtom as CompactDeleteAtom}
+use Rattle.td_history.specs.declared.input.CompactInput.TheVariants.{Propose as CompactPropose}
+use Rattle.td_history.specs.declared.input.CompactInput.TheVariants.{ProposeAt as CompactProposeAt}
+use Rattle.td_history.specs.declared.input.CompactInput.TheVariants.{Cancel as CompactCancel, Taken, Offered}
+use Rattle.td_history.specs.declared.input.CompactInput.TheVariants.{Vote as CompactVote, Next as CompactNext}
 use Rattle.td_history.specs.Puts.{put_of}
 use Rattle.td_history.specs.Texts.{run_at}
 use Rattle.td_history.specs.Votes.{vote_of}

@@ -5,7 +5,8 @@ use Rattle.std.specs.Option.{option_map}
 use Rattle.td_op.specs.declared.request.Request.{Request}
 use Rattle.td_op.specs.declared.request.Request.TheVariants.{Insert, InsertAfter, Paste, PasteAfter}
 use Rattle.td_history.specs.declared.put.CompactPut.{CompactPut}
-use Rattle.td_history.specs.declared.put.CompactPut.TheVariants.{Insert as PutInsert, InsertAfter as PutInsertAfter, Paste as PutPaste, PasteAfter as PutPasteAfter}
+use Rattle.td_history.specs.declared.put.CompactPut.TheVariants.{Insert as PutInsert, InsertAfter as PutInsertAfter}
+use Rattle.td_history.specs.declared.put.CompactPut.TheVariants.{Paste as PutPaste, PasteAfter as PutPasteAfter}
 
 abbrev pub put_of : List (List ℕ) → CompactPut → Option Request
 put_of text (PutInsert index) = option_map (λ (atom : List ℕ). Insert index atom) (slice_get text 0)

@@ -1,8 +1,16 @@
 -- The reply that a compact one stands for.
 use Rattle.td_op.specs.declared.reply.Reply.{Reply}
-use Rattle.td_op.specs.declared.reply.Reply.TheVariants.{Made, Cancelled, Held, Position, Gone, Limit, NotOpen, New, Later, Repeat, Unfit, Taken, Dropped, Idle}
+use Rattle.td_op.specs.declared.reply.Reply.TheVariants.{Made, Cancelled, Held, Position, Gone, Limit, NotOpen, New}
+use Rattle.td_op.specs.declared.reply.Reply.TheVariants.{Later, Repeat, Unfit, Taken, Dropped, Idle}
 use Rattle.td_history.specs.declared.reply.CompactReply.{CompactReply}
-use Rattle.td_history.specs.declared.reply.CompactReply.TheVariants.{Made as CompactMade, Cancelled as CompactCancelled, Held as CompactHeld, Position as CompactPosition, Gone as CompactGone, Limit as CompactLimit, NotOpen as CompactNotOpen, New as CompactNew, Later as CompactLater, Repeat as CompactRepeat, Unfit as CompactUnfit, Taken as CompactTaken, Dropped as CompactDropped, Idle as CompactIdle}
+use Rattle.td_history.specs.declared.reply.CompactReply.TheVariants.{Made as CompactMade}
+use Rattle.td_history.specs.declared.reply.CompactReply.TheVariants.{Cancelled as CompactCancelled}
+use Rattle.td_history.specs.declared.reply.CompactReply.TheVariants.{Held as CompactHeld, Position as CompactPosition}
+use Rattle.td_history.specs.declared.reply.CompactReply.TheVariants.{Gone as CompactGone, Limit as CompactLimit}
+use Rattle.td_history.specs.declared.reply.CompactReply.TheVariants.{NotOpen as CompactNotOpen, New as CompactNew}
+use Rattle.td_history.specs.declared.reply.CompactReply.TheVariants.{Later as CompactLater, Repeat as CompactRepeat}
+use Rattle.td_history.specs.declared.reply.CompactReply.TheVariants.{Unfit as CompactUnfit, Taken as CompactTaken}
+use Rattle.td_history.specs.declared.reply.CompactReply.TheVariants.{Dropped as CompactDropped, Idle as CompactIdle}
 
 abbrev pub reply_of : CompactReply → Reply
 reply_of (CompactMade dot) = Made dot

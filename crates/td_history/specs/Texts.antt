@@ -5,7 +5,9 @@ use Rattle.std.specs.Option.{option_and_then}
 use Rattle.td_op.specs.declared.body.Body.{Body}
 use Rattle.td_op.specs.declared.body.Body.TheVariants.{Insert, Delete, Propose, Commit, Abort}
 use Rattle.td_op.specs.declared.request.Request.{Request}
-use Rattle.td_op.specs.declared.request.Request.TheVariants.{Insert as AskInsert, InsertAfter, Paste, PasteAfter, Delete as AskDelete, DeleteAtom, Propose as AskPropose, ProposeAt, Cancel}
+use Rattle.td_op.specs.declared.request.Request.TheVariants.{Insert as AskInsert, InsertAfter, Paste, PasteAfter}
+use Rattle.td_op.specs.declared.request.Request.TheVariants.{Delete as AskDelete, DeleteAtom}
+use Rattle.td_op.specs.declared.request.Request.TheVariants.{Propose as AskPropose, ProposeAt, Cancel}
 use Rattle.td_op.specs.Op.{OpValue}
 
 -- the text of an insert

@@ -1,5 +1,7 @@
 -- An editor before and after a call.
-use Rattle.std.proofs.Common.{◌≡◌, ℕ, zero, suc, ◌+◌, ◌<◌, ◌≤◌, ◌-◌, ◌^◌, min, length, length-append, Option, Some, None, IfSome, IfNone, Ok, Err, List, [], ◌∷◌, ◌++◌, map, refl, ap, sym, subst, ◌∙◌, arith, le_trans}
+use Rattle.std.proofs.Common.{◌≡◌, ℕ, zero, suc, ◌+◌, ◌<◌, ◌≤◌, ◌-◌, ◌^◌, min, length, length-append}
+use Rattle.std.proofs.Common.{Option, Some, None, IfSome, IfNone, Ok, Err, List, [], ◌∷◌, ◌++◌, map}
+use Rattle.std.proofs.Common.{refl, ap, sym, subst, ◌∙◌, arith, le_trans}
 use Rattle.std.specs.List.{range_with_len}
 use Rattle.std.proofs.lemmas.List.{length-map, map-append}
 use Rattle.std.proofs.lemmas.List.FromFn.{length-range_with_len}
@@ -20,7 +22,8 @@ use Rattle.td_line.specs.declared.ask.Ask.{Ask}
 use Rattle.td_line.specs.declared.answer.Answer.{Answer}
 use Rattle.td_line.specs.declared.report.Report.{Report}
 use Rattle.td_line.specs.declared.not_sent.NotSent.TheVariants.{Full}
-use Rattle.td_line.specs.Editors.{EditorValue, IsEditor, IsPending, IsCounted, IsSubmitted, LaterEditor, polled, with_ask}
+use Rattle.td_line.specs.Editors.{EditorValue, IsEditor, IsPending, IsCounted}
+use Rattle.td_line.specs.Editors.{IsSubmitted, LaterEditor, polled, with_ask}
 
 -- as many requests are sent as calls are made
 asked : (e : EditorValue) → IsEditor e → length e.asks.sent ≡ e.made

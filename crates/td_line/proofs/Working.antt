@@ -1,5 +1,6 @@
 -- Work for one line, composed.
-use Rattle.std.proofs.Common.{◌≡◌, ◌+◌, ◌++◌, ℕ, true, List, [], ◌∷◌, length, Option, Some, None, MatchOption, refl, sym, ap, ◌∙◌, subst, length-append, append-nil, arith}
+use Rattle.std.proofs.Common.{◌≡◌, ◌+◌, ◌++◌, ℕ, true, List, [], ◌∷◌, length, Option, Some, None, MatchOption}
+use Rattle.std.proofs.Common.{refl, sym, ap, ◌∙◌, subst, length-append, append-nil, arith}
 use Rattle.std.specs.Option.{option_to_list}
 use Rattle.std.specs.List.{AllByRecursion}
 use mathlib.Core.List.{IsPrefix}
@@ -18,7 +19,8 @@ use Rattle.td_line.specs.declared.answer.Answer.{Answer}
 use Rattle.td_line.specs.Calls.{AreRecorded, answers_at, local_in, local_at, IsDone}
 use Rattle.td_line.specs.Lines.{LineValue, line_places, HasServed, LaterLine, Served, Turned}
 use Rattle.td_line.specs.Editors.{EditorValue, LaterEditor, Belongs, IsNewLine}
-use Rattle.td_line.proofs.Calling.{recorded_later, recorded_done, counts_done, local_same, only_none, only_then, only_done}
+use Rattle.td_line.proofs.Calling.{recorded_later, recorded_done, counts_done}
+use Rattle.td_line.proofs.Calling.{local_same, only_none, only_then, only_done}
 
 prefix_equal : {A : Type 0} (xs ys : List A) → ys ≡ xs → IsPrefix xs ys
 prefix_equal {A} xs ys e = subst (λ (w : List A). IsPrefix xs w) (sym e) (prefix_self xs)

@@ -105,8 +105,8 @@ impl Editor {
     }
 
     /// What `f` answers on a text of the site that has at least the entry of the last answer polled, and is never
-    /// older than one seen before. None only where `refused` rose, and then `f` is not called. It takes no memory and never
-    /// waits.
+    /// older than one seen before. None only where `refused` rose, and then `f` is not called. It takes no memory and
+    /// never waits.
     pub fn look<X, F: FnOnce(&Shown) -> X>(&mut self, f: F) -> Option<X>
         requires { F.IsAlwaysCallable f }
         ensures shown { IfSome result (λ answer. (x : Shown) × FnOnceReturnsAt F.FnOnce f x answer

@@ -1,6 +1,7 @@
 -- Each step of a link keeps its rule. A step that changes one pass keeps what the others know, since they may do what
 -- it may not.
-use Rattle.std.proofs.Common.{◌≡◌, ◌≢◌, ℕ, zero, suc, true, false, true≢false, List, [], ◌∷◌, ◌++◌, length, set, sym, refl, ap, ◌∙◌, subst, ⊎_elim, append_assoc, append-nil, arith, Option, None}
+use Rattle.std.proofs.Common.{◌≡◌, ◌≢◌, ℕ, zero, suc, true, false, true≢false, List, [], ◌∷◌, ◌++◌, length, set, sym}
+use Rattle.std.proofs.Common.{refl, ap, ◌∙◌, subst, ⊎_elim, append_assoc, append-nil, arith, Option, None}
 use Rattle.std.specs.Prelude.{All}
 use Rattle.std.proofs.lemmas.List.Elements.{All-nil, All-push, All-head, All-tail}
 use Rattle.std.proofs.lemmas.Option.{none-some}
@@ -18,7 +19,8 @@ nothing_left sent [] items e none = sym e ∙ none
 nothing_left sent (x ∷ taken) items e none = let c : x ∷ (taken ++ items) ≡ [] = sym e ∙ none in cc
 
 -- where the queue holds nothing, what was taken and what is left are all that was sent
-pub left_is : {T : Type 0} (sent taken left popped held : List T) → length held ≡ 0 → sent ≡ popped ++ held → popped ≡ taken ++ left
+pub left_is : {T : Type 0} (sent taken left popped held : List T) → length held ≡ 0 → sent ≡ popped ++ held → popped
+    ≡ taken ++ left
     → sent ≡ taken ++ left
 left_is sent taken left popped [] empty whole is = whole ∙ append-nil popped ∙ is
 left_is sent taken left popped (x ∷ held) empty whole is = absurd (omega (arith, empty))
@@ -36,7 +38,8 @@ module _ {T M : Type 0} where
       (at_set views port j w u e)
 
   -- what stands at a place where nothing did before stands at the end
-  at_end : (l : List (Log T M)) (a b : Log T M) (j : ℕ) → get_elem? l j ≢ some b → get_elem? (l ++ a ∷ []) j ≡ some b → j ≡ length l
+  at_end : (l : List (Log T M)) (a b : Log T M) (j : ℕ) → get_elem? l j ≢ some b → get_elem? (l ++ a ∷ []) j ≡ some b
+      → j ≡ length l
   at_end [] a b zero n e = refl
   at_end [] a b (suc j) n e = absurd (some-ne-none b (sym e))
   at_end (x ∷ xs) a b zero n e = absurd (n e)
@@ -55,12 +58,14 @@ module _ {T M : Type 0} where
           taken = [];
           whole = refl;
           fit = ((λ m is. absurd (none-some m is)), λ _. refl);
-          known = every_set (Knows 0 0 None [] []) (first ∷ []) 0 first ((λ _. (refl, refl, refl)), λ _. (refl, refl, refl))
+          known = every_set (Knows 0 0 None [] []) (first ∷ []) 0 first
+              ((λ _. (refl, refl, refl)), λ _. (refl, refl, refl))
               (λ j u other e. absurd (other (at_end [] _ u j (λ x. some-ne-none u (sym x)) e)));
         }
 
     -- its pass is cut in two
-    pub parts : (port : ℕ) (v : Log T M) (mark : Option M) → v.pushes ≡ true → v.pops ≡ true → v.mark ≡ None → v.taken ≡ []
+    pub parts : (port : ℕ) (v : Log T M) (mark : Option M) → v.pushes ≡ true → v.pops ≡ true → v.mark ≡ None → v.taken
+        ≡ []
         → Forks (Linked fits) port v (log true false mark v.sent []) (log false true mark [] v.taken)
     parts port v mark pushes pops none untaken items views h at =
         let tx : Log T M = log true false mark v.sent [] in
@@ -69,9 +74,14 @@ module _ {T M : Type 0} where
         let takes = (h.known port v at).1 pops in
         let nothing : h.sent ≡ [] = h.fit.1 (sym sends.1 ∙ none) in
         let cut : List (Log T M) = set views port tx in
-        let Was : ℕ → Log T M → Type 0 = λ j u. (u.pushes ≡ true → (j ≡ h.sender) × (u.mark ≡ mark) × (u.sent ≡ h.sent)) × (u.pops ≢ true) in
+        let Was : ℕ → Log T M → Type 0 = λ j u. (u.pushes ≡ true → (j ≡ h.sender) × (u.mark ≡ mark)
+        × (u.sent ≡ h.sent)) × (u.pops ≢ true) in
         let was : Every Was cut = every_set Was views port tx ((λ _. (sends.0, refl, sends.2)), λ p. true≢false (sym p))
-        (λ j u other e. ((λ p. absurd (other (((h.known j u e).0 p).0 ∙ sym sends.0))), λ p. other (((h.known j u e).1 p).0 ∙ sym takes.0))) in
+        (λ j u other e. (
+          (λ p. absurd (other (((h.known j u e).0 p).0 ∙ sym sends.0))),
+          λ p. other
+              (((h.known j u e).1 p).0 ∙ sym takes.0),
+        )) in
         record {
           sender = h.sender;
           taker = length cut;
@@ -80,7 +90,8 @@ module _ {T M : Type 0} where
           taken = h.taken;
           whole = h.whole;
           fit = (
-            (λ m is. subst (λ (xs : List T). All (fits m) xs) (sym (nothing_left h.sent h.taken items h.whole nothing)) (All-nil (fits m))),
+            (λ m is. subst (λ (xs : List T). All (fits m) xs)
+                (sym (nothing_left h.sent h.taken items h.whole nothing)) (All-nil (fits m))),
             λ _. nothing,
           );
           known = λ j u e.
@@ -123,7 +134,8 @@ module _ {T M : Type 0} where
         )
 
     pub takes : (port : ℕ) (v : Log T M) → v.pops ≡ true
-        → Pops (Linked fits) port v (λ x w. (w ≡ log v.pushes v.pops v.mark v.sent (v.taken ++ x ∷ [])) × FitsMark fits v.mark x)
+        → Pops (Linked fits) port v (λ x w. (w ≡ log v.pushes v.pops v.mark v.sent (v.taken ++ x ∷ []))
+        × FitsMark fits v.mark x)
     takes port v may x items views h at =
         let w : Log T M = log v.pushes v.pops v.mark v.sent (v.taken ++ x ∷ []) in
         let mine = h.known port v at in
@@ -145,7 +157,8 @@ module _ {T M : Type 0} where
           (refl, λ m is. All-head (fits m) x items (h.fit.0 m (sym k.1 ∙ is))),
         )
 
-    pub drains : (port : ℕ) (v : Log T M) → v.pops ≡ true → Pops (Linked fits) port v (λ x w. w ≡ log v.pushes v.pops v.mark v.sent (v.taken ++ x ∷ []))
+    pub drains : (port : ℕ) (v : Log T M) → v.pops ≡ true
+        → Pops (Linked fits) port v (λ x w. w ≡ log v.pushes v.pops v.mark v.sent (v.taken ++ x ∷ []))
     drains port v may x items views h at = let r = takes port v may x items views h at in (r.0, r.1, r.2.0)
 
     -- the passes of the two ends become one
@@ -157,7 +170,8 @@ module _ {T M : Type 0} where
         let sends = (h.known port v at).0 pushes in
         let met : List (Log T M) = set views port both in
         let was : get_elem? views other ≡ some u =
-        ⊎_elim (λ (x : (other ≡ port) × (both ≡ u)). absurd (apart x.0)) (λ (x : (other ≢ port) × (get_elem? views other ≡ some u)). x.1)
+        ⊎_elim (λ (x : (other ≡ port) × (both ≡ u)). absurd (apart x.0))
+        (λ (x : (other ≢ port) × (get_elem? views other ≡ some u)). x.1)
         (at_set views port other both u there) in
         let takes = (h.known other u was).1 pops in
         let Now : ℕ → Log T M → Type 0 = λ j y. j ≢ other → Knows h.sender port h.mark h.sent h.taken j y in
@@ -177,15 +191,18 @@ module _ {T M : Type 0} where
         }
 
     -- the queue holds the last of what was sent
-    pub last_held : (port : ℕ) (v : Log T M) → v.pushes ≡ true → Learns (Linked fits) port v (λ items. (taken : List T) × (v.sent ≡ taken ++ items))
+    pub last_held : (port : ℕ) (v : Log T M) → v.pushes ≡ true
+        → Learns (Linked fits) port v (λ items. (taken : List T) × (v.sent ≡ taken ++ items))
     last_held port v may items views h at = (h.taken, ((h.known port v at).0 may).2 ∙ h.whole)
 
     -- the queue holds what comes next
-    pub next_held : (port : ℕ) (v : Log T M) → v.pops ≡ true → Learns (Linked fits) port v (λ items. (sent : List T) × (sent ≡ v.taken ++ items))
+    pub next_held : (port : ℕ) (v : Log T M) → v.pops ≡ true
+        → Learns (Linked fits) port v (λ items. (sent : List T) × (sent ≡ v.taken ++ items))
     next_held port v may items views h at = (h.sent, h.whole ∙ ap (λ l. l ++ items) (sym ((h.known port v at).1 may).2))
 
     -- of one that knows both
-    pub all_held : (port : ℕ) (v : Log T M) → v.pushes ≡ true → v.pops ≡ true → Learns (Linked fits) port v (λ items. v.sent ≡ v.taken ++ items)
+    pub all_held : (port : ℕ) (v : Log T M) → v.pushes ≡ true → v.pops ≡ true
+        → Learns (Linked fits) port v (λ items. v.sent ≡ v.taken ++ items)
     all_held port v pushes pops items views h at =
         let k = h.known port v at in
         (k.0 pushes).2 ∙ h.whole ∙ ap (λ l. l ++ items) (sym (k.1 pops).2)

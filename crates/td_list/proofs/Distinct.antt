@@ -1,5 +1,6 @@
 -- Numbers that differ, by their places; and names that do.
-use Rattle.std.proofs.Common.{◌≡◌, ◌≢◌, ◌<◌, ◌≤◌, ℕ, zero, suc, List, [], ◌∷◌, length, get_or, refl, sym, ap, ◌∙◌, subst, inl, inr, ⊎_elim, arith}
+use Rattle.std.proofs.Common.{◌≡◌, ◌≢◌, ◌<◌, ◌≤◌, ℕ, zero, suc, List, [], ◌∷◌, length, get_or}
+use Rattle.std.proofs.Common.{refl, sym, ap, ◌∙◌, subst, inl, inr, ⊎_elim, arith}
 use Rattle.td_base.specs.Lists.{In, Successive}
 use Rattle.td_base.proofs.Lists.{all_in, all_of}
 use Rattle.td_list.specs.Items.{Item, names, IsItem, AreApart, place_of}
@@ -29,14 +30,16 @@ In_at (x ∷ xs) (suc j) h = inr (In_at xs j (omega arith))
 pub successive_of : (xs : List ℕ) → Distinct xs → Successive (λ (x y : ℕ). x ≢ y) xs
 successive_of [] h = tt
 successive_of (x ∷ xs) h = (
-  all_of (λ (y : ℕ). x ≢ y) xs (λ y i e. let r = place_In y xs i in h 0 (suc r.0) (omega arith) (up r.0 (length xs) r.1) (e ∙ sym r.2)),
+  all_of (λ (y : ℕ). x ≢ y) xs (λ y i e. let r = place_In y xs i in
+      h 0 (suc r.0) (omega arith) (up r.0 (length xs) r.1) (e ∙ sym r.2)),
   successive_of xs (λ j k l m. h (suc j) (suc k) (up j k l) (up k (length xs) m)),
 )
 
 pub distinct_of : (xs : List ℕ) → Successive (λ (x y : ℕ). x ≢ y) xs → Distinct xs
 distinct_of [] s j k l m e = absurd (omega arith)
 distinct_of (x ∷ xs) s j zero l m e = absurd (omega arith)
-distinct_of (x ∷ xs) s zero (suc k) l m e = all_in (λ (y : ℕ). x ≢ y) xs s.0 (get_or xs k 0) (In_at xs k (omega arith)) e
+distinct_of (x ∷ xs) s zero (suc k) l m e = all_in (λ (y : ℕ). x ≢ y) xs s.0 (get_or xs k 0)
+    (In_at xs k (omega arith)) e
 distinct_of (x ∷ xs) s (suc j) (suc k) l m e = distinct_of xs s.1 j k (omega arith) (omega arith) e
 
 -- the names of a list, by their places
@@ -49,11 +52,14 @@ pub names_counted : (items : List Item) → length (names items) ≡ length item
 names_counted [] = refl
 names_counted (i ∷ items) = ap suc (names_counted items)
 
-pub differ : (items : List Item) → AreApart items → (j k : ℕ) → j < k → k < length items → (get_or items j nothing).name ≡ (get_or items k nothing).name → ⊥
-differ items a j k l m e = distinct_of (names items) a j k l (subst (λ (n : ℕ). k < n) (sym (names_counted items)) m) (name_at items j ∙ e ∙ sym (name_at items k))
+pub differ : (items : List Item) → AreApart items → (j k : ℕ) → j < k → k < length items
+    → (get_or items j nothing).name ≡ (get_or items k nothing).name → ⊥
+differ items a j k l m e = distinct_of (names items) a j k l (subst (λ (n : ℕ). k < n) (sym (names_counted items)) m)
+    (name_at items j ∙ e ∙ sym (name_at items k))
 
 -- an item's place is the only one at which its name stands
-pub only_place : (x : ℕ) (items : List Item) → AreApart items → (k : ℕ) → k < length items → (get_or items k nothing).name ≡ x → place_of x items ≡ k
+pub only_place : (x : ℕ) (items : List Item) → AreApart items → (k : ℕ) → k < length items
+    → (get_or items k nothing).name ≡ x → place_of x items ≡ k
 only_place x items a k l e =
     let there : IsItem x items = subst (λ (y : ℕ). IsItem y items) e (item_at items k l) in
     let at : (get_or items (place_of x items) nothing).name ≡ x = name_there x items there in

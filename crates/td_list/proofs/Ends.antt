@@ -1,5 +1,6 @@
 -- The first and the last item of a list.
-use Rattle.std.proofs.Common.{◌≡◌, ◌-◌, ◌<◌, ℕ, suc, List, [], ◌∷◌, ◌++◌, length, drop, refl, ap, ◌∙◌, arith, zero, get_or, Some}
+use Rattle.std.proofs.Common.{◌≡◌, ◌-◌, ◌<◌, ℕ, suc, List, [], ◌∷◌, ◌++◌, length, drop}
+use Rattle.std.proofs.Common.{refl, ap, ◌∙◌, arith, zero, get_or, Some}
 use Rattle.td_list.specs.Items.{Item, first_name, last_name}
 use Rattle.td_list.specs.Places.{nothing}
 
@@ -17,7 +18,8 @@ last-append [] y ys = refl
 last-append (x ∷ []) y ys = refl
 last-append (x ∷ z ∷ xs) y ys = last-append (z ∷ xs) y ys
 
-pub first_drop : (items : List Item) (n : ℕ) → n < length items → first_name (drop n items) ≡ Some (get_or items n nothing).name
+pub first_drop : (items : List Item) (n : ℕ) → n < length items → first_name (drop n items)
+    ≡ Some (get_or items n nothing).name
 first_drop [] n h = absurd (omega arith)
 first_drop (i ∷ items) zero h = refl
 first_drop (i ∷ items) (suc n) h = first_drop items n (omega arith)

@@ -1,9 +1,12 @@
 -- A list, parted where an item stands.
-use Rattle.std.proofs.Common.{◌≡◌, ◌≢◌, ◌+◌, ◌<◌, ℕ, List, [], ◌∷◌, ◌++◌, if◌then◌else◌, length, take, drop, get_or, refl, sym, ap, ◌∙◌, subst, inl, inr, ⊎_elim, arith, append_assoc, true, false, Bool, length-append}
+use Rattle.std.proofs.Common.{◌≡◌, ◌≢◌, ◌+◌, ◌<◌, ℕ, List, [], ◌∷◌, ◌++◌, if◌then◌else◌, length, take}
+use Rattle.std.proofs.Common.{drop, get_or, refl, sym, ap, ◌∙◌, subst, inl, inr, ⊎_elim, arith}
+use Rattle.std.proofs.Common.{append_assoc, true, false, Bool, length-append}
 use Rattle.std.proofs.lemmas.List.{take_at, drop_at, get_or_at, length_push}
 use Rattle.std.proofs.lemmas.Bool.{eqb-true, eq-eqb, cases_Bool}
 use Rattle.td_base.proofs.Lists.{all_in}
-use Rattle.td_list.specs.Items.{Item, names, IsItem, AreApart, is_named, items_before, items_from, items_after, place_of}
+use Rattle.td_list.specs.Items.{Item, names, IsItem, AreApart, is_named, items_before}
+use Rattle.td_list.specs.Items.{items_from, items_after, place_of}
 use Rattle.td_list.specs.Places.{nothing}
 use Rattle.td_list.proofs.Names.{apart-back}
 
@@ -19,7 +22,8 @@ pub here_named : (x : ℕ) (i : Item) → i.name ≡ x → is_named x i ≡ true
 here_named x i e = eq-eqb i.name x e
 
 pub not_named : (x : ℕ) (i : Item) → (x ≡ i.name → ⊥) → is_named x i ≡ false
-not_named x i h = ⊎_elim (λ (e : is_named x i ≡ true). absurd (h (sym (eqb-true i.name x e)))) (λ (e : is_named x i ≡ false). e) (cases_Bool (is_named x i))
+not_named x i h = ⊎_elim (λ (e : is_named x i ≡ true). absurd (h (sym (eqb-true i.name x e))))
+    (λ (e : is_named x i ≡ false). e) (cases_Bool (is_named x i))
 
 other_name : (x : ℕ) (i : Item) → is_named x i ≡ false → x ≡ i.name → ⊥
 other_name x i h e = differ (is_named x i) (here_named x i (sym e)) h
@@ -28,7 +32,8 @@ other_name x i h e = differ (is_named x i) (here_named x i (sym e)) h
     differ true p q = cc
     differ false p q = cc
 
-parted_at : (x : ℕ) (i : Item) (items : List Item) (b : Bool) → is_named x i ≡ b → IsItem x (i ∷ items) → (IsItem x items → Parted x items) → Parted x (i ∷ items)
+parted_at : (x : ℕ) (i : Item) (items : List Item) (b : Bool) → is_named x i ≡ b → IsItem x (i ∷ items)
+    → (IsItem x items → Parted x items) → Parted x (i ∷ items)
 parted_at x i items true e h ih = record {
   front = [];
   item = i;
@@ -53,19 +58,23 @@ parted x [] h = absurd h
 parted x (i ∷ items) h = parted_at x i items (is_named x i) refl h (parted x items)
 
 -- what stands before an item, and from it on
-pub before_at : (x : ℕ) (front : List Item) (item : Item) (back : List Item) → item.name ≡ x → (IsItem x front → ⊥) → items_before x (front ++ item ∷ back) ≡ front
+pub before_at : (x : ℕ) (front : List Item) (item : Item) (back : List Item) → item.name ≡ x → (IsItem x front → ⊥)
+    → items_before x (front ++ item ∷ back) ≡ front
 before_at x [] item back e h = ap (λ (b : Bool). if b then [] else item ∷ items_before x back) (here_named x item e)
 before_at x (i ∷ front) item back e h =
     ap (λ (b : Bool). if b then [] else i ∷ items_before x (front ++ item ∷ back)) (not_named x i (λ q. h (inl q)))
     ∙ ap (λ (q : List Item). i ∷ q) (before_at x front item back e (λ k. h (inr k)))
 
-pub from_at : (x : ℕ) (front : List Item) (item : Item) (back : List Item) → item.name ≡ x → (IsItem x front → ⊥) → items_from x (front ++ item ∷ back) ≡ item ∷ back
+pub from_at : (x : ℕ) (front : List Item) (item : Item) (back : List Item) → item.name ≡ x → (IsItem x front → ⊥)
+    → items_from x (front ++ item ∷ back) ≡ item ∷ back
 from_at x [] item back e h = ap (λ (b : Bool). if b then item ∷ back else items_from x back) (here_named x item e)
 from_at x (i ∷ front) item back e h =
-    ap (λ (b : Bool). if b then i ∷ (front ++ item ∷ back) else items_from x (front ++ item ∷ back)) (not_named x i (λ q. h (inl q)))
+    ap (λ (b : Bool). if b then i ∷ (front ++ item ∷ back) else items_from x (front ++ item ∷ back))
+    (not_named x i (λ q. h (inl q)))
     ∙ from_at x front item back e (λ k. h (inr k))
 
-pub after_at : (x : ℕ) (front : List Item) (item : Item) (back : List Item) → item.name ≡ x → (IsItem x front → ⊥) → items_after x (front ++ item ∷ back) ≡ back
+pub after_at : (x : ℕ) (front : List Item) (item : Item) (back : List Item) → item.name ≡ x → (IsItem x front → ⊥)
+    → items_after x (front ++ item ∷ back) ≡ back
 after_at x front item back e h = ap (drop 1) (from_at x front item back e h)
 
 -- the places of a parted list
@@ -91,21 +100,25 @@ module _ (x : ℕ) (items : List Item) (there : IsItem x items) where
       omega (arith, place_is, length-append p.front (p.item ∷ p.back))
 
   pub take_place : take (place_of x items) items ≡ items_before x items
-  take_place = (λ i. take (place_is i) (p.is i)) ∙ take_at p.front (p.item ∷ p.back) (length p.front) refl ∙ sym before_is
+  take_place = (λ i. take (place_is i) (p.is i)) ∙ take_at p.front (p.item ∷ p.back) (length p.front) refl
+      ∙ sym before_is
 
   pub drop_place : drop (place_of x items) items ≡ items_from x items
   drop_place = (λ i. drop (place_is i) (p.is i)) ∙ drop_at p.front (p.item ∷ p.back) (length p.front) refl ∙ sym from_is
 
   pub drop_after : drop (place_of x items + 1) items ≡ items_after x items
   drop_after =
-      (λ i. drop (place_is i + 1) (p.is i)) ∙ ap (drop (length p.front + 1)) (sym (append_assoc p.front (p.item ∷ []) p.back))
+      (λ i. drop (place_is i + 1) (p.is i)) ∙ ap (drop (length p.front + 1))
+      (sym (append_assoc p.front (p.item ∷ []) p.back))
       ∙ drop_at (p.front ++ p.item ∷ []) p.back (length p.front + 1) (length_push p.front p.item) ∙ sym after_is
 
   pub name_there : (get_or items (place_of x items) nothing).name ≡ x
-  name_there = ap (λ (i : Item). i.name) ((λ i. get_or (p.is i) (place_is i) nothing) ∙ get_or_at p.front p.item p.back nothing (length p.front) refl) ∙ p.named
+  name_there = ap (λ (i : Item). i.name) ((λ i. get_or (p.is i) (place_is i) nothing)
+      ∙ get_or_at p.front p.item p.back nothing (length p.front) refl) ∙ p.named
 
   item_there : get_or items (place_of x items) nothing ≡ p.item
-  item_there = (λ i. get_or (p.is i) (place_is i) nothing) ∙ get_or_at p.front p.item p.back nothing (length p.front) refl
+  item_there = (λ i. get_or (p.is i) (place_is i) nothing)
+      ∙ get_or_at p.front p.item p.back nothing (length p.front) refl
 
   pub there_is : items_from x items ≡ get_or items (place_of x items) nothing ∷ items_after x items
   there_is = from_is ∙ (λ i. sym item_there i ∷ sym after_is i)

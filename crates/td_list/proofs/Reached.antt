@@ -1,9 +1,11 @@
 -- The parts of a list after the chunks behind one were taken out, read in those before.
-use Rattle.std.proofs.Common.{◌≡◌, ◌+◌, ◌≤◌, ℕ, List, [], ◌∷◌, ◌++◌, set, take, drop, sym, ap, ◌∙◌, subst, inl, inr, arith, Option, None, Some}
+use Rattle.std.proofs.Common.{◌≡◌, ◌+◌, ◌≤◌, ℕ, List, [], ◌∷◌, ◌++◌, set, take, drop, sym, ap}
+use Rattle.std.proofs.Common.{◌∙◌, subst, inl, inr, arith, Option, None, Some}
 use Rattle.std.proofs.lemmas.Option.{same_Some, none-some}
 use Rattle.std.proofs.lemmas.List.{get_or-set_other, get_or-set_same}
 use Rattle.std.specs.Option.{ForSome}
-use Rattle.td_list.specs.Items.{Item, IsItem, AreApart, items_before, items_from, items_after, items_from_end, renew, weight_of}
+use Rattle.td_list.specs.Items.{Item, IsItem, AreApart, items_before, items_from}
+use Rattle.td_list.specs.Items.{items_after, items_from_end, renew, weight_of}
 use Rattle.td_list.specs.Index.{Parts, chunk_at, joined, all_items, chunks_before, chunks_after, summary, IsIndex}
 use Rattle.td_list.proofs.Found.{item_behind}
 use Rattle.td_list.proofs.Changes.{weight_around}

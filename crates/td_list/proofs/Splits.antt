@@ -1,14 +1,18 @@
 -- A chunk parted in two: the new chunk stands directly before the old one, and the list is as before.
-use Rattle.std.proofs.Common.{◌≡◌, ◌+◌, ◌<◌, ◌≤◌, ◌^◌, ℕ, List, [], ◌∷◌, ◌++◌, false, length, take, drop, get_or, set, refl, sym, ap, ◌∙◌, subst, inl, ⊎_elim, arith, append_assoc, take-append-drop, length-drop}
+use Rattle.std.proofs.Common.{◌≡◌, ◌+◌, ◌<◌, ◌≤◌, ◌^◌, ℕ, List, [], ◌∷◌, ◌++◌, false, length, take}
+use Rattle.std.proofs.Common.{drop, get_or, set, refl, sym, ap, ◌∙◌, subst, inl, ⊎_elim, arith}
+use Rattle.std.proofs.Common.{append_assoc, take-append-drop, length-drop}
 use Rattle.std.proofs.lemmas.List.{get_or-set_same, length-take-le}
 use Rattle.std.proofs.lemmas.Bool.{cases_lt}
 use Rattle.td_base.specs.Lists.{In}
 use Rattle.td_base.proofs.Lists.{In-back}
 use Rattle.td_list.specs.Items.{Item, IsItem, AreApart, put_before, renew, items_before, items_after, weight_of}
 use Rattle.td_list.specs.Index.{Parts, chunk_at, joined, all_items, chunks_before, chunks_after, summary, IsIndex}
-use Rattle.td_list.proofs.Names.{weight-append, weight-parts, item-append, item-front, item-back, item_in_front, item_in_back, apart-parts, apart-front, apart-back}
+use Rattle.td_list.proofs.Names.{weight-append, weight-parts, item-append, item-front, item-back}
+use Rattle.td_list.proofs.Names.{item_in_front, item_in_back, apart-parts, apart-front, apart-back}
 use Rattle.td_list.proofs.Parted.{Parted, before_is, from_is, before_at, after_at}
-use Rattle.td_list.proofs.Joined.{q, located, not_before, not_after, not_back, within, told, apart_in, homed, all_weight, joined-set, before_joined, after_joined, renewed_is, changed_all}
+use Rattle.td_list.proofs.Joined.{q, located, not_before, not_after, not_back, within, told, apart_in, homed}
+use Rattle.td_list.proofs.Joined.{all_weight, joined-set, before_joined, after_joined, renewed_is, changed_all}
 use Rattle.td_list.proofs.Changes.{fewer, now, weight_around}
 use Rattle.td_list.proofs.Added.{added_index, added_all}
 

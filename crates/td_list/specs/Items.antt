@@ -1,5 +1,6 @@
 -- A list of named items with weights, and what is asked of it.
-use Rattle.std.specs.Prelude.{◌≢◌, ◌+◌, ◌-◌, ◌*◌, ℕ, List, [], ◌∷◌, ◌++◌, Bool, false, ◌||◌, if◌then◌else◌, map, length, drop, nat_eq, nat_lt, Option, Some, None}
+use Rattle.std.specs.Prelude.{◌≢◌, ◌+◌, ◌-◌, ◌*◌, ℕ, List, [], ◌∷◌, ◌++◌, Bool, false, ◌||◌}
+use Rattle.std.specs.Prelude.{if◌then◌else◌, map, length, drop, nat_eq, nat_lt, Option, Some, None}
 use Rattle.td_base.specs.Lists.{In, Successive}
 use Rattle.td_list.specs.declared.item.Share.{Share}
 

@@ -1,5 +1,6 @@
 -- The lines that an agenda keeps, the last one first, and how many calls they ask for.
-use Rattle.std.proofs.Common.{◌≡◌, ◌<◌, ◌≤◌, ◌+◌, ◌-◌, ◌++◌, ◌∷◌, [], ℕ, suc, List, Option, Some, None, length, take, replicate, arith, ap, sym, refl, ◌∙◌, length-append}
+use Rattle.std.proofs.Common.{◌≡◌, ◌<◌, ◌≤◌, ◌+◌, ◌-◌, ◌++◌, ◌∷◌, [], ℕ, suc, List, Option, Some, None}
+use Rattle.std.proofs.Common.{length, take, replicate, arith, ap, sym, refl, ◌∙◌, length-append}
 use Rattle.std.specs.Prelude.{All, MatchOption, reverse, slice_get, sum_by}
 use Rattle.std.specs.List.{flat_map}
 use Rattle.std.proofs.lemmas.List.{length-map, reverse-append, take_all, take_more}
@@ -43,7 +44,8 @@ runs_within (run ∷ runs) each =
     let others : List (List ℕ) = flat_map (λ (r : List (List ℕ)). r) runs in
     omega (arith, first.some, runs_within runs (All-tail IsRun run runs each), length-append run others)
 
-pub count_pasted : (index : ℕ) (atoms : List (List ℕ)) → All IsAtom atoms → length (pasted index (runs_of atoms)) ≤ length atoms
+pub count_pasted : (index : ℕ) (atoms : List (List ℕ)) → All IsAtom atoms
+    → length (pasted index (runs_of atoms)) ≤ length atoms
 count_pasted index atoms each =
     omega (
       arith,
@@ -64,7 +66,8 @@ last_is_next {X = X} xs x is =
     let n : ℕ = length xs - 1 in
     let within : n < length xs = slice_get_within xs n x is in
     let all : take (n + 1) xs ≡ xs = take_all (n + 1) xs (omega arith) in
-    ap reverse (sym all ∙ take_more xs n x within ∙ ap (λ (y : X). take n xs ++ y ∷ []) (get_or_from_slice_get xs n x x is))
+    ap reverse (sym all ∙ take_more xs n x within ∙ ap (λ (y : X). take n xs ++ y ∷ [])
+    (get_or_from_slice_get xs n x x is))
     ∙ reverse_push (take n xs) x
 
 pub no_last : {X : Type 0} (xs : List X) → slice_get xs (length xs - 1) ≡ None → reverse xs ≡ []
@@ -74,7 +77,8 @@ no_last (x ∷ xs) none =
     absurd (none-some _ (sym none ∙ some))
 
 -- a line that begins asks for no more calls than were left
-pub fewer_calls : (r : Rest) (line : EditorLine) (lines : List EditorLine) → r.lines ≡ line ∷ lines → length (asks_of line) ≤ calls line
+pub fewer_calls : (r : Rest) (line : EditorLine) (lines : List EditorLine) → r.lines ≡ line ∷ lines
+    → length (asks_of line) ≤ calls line
     → calls_left (record r { asks = asks_of line; lines = lines }) ≤ calls_left r
 fewer_calls r line lines is few = omega (arith, few, ap (sum_by calls) is, sum_by-cons calls line lines)
 
@@ -87,14 +91,16 @@ first_is_next None behind all is = sym is
 first_is_next (Some ask) behind all is = (asks_behind behind, sym is)
 
 -- the next call taken off
-pub behind_first : (first : Option Ask) (behind : Behind) (ask : Ask) (asks : List Ask) → asks_from first behind ≡ ask ∷ asks
+pub behind_first : (first : Option Ask) (behind : Behind) (ask : Ask) (asks : List Ask) → asks_from first behind
+    ≡ ask ∷ asks
     → asks_behind behind ≡ asks
 behind_first None behind ask asks is = cc
 behind_first (Some next) behind ask asks is = cc
 
 -- what an iteration over the calls behind the next one yields
 pub next_behind : (next : Option Ask) (behind left : Behind)
-    → MatchOption next ((asks_behind behind ≡ []) × (asks_behind left ≡ [])) (λ (ask : Ask). asks_behind behind ≡ ask ∷ asks_behind left)
+    → MatchOption next ((asks_behind behind ≡ []) × (asks_behind left ≡ []))
+    (λ (ask : Ask). asks_behind behind ≡ ask ∷ asks_behind left)
     → asks_from next left ≡ asks_behind behind
 next_behind None behind left none = sym none.0
 next_behind (Some ask) behind left some = sym some

@@ -1,5 +1,7 @@
 -- From the close of a room to the books of its editors.
-use Rattle.std.proofs.Common.{◌≡◌, ◌<◌, ◌≤◌, ◌+◌, ◌-◌, ◌++◌, ◌==◌, ℕ, zero, suc, Bool, true, false, List, [], ◌∷◌, length, map, take, drop, Option, Some, None, slice_get, if◌then◌else◌, refl, sym, ap, ◌∙◌, subst, append-nil, arith, inl, inr}
+use Rattle.std.proofs.Common.{◌≡◌, ◌<◌, ◌≤◌, ◌+◌, ◌-◌, ◌++◌, ◌==◌, ℕ, zero, suc, Bool, true, false, List, []}
+use Rattle.std.proofs.Common.{◌∷◌, length, map, take, drop, Option, Some, None, slice_get, if◌then◌else◌}
+use Rattle.std.proofs.Common.{refl, sym, ap, ◌∙◌, subst, append-nil, arith, inl, inr}
 use Rattle.std.proofs.lemmas.Bool.{eq-eqb}
 use Rattle.std.proofs.lemmas.List.{length-map, length-append}
 use Rattle.std.specs.List.{AllZip, AllByRecursion, concat}
@@ -37,7 +39,8 @@ use Rattle.td_trace.specs.Family.{text_past}
 use Rattle.td_live.specs.declared.ask.Ask.{Ask}
 use Rattle.td_live.specs.Asking.{request_of}
 use Rattle.td_live.specs.Following.{Act, Called, Leads, AreActs, all_of, replied}
-use Rattle.td_live.specs.Desks.{DeskValue, IsDesk, HasDone, AwaitsNext, AreAnswered, AreSeen, acts_by, acts_of, sofar_of}
+use Rattle.td_live.specs.Desks.{DeskValue, IsDesk, HasDone, AwaitsNext, AreAnswered}
+use Rattle.td_live.specs.Desks.{AreSeen, acts_by, acts_of, sofar_of}
 use Rattle.td_live.specs.Books.{BookValue, IsBook, AreBooks, log_of, calls_done, with_answer, brought_up}
 use Rattle.td_live.specs.Live.{IsLiveFamilyOf}
 use Rattle.td_live.specs.Ending.{GoesOnTo, IsLiveEnd}
@@ -76,7 +79,8 @@ tells : Option Entry → Bool
 tells None = false
 tells (Some e) = is_request (told_of e.input)
 
-tells_same : (entries : History) (k : ℕ) → tells_request (slice_get (traced_history entries) k) ≡ tells (slice_get entries k)
+tells_same : (entries : History) (k : ℕ) → tells_request (slice_get (traced_history entries) k)
+    ≡ tells (slice_get entries k)
 unfolding tells
 tells_same [] k = refl
 tells_same (x ∷ entries) zero = refl
@@ -187,7 +191,8 @@ module _ (entries : History) (d : DeskValue) (answers : List Answer) (desk : IsD
   at_most_one : (a b : Answer) (more : List Answer) → polled d.editor ++ a ∷ b ∷ more ≡ answers → ⊥
   at_most_one a b more is =
       let w = awaits a (b ∷ more) is in
-      let n : length d.editor.asks.sent ≡ length d.editor.answers.taken + length (a ∷ b ∷ more) = many (a ∷ b ∷ more) is in
+      let n : length d.editor.asks.sent ≡ length d.editor.answers.taken + length (a ∷ b ∷ more) =
+      many (a ∷ b ∷ more) is in
       let t : length (polled d.editor) ≡ length d.editor.answers.taken =
       length-map d.editor.answers.taken (λ (r : Report). r.answer) in
       let o : length (polled d.editor) ≡ length w.before = w.one in
@@ -293,7 +298,8 @@ module _ (rs : List ReplicaValue) (sites : AreSites rs) where
       subst (λ (es : History). AreRecorded es 0 d.editor.asks.sent answers) h recorded in
       let t : AreTrue (history (family_of (world_of rs)) b.home) (text_past (family_of (world_of rs)) b.home)
       d.editor.reader.seen =
-      subst (λ (n : ℕ). AreTrue (history (family_of (world_of rs)) n) (text_past (family_of (world_of rs)) n) d.editor.reader.seen)
+      subst (λ (n : ℕ). AreTrue (history (family_of (world_of rs)) n) (text_past (family_of (world_of rs)) n)
+      d.editor.reader.seen)
       (sym u.home) (true_there d.editor.home ready.some ready.within d.editor.reader.seen ready.seen) in
       record {
         logged = record {
@@ -303,7 +309,8 @@ module _ (rs : List ReplicaValue) (sites : AreSites rs) where
               d.editor.reader.seen t nothing_yet d.editor.asks.sent answers b.did r u.entries u.seen;
         };
         acts = acts_by d.editor.asks.sent answers b.did;
-        are = acts_of_answers (history (family_of (world_of rs)) b.home) 0 0 d.editor.asks.sent answers b.did r u.entries;
+        are = acts_of_answers (history (family_of (world_of rs)) b.home) 0 0 d.editor.asks.sent answers b.did r
+            u.entries;
         leads = u.leads lines done;
       }
 
@@ -393,7 +400,8 @@ module _ (rs : List ReplicaValue) (sites : AreSites rs) where
 
   pub homes_up : (ds : List DeskValue) (all : List (List Answer)) → AllByRecursion IsDesk ds
       → AllZip (IsAnsweredAtHome rs) (map (λ (d : DeskValue). d.editor) ds) all
-      → map (λ (b : BookValue). b.home) (all_brought_up all (map book_of ds)) ≡ map (λ (d : DeskValue). d.editor.home) ds
+      → map (λ (b : BookValue). b.home) (all_brought_up all (map book_of ds))
+      ≡ map (λ (d : DeskValue). d.editor.home) ds
   homes_up [] [] h z = refl
   homes_up [] (answers ∷ all) h z = absurd z
   homes_up (d ∷ ds) [] h z = absurd z
@@ -455,10 +463,12 @@ module _ (ws : List WorkerValue) (es : List EditorValue) (rs : List ReplicaValue
       filter_In (λ (x : EditorValue). x.home == w.site.replica.machine.site) e es inside
       (eq-eqb e.home w.site.replica.machine.site site) in
       let begins : IsPrefix e.reader.seen l.publishes =
-      all_in (λ (x : EditorValue). IsPrefix x.reader.seen l.publishes) (editors_of w.site.replica.machine.site es) l.seen
+      all_in (λ (x : EditorValue). IsPrefix x.reader.seen l.publishes) (editors_of w.site.replica.machine.site es)
+      l.seen
       e own in
       all_front (IsTrueOf (replica_from rs (e.home - 1))) e.reader.seen begins.0
-      (subst (λ (ps : List Publish). AllByRecursion (IsTrueOf (replica_from rs (e.home - 1))) ps) (sym begins.1) l.looks_true)
+      (subst (λ (ps : List Publish). AllByRecursion (IsTrueOf (replica_from rs (e.home - 1))) ps) (sym begins.1)
+      l.looks_true)
 
   pub all_ready : (ds : List DeskValue) → length rs ≡ length ws
       → ((e : EditorValue) → In e (map (λ (d : DeskValue). d.editor) ds) → In e es) → AllByRecursion (IsReady rs) ds
@@ -490,7 +500,8 @@ histories_on (w ∷ ws) (r ∷ rs) (h ∷ family) same z f = (
   histories_on ws rs family (omega (arith, same)) z.1 (λ place less. f (suc place) (omega (arith, less))),
 )
 
-pub ended : (ws : List WorkerValue) (lines : List (List EditorLine)) (ds : List DeskValue) (rs : List ReplicaValue) (all : List (List Answer))
+pub ended : (ws : List WorkerValue) (lines : List (List EditorLine)) (ds : List DeskValue) (rs : List ReplicaValue)
+    (all : List (List Answer))
     (bytes : List ℕ) → AreSites rs → length rs ≡ length ws → AllZip GoesOn ws rs → AllByRecursion IsDesk ds
     → AllZip (IsAnsweredAtHome rs) (map (λ (d : DeskValue). d.editor) ds) all
     → GoesOnTo lines (family_of (world_of rs)) (all_brought_up all (map book_of ds)) bytes

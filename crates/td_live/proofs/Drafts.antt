@@ -1,5 +1,6 @@
 -- The desks taken apart, one after the other, and the books brought up.
-use Rattle.std.proofs.Common.{◌≡◌, ◌<◌, ◌+◌, ◌++◌, ℕ, zero, suc, List, [], ◌∷◌, length, map, take, get_or, refl, sym, ap, ◌∙◌, subst, append_assoc, append-nil, arith}
+use Rattle.std.proofs.Common.{◌≡◌, ◌<◌, ◌+◌, ◌++◌, ℕ, zero, suc, List, [], ◌∷◌, length, map, take, get_or}
+use Rattle.std.proofs.Common.{refl, sym, ap, ◌∙◌, subst, append_assoc, append-nil, arith}
 use Rattle.std.specs.List.{AllByRecursion, AllZip}
 use Rattle.std.proofs.lemmas.List.{map-append, nil_from_length}
 use Rattle.td_base.proofs.Passing.{all_append}
@@ -23,7 +24,8 @@ pub record IsTaking (all left : List DeskValue) (editors : List EditorValue) (bo
   pub books_are : books ≡ map book_of done
   pub desks : AllByRecursion IsDesk done
 
-pub taking_none : (all : List DeskValue) (editors : List EditorValue) (books : List BookValue) → editors ≡ [] → books ≡ []
+pub taking_none : (all : List DeskValue) (editors : List EditorValue) (books : List BookValue) → editors ≡ [] → books
+    ≡ []
     → IsTaking all all editors books
 taking_none all editors books e f =
     record { done = []; splits = refl; editors_are = e; books_are = f; desks = tt }

@@ -1,5 +1,6 @@
 -- The books of all editors, done one after the other.
-use Rattle.std.proofs.Common.{◌≡◌, ◌≤◌, ◌+◌, ◌++◌, ℕ, List, [], ◌∷◌, length, map, refl, sym, ap, ◌∙◌, subst, append_assoc, arith}
+use Rattle.std.proofs.Common.{◌≡◌, ◌≤◌, ◌+◌, ◌++◌, ℕ, List, [], ◌∷◌, length, map, refl}
+use Rattle.std.proofs.Common.{sym, ap, ◌∙◌, subst, append_assoc, arith}
 use Rattle.std.specs.List.{AllZip, AllByRecursion}
 use Rattle.std.proofs.lemmas.List.{map-append}
 use Rattle.td_base.proofs.Passing.{zip_weaker, all_append}
@@ -38,8 +39,11 @@ module _ (old : Family) (b : BookValue) (new : Family) (c : BookValue) (g : Goes
       → AllZip (IsBook old) lines (done ++ b ∷ left) → AllZip (IsBook new) lines (done ++ c ∷ left)
   each_replaced [] [] left z = absurd z
   each_replaced [] (d ∷ done) left z = absurd z
-  each_replaced (l ∷ lines) [] left z =
-      (g.follows l z.0, zip_weaker (IsBook old) (IsBook new) lines left (λ own x i. book_grown old new g.grown own x i) z.1)
+  each_replaced (l ∷ lines) [] left z = (
+    g.follows l z.0,
+    zip_weaker (IsBook old) (IsBook new) lines left
+        (λ own x i. book_grown old new g.grown own x i) z.1,
+  )
   each_replaced (l ∷ lines) (d ∷ done) left z = (book_grown old new g.grown l d z.0, each_replaced lines done left z.1)
 
   parts : (site k : ℕ) (done left : List BookValue) (x : BookValue)
@@ -107,7 +111,8 @@ finishing_next old all now new logs more books left f n =
           (subst (λ (bs : List BookValue). AreBooks now lines (f.done ++ bs)) n.first (f.books lines h)));
     }
 
-pub finishing_last : (old : Family) (all : List BookValue) (now : Family) (logs : List EditorLog) (books : List BookValue)
+pub finishing_last : (old : Family) (all : List BookValue) (now : Family) (logs : List EditorLog)
+    (books : List BookValue)
     → length books ≡ 0 → IsFinishing old all now logs books → IsFinishing old all now logs []
 finishing_last old all now logs [] none f = f
 finishing_last old all now logs (b ∷ books) none f = absurd (omega (arith, none))

@@ -1,5 +1,6 @@
 -- A book and its family go further: by a call, by a look, and one after the other.
-use Rattle.std.proofs.Common.{◌≡◌, ◌≢◌, ◌<◌, ◌≤◌, ◌+◌, ◌++◌, ◌==◌, ℕ, suc, Bool, true, false, List, [], ◌∷◌, length, drop, Some, if◌then◌else◌, nat_eq, refl, sym, ap, ◌∙◌, subst, arith}
+use Rattle.std.proofs.Common.{◌≡◌, ◌≢◌, ◌<◌, ◌≤◌, ◌+◌, ◌++◌, ◌==◌, ℕ, suc, Bool, true, false, List, [], ◌∷◌, length}
+use Rattle.std.proofs.Common.{drop, Some, if◌then◌else◌, nat_eq, refl, sym, ap, ◌∙◌, subst, arith}
 use Rattle.std.proofs.lemmas.Bool.{eqb-true, eqb-false}
 use Rattle.std.proofs.lemmas.List.{length-map, length-append}
 use Rattle.td_op.specs.declared.input.Input.TheVariants.{Local}
@@ -21,7 +22,8 @@ use Rattle.td_live.specs.Following.{Rest, Act, Called, Looked, Leads, all_of, re
 use Rattle.td_live.specs.Desks.{sofar_of}
 use Rattle.td_live.specs.Books.{BookValue, IsBook, IsGrown, GoesFurther, log_of, calls_done, with_call, with_look}
 use Rattle.td_live.proofs.Leading.{leads_call, leads_look}
-use Rattle.td_live.proofs.Recording.{grown_self, grown_then, book_grown, did_push, sofar_within, acts_push_call, acts_push_look, request_last, calls_both}
+use Rattle.td_live.proofs.Recording.{grown_self, grown_then, book_grown, did_push, sofar_within}
+use Rattle.td_live.proofs.Recording.{acts_push_call, acts_push_look, request_last, calls_both}
 
 pub further_self : (family : Family) (b : BookValue) → GoesFurther family b family b
 further_self family b =
@@ -103,8 +105,10 @@ module _ (old new : Family) (b : BookValue) (request : Request) (reply : Reply) 
               (Call (calls_done b.did + 1) entry) j.logged.did (refl, after, is_request);
         };
         acts = j.acts ++ Called request reply ∷ [];
-        are = acts_push_call (history new b.home) b.did j.acts (calls_done b.did + 1) entry request reply j.are is_entry;
-        leads = subst (λ (x : Request × List Ask). Leads (all_of lines) (j.acts ++ Called x.0 reply ∷ []) (replied reply b.rest x.1))
+        are = acts_push_call (history new b.home) b.did j.acts (calls_done b.did + 1) entry request reply j.are
+            is_entry;
+        leads = subst (λ (x : Request × List Ask). Leads (all_of lines) (j.acts ++ Called x.0 reply ∷ [])
+            (replied reply b.rest x.1))
             (λ k. (sym next.2 k, sym (ap (λ (asks : List Ask). drop 1 asks) next.1.1) k))
             (leads_call reply j.leads next.1.1);
       }
@@ -179,7 +183,8 @@ module _ (family : Family) (b : BookValue) (upto : ℕ) (text : List ℕ) (some 
   follows_look lines i =
       let long : length (traced_history (history family b.home)) ≡ length (history family b.home) =
       length-map (history family b.home) traced in
-      let w = sofar_within (traced_history (history family b.home)) (text_past family b.home) nothing_yet b.did i.logged.did
+      let w = sofar_within (traced_history (history family b.home)) (text_past family b.home) nothing_yet b.did
+      i.logged.did
       (omega arith) (omega arith) in
       let entry : (sofar_of nothing_yet b.did).entry ≤ length (traced_history (history family b.home)) = w.0 in
       let look : (sofar_of nothing_yet b.did).upto ≤ length (traced_history (history family b.home)) = w.1 in
@@ -193,7 +198,8 @@ module _ (family : Family) (b : BookValue) (upto : ℕ) (text : List ℕ) (some 
         };
         acts = i.acts ++ Looked ∷ [];
         are = acts_push_look (history family b.home) b.did i.acts (calls_done b.did) upto text i.are;
-        leads = subst (λ (ls : List EditorLine). Leads (all_of lines) (i.acts ++ Looked ∷ []) (record b.rest { lines = ls }))
+        leads = subst (λ (ls : List EditorLine). Leads (all_of lines) (i.acts ++ Looked ∷ [])
+            (record b.rest { lines = ls }))
             (sym (ap (λ (ls : List EditorLine). drop 1 ls) next.1.1)) (leads_look i.leads next.0 next.1.1);
       }
 

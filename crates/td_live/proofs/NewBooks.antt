@@ -1,5 +1,7 @@
 -- The books of editors that did nothing yet, in a world of sites that did nothing.
-use Rattle.std.proofs.Common.{◌≡◌, ◌<◌, ◌≤◌, ◌+◌, ◌-◌, ◌++◌, ℕ, zero, suc, Bool, true, false, List, [], ◌∷◌, length, map, drop, get_or, if◌then◌else◌, ◌==◌, refl, sym, ap, ◌∙◌, subst, append-nil, append_assoc, arith}
+use Rattle.std.proofs.Common.{◌≡◌, ◌<◌, ◌≤◌, ◌+◌, ◌-◌, ◌++◌, ℕ, zero, suc, Bool, true, false, List}
+use Rattle.std.proofs.Common.{[], ◌∷◌, length, map, drop, get_or, if◌then◌else◌, ◌==◌, refl, sym, ap}
+use Rattle.std.proofs.Common.{◌∙◌, subst, append-nil, append_assoc, arith}
 use Rattle.std.specs.List.{AllZip, AllByRecursion}
 use Rattle.std.proofs.lemmas.List.{length-map, drop_more}
 use Rattle.td_machine.specs.History.{History, history}
@@ -112,7 +114,8 @@ open_next homes i home lines left own books more all less at first was is =
     let hs : drop i homes ≡ home ∷ drop (i + 1) homes =
     drop_more homes i home less ∙ ap (λ (h : ℕ). h ∷ drop (i + 1) homes) (sym at) in
     ap (λ (bs : List BookValue). bs ++ new_books (drop (i + 1) homes) left) is
-    ∙ append_assoc books (record { home = home; rest = all_of own; did = [] } ∷ []) (new_books (drop (i + 1) homes) left)
+    ∙ append_assoc books (record { home = home; rest = all_of own; did = [] } ∷ [])
+    (new_books (drop (i + 1) homes) left)
     ∙ ap (λ (x : List ℕ × List (List EditorLine)). books ++ new_books x.0 x.1) (λ k. (sym hs k, sym first k)) ∙ was
 
 pub open_all : (homes : List ℕ) (i : ℕ) (lines : List (List EditorLine)) (books all : List BookValue) → length homes ≤ i

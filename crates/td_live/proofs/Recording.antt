@@ -1,5 +1,6 @@
 -- What is recorded stays recorded when the histories grow, and one thing more that is done is recorded too.
-use Rattle.std.proofs.Common.{◌≡◌, ◌<◌, ◌≤◌, ◌+◌, ◌-◌, ◌++◌, ◌==◌, ℕ, zero, suc, Bool, true, false, List, [], ◌∷◌, length, take, Some, slice_get, if◌then◌else◌, refl, sym, ap, ◌∙◌, subst, arith}
+use Rattle.std.proofs.Common.{◌≡◌, ◌<◌, ◌≤◌, ◌+◌, ◌-◌, ◌++◌, ◌==◌, ℕ, zero, suc, Bool, true, false, List, [], ◌∷◌}
+use Rattle.std.proofs.Common.{length, take, Some, slice_get, if◌then◌else◌, refl, sym, ap, ◌∙◌, subst, arith}
 use Rattle.std.proofs.lemmas.List.{map-append, length-map, length-append}
 use mathlib.Core.List.{IsPrefix}
 use Rattle.td_op.specs.declared.input.Input.TheVariants.{Local}
@@ -35,10 +36,12 @@ request_more : (old more : List TraceEntry) (k : ℕ) → is_request_at old k �
 request_more old more zero e = absurd (cc e)
 request_more old more (suc k) e = get_request_more old more k e
 
-get_request_within : (entries : List TraceEntry) (k : ℕ) → tells_request (slice_get entries k) ≡ true → k < length entries
+get_request_within : (entries : List TraceEntry) (k : ℕ) → tells_request (slice_get entries k) ≡ true
+    → k < length entries
 get_request_within [] k e = absurd (cc e)
 get_request_within (x ∷ entries) zero e = omega arith
-get_request_within (x ∷ entries) (suc k) e = let h : k < length entries = get_request_within entries k e in omega (arith, h)
+get_request_within (x ∷ entries) (suc k) e = let h : k < length entries = get_request_within entries k e in
+    omega (arith, h)
 
 pub request_within : (entries : List TraceEntry) (k : ℕ) → is_request_at entries k ≡ true → k ≤ length entries
 request_within entries zero e = omega arith
@@ -46,7 +49,8 @@ request_within entries (suc k) e = let h : k < length entries = get_request_with
 
 -- the last entry is a request
 pub request_last : (old : History) (request : Request) (reply : Reply)
-    → is_request_at (traced_history (old ++ record { input = Local request; reply = reply } ∷ [])) (suc (length old)) ≡ true
+    → is_request_at (traced_history (old ++ record { input = Local request; reply = reply } ∷ [])) (suc (length old))
+    ≡ true
 request_last [] request reply = refl
 request_last (x ∷ old) request reply = request_last old request reply
 
@@ -55,8 +59,11 @@ request_last (x ∷ old) request reply = request_last old request reply
 pub did_stays : (old more : List TraceEntry) (t u : ℕ → List ℕ) → ((k : ℕ) → k ≤ length old → t k ≡ u k) → (s : Sofar)
     (did : List Did) → AreDid old t s did → AreDid (old ++ more) u s did
 did_stays old more t u same s [] h = tt
-did_stays old more t u same s (Call call entry ∷ did) h =
-    ((h.0.0, h.0.1, request_more old more entry h.0.2), did_stays old more t u same (further s (Call call entry)) did h.1)
+did_stays old more t u same s (Call call entry ∷ did) h = (
+  (h.0.0, h.0.1, request_more old more entry h.0.2),
+  did_stays old more t u same (further s (Call call entry)) did
+      h.1,
+)
 did_stays old more t u same s (Look calls upto text ∷ did) h =
     let few : upto ≤ length old = h.0.1 in
     let both : length (old ++ more) ≡ length old + length more = length-append old more in (
@@ -111,7 +118,8 @@ module _ (old new : Family) (g : IsGrown old new) (site : ℕ) (some : 0 < site)
       let long : length (traced_history (history old site)) ≡ length (history old site) =
       length-map (history old site) traced in
       subst (λ (es : List TraceEntry). AreDid es (text_past new site) s did) is
-      (did_stays (traced_history (history old site)) (traced_history goes_on.0) (text_past old site) (text_past new site)
+      (did_stays (traced_history (history old site)) (traced_history goes_on.0) (text_past old site)
+      (text_past new site)
       (λ k few. text_same k (subst (λ (n : ℕ). k ≤ n) long few)) s did h)
 
   pub acts_grown : (did : List Did) (acts : List Act) → AreActs (history old site) did acts
@@ -154,7 +162,8 @@ sofar_within entries t s (Call call k ∷ did) h entry upto =
 sofar_within entries t s (Look calls k text ∷ did) h entry upto =
     sofar_within entries t (further s (Look calls k text)) did h.1 entry h.0.1
 
-pub acts_push_call : (entries : History) (did : List Did) (acts : List Act) (call k : ℕ) (request : Request) (reply : Reply)
+pub acts_push_call : (entries : History) (did : List Did) (acts : List Act) (call k : ℕ) (request : Request)
+    (reply : Reply)
     → AreActs entries did acts → entry_at entries k ≡ Some (record { input = Local request; reply = reply })
     → AreActs entries (did ++ Call call k ∷ []) (acts ++ Called request reply ∷ [])
 acts_push_call entries [] [] call k request reply h e = (e, refl)

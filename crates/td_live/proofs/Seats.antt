@@ -1,5 +1,6 @@
 -- Editors at their desks, from the opening of a room to its end.
-use Rattle.std.proofs.Common.{◌≡◌, ◌<◌, ◌≤◌, ◌+◌, ◌++◌, ℕ, zero, suc, take, drop, get_or, List, [], ◌∷◌, length, map, refl, sym, ap, ◌∙◌, subst, arith, append-nil}
+use Rattle.std.proofs.Common.{◌≡◌, ◌<◌, ◌≤◌, ◌+◌, ◌++◌, ℕ, zero, suc, take, drop, get_or, List, [], ◌∷◌}
+use Rattle.std.proofs.Common.{length, map, refl, sym, ap, ◌∙◌, subst, arith, append-nil}
 use Rattle.std.specs.Prelude.{sum_by}
 use Rattle.std.specs.List.{AllZip}
 use Rattle.std.proofs.lemmas.List.Elements.{length_all_zip}
@@ -62,7 +63,8 @@ pub editors_seated : (editors : List EditorValue) (lines : List (List EditorLine
 editors_seated [] [] can = refl
 editors_seated [] (own ∷ lines) can = absurd can
 editors_seated (e ∷ editors) [] can = absurd can
-editors_seated (e ∷ editors) (own ∷ lines) can = ap (λ (all : List EditorValue). e ∷ all) (editors_seated editors lines can.1)
+editors_seated (e ∷ editors) (own ∷ lines) can =
+    ap (λ (all : List EditorValue). e ∷ all) (editors_seated editors lines can.1)
 
 -- who just sat down has done nothing of the lines
 pub done_seated : (editors : List EditorValue) (lines : List (List EditorLine)) → AllZip CanSit editors lines
@@ -181,7 +183,8 @@ traced_after workers after editors lines desks later bytes can desks_are worked 
 
 -- ---- the numbers of calls
 
-pub counts_more : (all : List (List EditorLine)) (i : ℕ) (own : List EditorLine) → i < length all → own ≡ get_or all i own
+pub counts_more : (all : List (List EditorLine)) (i : ℕ) (own : List EditorLine) → i < length all → own
+    ≡ get_or all i own
     → map count_of (take (i + 1) all) ≡ map count_of (take i all) ++ count_of own ∷ []
 counts_more all i own l f =
     let one : i + 1 ≡ suc i = omega arith in

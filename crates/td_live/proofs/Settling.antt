@@ -1,5 +1,6 @@
 -- What the moves of a world do to the histories of its sites.
-use Rattle.std.proofs.Common.{◌≡◌, ◌≢◌, ◌<◌, ◌≤◌, ◌-◌, ◌+◌, ◌++◌, ℕ, zero, suc, Bool, true, false, List, [], ◌∷◌, if◌then◌else◌, length, set, nat_eq, refl, sym, ap, ◌∙◌, subst, append-nil, append_assoc}
+use Rattle.std.proofs.Common.{◌≡◌, ◌≢◌, ◌<◌, ◌≤◌, ◌-◌, ◌+◌, ◌++◌, ℕ, zero, suc, Bool, true, false, List, [], ◌∷◌}
+use Rattle.std.proofs.Common.{if◌then◌else◌, length, set, nat_eq, refl, sym, ap, ◌∙◌, subst, append-nil, append_assoc}
 use Rattle.std.proofs.lemmas.Bool.{eqb-true, eqb-false}
 use Rattle.std.specs.List.{AllByRecursion}
 use Rattle.td_base.proofs.Passing.{zip_weaker, all_append}
@@ -14,7 +15,8 @@ use Rattle.td_line.specs.Calls.{local_in, local_at}
 use Rattle.td_line.proofs.Calling.{local_same}
 use Rattle.td_script.specs.declared.live.editor_line.EditorLine.{EditorLine}
 use Rattle.td_world.specs.World.{WorldValue, Move, size, replica, replica_from, machine_of, family_of, moved, moved_all}
-use Rattle.td_world.specs.Calls.{is_ready, is_wanted, next, nexts, take, give_moves, wanted_moves, moves_of, give_all_moves, pass_from, pass, passes, IsSettled}
+use Rattle.td_world.specs.Calls.{is_ready, is_wanted, next, nexts, take, give_moves, wanted_moves}
+use Rattle.td_world.specs.Calls.{moves_of, give_all_moves, pass_from, pass, passes, IsSettled}
 use Rattle.td_world.proofs.Moves.{size_family, size_moved, size_after, moved_here, moved_there}
 use Rattle.td_world.proofs.Replicas.{history_from}
 use Rattle.td_live.specs.Books.{BookValue, IsBook, AreBooks, IsGrown}
@@ -79,8 +81,11 @@ nexts_quiet (suc k) site w = at (is_ready (machine_of w site)) (nexts_quiet k si
     at false h = tt
 
 give_quiet : (site : ℕ) (message : Message) (w : WorldValue) → AllByRecursion IsQuiet (give_moves site message w)
-give_quiet site message w =
-    (refl, nexts_quiet (length (machine_of (moved (take site message) w) site).waiting) site (moved (take site message) w))
+give_quiet site message w = (
+  refl,
+  nexts_quiet (length (machine_of (moved (take site message) w) site).waiting) site
+      (moved (take site message) w),
+)
 
 wanted_quiet : (site : ℕ) (message : Message) (w : WorldValue) → AllByRecursion IsQuiet (wanted_moves site message w)
 wanted_quiet site message w = at (is_wanted site message w)
@@ -114,7 +119,11 @@ module _ (old new : WorldValue) (given : ℕ) (s : IsSettled old new given) wher
   quietly : (site : ℕ) → GoesQuietly (history (family_of old) site) (history (family_of new) site)
   quietly site =
       subst (λ (x : History × History). GoesQuietly x.0 x.1)
-      (λ i. (sym (history_of old site) i, sym (history_of new site ∙ ap (λ (w : WorldValue). (replica w site).entries) s.after) i))
+      (λ i. (
+        sym (history_of old site) i,
+        sym (history_of new site
+            ∙ ap (λ (w : WorldValue). (replica w site).entries) s.after) i,
+      ))
       (quietly_moved (passes s.number old) old (passes_quiet s.number old) (site - 1))
 
   same_size : length (family_of new) ≡ length (family_of old)
@@ -152,7 +161,10 @@ module _ (w : WorldValue) (move : Move) (some : 0 < move.site) (within : move.si
       ++ record { input = move.input; reply = (step (machine_of w move.site) move.input).reply } ∷ []
   here_moved =
       history_of (moved move w) move.site ∙ ap (λ (r : ReplicaValue). r.entries) (moved_here w move some within)
-      ∙ ap (λ (h : History). h ++ record { input = move.input; reply = (step (machine_of w move.site) move.input).reply } ∷ [])
+      ∙ ap (λ (h : History). h ++ record {
+        input = move.input;
+        reply = (step (machine_of w move.site) move.input).reply;
+      } ∷ [])
       (sym (history_of w move.site))
 
   pub there_moved : (site : ℕ) → 0 < site → site ≢ move.site

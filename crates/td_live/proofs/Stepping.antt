@@ -1,5 +1,6 @@
 -- What one step of a book's lines does in a world, and that there is less to do then.
-use Rattle.std.proofs.Common.{◌≡◌, ◌<◌, ◌≤◌, ◌+◌, ◌++◌, ℕ, suc, List, [], ◌∷◌, length, take, drop, sum_by, refl, sym, ap, ◌∙◌, subst, arith}
+use Rattle.std.proofs.Common.{◌≡◌, ◌<◌, ◌≤◌, ◌+◌, ◌++◌, ℕ, suc, List, [], ◌∷◌, length, take}
+use Rattle.std.proofs.Common.{drop, sum_by, refl, sym, ap, ◌∙◌, subst, arith}
 use Rattle.td_op.specs.declared.input.Input.TheVariants.{Local}
 use Rattle.td_op.specs.declared.reply.Reply.{Reply}
 use Rattle.td_op.specs.declared.reply.Reply.TheVariants.{Made}
@@ -103,7 +104,8 @@ fewer_call entry reply b c some put =
 fewer_lines : (n : ℕ) (lines left : List EditorLine) → lines ≡ LookLine ∷ left
     → n + sum_by calls (drop 1 lines) + length (drop 1 lines) < n + sum_by calls lines + length lines
 fewer_lines n lines left e =
-    subst (λ (l : List EditorLine). n + sum_by calls (drop 1 l) + length (drop 1 l) < n + sum_by calls l + length l) (sym e)
+    subst (λ (l : List EditorLine). n + sum_by calls (drop 1 l) + length (drop 1 l) < n + sum_by calls l + length l)
+    (sym e)
     (omega arith)
 
 pub fewer_look : (upto : ℕ) (text : List ℕ) (b c : BookValue) → IsNext LookNext b.rest → c ≡ with_look upto text b

@@ -1,5 +1,6 @@
 -- The trace of a world, and that what it tells is a live family.
-use Rattle.std.proofs.Common.{◌≡◌, ◌<◌, ◌≤◌, ◌-◌, ◌+◌, ◌++◌, ℕ, zero, suc, true, List, [], ◌∷◌, length, map, take, get_or, Some, slice_get, refl, sym, ap, ◌∙◌, subst, append_assoc, arith}
+use Rattle.std.proofs.Common.{◌≡◌, ◌<◌, ◌≤◌, ◌-◌, ◌+◌, ◌++◌, ℕ, zero, suc, true, List, [], ◌∷◌, length, map, take}
+use Rattle.std.proofs.Common.{get_or, Some, slice_get, refl, sym, ap, ◌∙◌, subst, append_assoc, arith}
 use Rattle.std.specs.List.{AllZip, AllByRecursion}
 use Rattle.std.proofs.lemmas.List.{length-map}
 use Rattle.td_op.specs.declared.input.Input.{Input}
@@ -248,6 +249,7 @@ pub behind : {X : Type 0} (say : ℕ → X → List TraceLine) (start now next :
 behind say start now next xs k x there was is =
     is ∙ ap (λ (l : List ℕ). l ++ all_written (say (k + 1) x)) was ∙ said_next say start xs k x there
 
-pub five_parts : {p t b c d e f x y : List ℕ} (q r s : List ℕ) → b ≡ p → c ≡ b ++ q → d ≡ c ++ r → e ≡ d ++ s → f ≡ e ++ x → x ≡ y
+pub five_parts : {p t b c d e f x y : List ℕ} (q r s : List ℕ) → b ≡ p → c ≡ b ++ q → d ≡ c ++ r → e ≡ d ++ s → f ≡ e
+    ++ x → x ≡ y
     → y ≡ t → f ≡ (((p ++ q) ++ r) ++ s) ++ t
 five_parts q r s e0 e1 e2 e3 e4 e5 e6 = cc

@@ -1,5 +1,7 @@
 -- A desk before and after a turn.
-use Rattle.std.proofs.Common.{◌≡◌, ◌<◌, ◌≤◌, ◌+◌, ◌++◌, ℕ, suc, Bool, true, false, true≢false, IsTrue, ◌↔◌, List, [], ◌∷◌, length, map, sum_by, Result, Ok, Err, OnErr, IfOk, refl, sym, ap, ◌∙◌, subst, arith, length-append, append-nil, ⊎_elim}
+use Rattle.std.proofs.Common.{◌≡◌, ◌<◌, ◌≤◌, ◌+◌, ◌++◌, ℕ, suc, Bool, true, false, true≢false, IsTrue, ◌↔◌}
+use Rattle.std.proofs.Common.{List, [], ◌∷◌, length, map, sum_by, Result, Ok, Err, OnErr, IfOk, refl, sym, ap}
+use Rattle.std.proofs.Common.{◌∙◌, subst, arith, length-append, append-nil, ⊎_elim}
 use Rattle.std.specs.List.{AllByRecursion, concat}
 use Rattle.std.proofs.lemmas.List.{length-map}
 use mathlib.Core.List.{IsPrefix}
@@ -18,7 +20,8 @@ use Rattle.td_line.specs.declared.not_sent.NotSent.{NotSent}
 use Rattle.td_line.specs.declared.not_sent.NotSent.TheVariants as Why
 use Rattle.td_line.specs.Lines.{line_places}
 use Rattle.td_link.specs.Moments.{WasFull}
-use Rattle.td_line.specs.Editors.{EditorValue, LaterEditor, IsPending, IsWhy, polled, with_ask, when_shown, when_refused}
+use Rattle.td_line.specs.Editors.{EditorValue, LaterEditor, IsPending, IsWhy, polled}
+use Rattle.td_line.specs.Editors.{with_ask, when_shown, when_refused}
 use Rattle.td_script.specs.declared.live.editor_line.EditorLine.{EditorLine}
 use Rattle.td_script.specs.declared.live.editor_line.EditorLine.TheVariants as Line
 use Rattle.td_script.specs.LiveScript.{calls as calls_of}
@@ -29,8 +32,10 @@ use Rattle.td_live.specs.declared.ask.Ask.{Ask}
 use Rattle.td_live.specs.declared.next.Next.TheVariants as Next
 use Rattle.td_live.specs.Agenda.{IsNext}
 use Rattle.td_live.specs.Asking.{request_of, asks_of}
-use Rattle.td_live.specs.Following.{Rest, Act, Called, Looked, Leads, Stays as LeadsStays, Calls, Looks, Begins, IsOver, replied, all_of, calls_left}
-use Rattle.td_live.specs.Desks.{DeskValue, IsDesk, HasDone, LaterDesk, AwaitsNext, acts_of, acts_by, AreAnswered, AreSeen, sofar_of}
+use Rattle.td_live.specs.Following.{Rest, Act, Called, Looked, Leads, Stays as LeadsStays, Calls}
+use Rattle.td_live.specs.Following.{Looks, Begins, IsOver, replied, all_of, calls_left}
+use Rattle.td_live.specs.Desks.{DeskValue, IsDesk, HasDone, LaterDesk, AwaitsNext, acts_of}
+use Rattle.td_live.specs.Desks.{acts_by, AreAnswered, AreSeen, sofar_of}
 use Rattle.td_live.specs.declared.went.Went.{Went}
 use Rattle.td_live.specs.declared.went.Went.TheVariants as Went
 use Rattle.td_live.specs.Turning.{AsksNothing, AreDone, IsDeskParts, IsUnused, new_desk, Stays, Keeps, HasAnswered}
@@ -39,7 +44,8 @@ use Rattle.td_base.specs.declared.memory.Memory.{Memory}
 use Rattle.td_line.proofs.Editing.{later_editor_self, later_editor_then}
 use Rattle.td_site.proofs.Lists.{prefix_self, prefix_then}
 use Rattle.td_live.proofs.Leading.{leads_then, leads_call, leads_look}
-use Rattle.td_live.proofs.Logging.{acts_more, acts_call, acts_look, answered_call, answered_look, sofar_more, in_last, seen_later, seen_call, seen_look}
+use Rattle.td_live.proofs.Logging.{acts_more, acts_call, acts_look, answered_call, answered_look}
+use Rattle.td_live.proofs.Logging.{sofar_more, in_last, seen_later, seen_call, seen_look}
 
 -- ---- what is done leads on
 
@@ -340,7 +346,8 @@ later_then d e f p q = record {
 stays_begun : (d e : DeskValue) (rest : Rest) → Leads d.rest [] rest → Stays (record d { rest = rest }) e → Stays d e
 stays_begun d e rest way s = record { rest = leads_then way s.rest; did = s.did }
 
-pub keeps_begun : (d e : DeskValue) (rest : Rest) → Leads d.rest [] rest → Keeps (record d { rest = rest }) e → Keeps d e
+pub keeps_begun : (d e : DeskValue) (rest : Rest) → Leads d.rest [] rest → Keeps (record d { rest = rest }) e
+    → Keeps d e
 keeps_begun d e rest way k = record { stays = stays_begun d e rest way k.stays; editor = k.editor }
 
 pub turn_begun : (d e : DeskValue) (rest : Rest) (went : Went) → (IsPending d.editor → ⊥) → Leads d.rest [] rest
@@ -420,7 +427,8 @@ done_by_editor : (lines : List EditorLine) (d e : DeskValue) → Stays d e
     → e.editor ≡ record d.editor { reader = e.editor.reader } → HasDone lines d → HasDone lines e
 done_by_editor lines d e stays editor_is =
     done_begun lines d e
-    (acts_kept d e (ap (λ (x : EditorValue). x.asks.sent) editor_is) (ap (λ (x : EditorValue). polled x) editor_is) stays.did)
+    (acts_kept d e (ap (λ (x : EditorValue). x.asks.sent) editor_is) (ap (λ (x : EditorValue). polled x) editor_is)
+    stays.did)
     stays.rest
 
 same_first : (x y : Ask) (xs ys : List Ask) → x ∷ xs ≡ y ∷ ys → x ≡ y
@@ -633,7 +641,8 @@ pub parts_looked : (d : DeskValue) (f : EditorValue) (rest : Rest) (p : Publish)
     → EndsWith f.reader.seen p → d.editor.entry ≤ p.upto → last_upto d.editor.reader.seen ≤ p.upto
     → upto ≡ p.upto → text ≡ concat p.atoms → did ≡ d.did ++ Look call upto text ∷ []
     → IsDeskParts call waits (record { editor = f; rest = rest; did = did })
-parts_looked d f rest p call waits upto text did parts idle next rest_is f_is more ends entry rises upto_is text_is did_is =
+parts_looked d f rest p call waits upto text did parts idle next rest_is f_is more ends entry rises upto_is text_is
+    did_is =
     let e : did ≡ d.did ++ Look call p.upto (concat p.atoms) ∷ [] =
     did_is ∙ (λ i. d.did ++ Look call (upto_is i) (text_is i) ∷ []) in
     record {

@@ -53,6 +53,7 @@ module _ (w v u : WorldValue) (given : ℕ) (books : List BookValue) (logs : Lis
             (λ k. (homes_same books f.done all_later k, sym f.logs_are k)) live;
         traced = traced;
         grown = grown_then (family_of w) (family_of v) (family_of u) f.grown (grown_settled v u given s);
-        kept = subst (λ (ls : List EditorLog). AllZip (λ (b : BookValue) (log : EditorLog). IsPrefix b.did log.did) books ls)
+        kept = subst (λ (ls : List EditorLog). AllZip (λ (b : BookValue) (log : EditorLog). IsPrefix b.did log.did)
+            books ls)
             (sym f.logs_are) (logs_kept books f.done all_later);
       }

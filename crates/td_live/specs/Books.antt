@@ -1,5 +1,6 @@
 -- The books of a live script when its threads are done: what each editor did so far, and what is left of its lines.
-use Rattle.std.specs.Prelude.{◌≡◌, ◌<◌, ◌≤◌, ◌+◌, ◌++◌, ℕ, List, [], ◌∷◌, map, length, drop, Option, Some, None, slice_get}
+use Rattle.std.specs.Prelude.{◌≡◌, ◌<◌, ◌≤◌, ◌+◌, ◌++◌, ℕ, List, [], ◌∷◌, map, length}
+use Rattle.std.specs.Prelude.{drop, Option, Some, None, slice_get}
 use Rattle.std.specs.List.{AllZip}
 use mathlib.Core.List.{IsPrefix}
 use Rattle.td_op.specs.declared.reply.Reply.{Reply}

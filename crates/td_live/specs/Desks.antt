@@ -65,8 +65,9 @@ pub record AwaitsNext (d : DeskValue) : Type 0 where
   pub asks : d.rest.asks ≡ next ∷ others
   pub request : ask.request ≡ request_of next d.rest.made
 
--- the answers polled are the calls done, and a request that has no answer yet is the next call; the looks were at what its reader has seen; its last answer and its last look are those of the
--- editor; each call made is a request sent; and it may make all calls that are still to come
+-- the answers polled are the calls done, and a request that has no answer yet is the next call; the looks were at what
+-- its reader has seen; its last answer and its last look are those of the editor; each call made is a request sent;
+-- and it may make all calls that are still to come
 pub record IsDesk (d : DeskValue) : Type 0 where
   pub answered : AreAnswered 0 (polled d.editor) d.did
   pub seen : AreSeen d.editor.reader.seen 0 0 d.did

@@ -21,8 +21,8 @@ pub record GoesOnTo (lines : List (List EditorLine)) (old : Family) (books : Lis
   pub grown : IsGrown old family
   pub kept : AllZip (λ (b : BookValue) (log : EditorLog). IsPrefix b.did log.did) books logs
 
--- the bytes are the trace of a live family of the desks' editors, each at its home with these lines: what the workers and
--- the desks had done is the beginning of it
+-- the bytes are the trace of a live family of the desks' editors, each at its home with these lines: what the workers
+-- and the desks had done is the beginning of it
 pub record IsLiveEnd (workers : List WorkerValue) (lines : List (List EditorLine)) (desks : List DeskValue)
     (bytes : List ℕ) : Type 0 where
   pub family : Family

@@ -14,7 +14,8 @@ use td_doc::Doc;
 use td_script::EditorLines;
 use td_world::World;
 
-/// Does all lines of editors at these sites, among so many, one editor after the other. The trace of what that comes to.
+/// Does all lines of editors at these sites, among so many, one editor after the other. The trace of what that comes
+/// to.
 pub(crate) fn conclude_alone<D: Doc>(
     alloc: Global,
     sites: u8,

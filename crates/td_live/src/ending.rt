@@ -23,9 +23,9 @@ use td_line::Editor;
 use td_room::{Answers, Closed, Worker, close};
 use td_world::World;
 
-/// Ends the workers and the desks of a room: what the editors have not done yet of their lines is done, one editor after
-/// the other, and all sites get all that was sent. The trace of what all that comes to, by whatever lines the desks
-/// follow. After `Memory` all is gone. It may wait for readers.
+/// Ends the workers and the desks of a room: what the editors have not done yet of their lines is done, one editor
+/// after the other, and all sites get all that was sent. The trace of what all that comes to, by whatever lines the
+/// desks follow. After `Memory` all is gone. It may wait for readers.
 pub fn conclude<D: Doc, R: Wait>(
     rt: &R,
     alloc: Global,

@@ -1,8 +1,8 @@
 //! A live script at work: its editors and its workers on threads, up to the trace of one live family.
 //!
 //! Begin at `specs/Live.antt`, what the trace of a live script is: histories that are a consistent family, with what
-//! each editor did, which follows its lines (`specs/Following.antt`, over `specs/Asking.antt`, what each line asks for).
-//! `live` is the call that does it all. A desk (`desk`, `turning`) is an editor at work on its lines, and
+//! each editor did, which follows its lines (`specs/Following.antt`, over `specs/Asking.antt`, what each line asks
+//! for). `live` is the call that does it all. A desk (`desk`, `turning`) is an editor at work on its lines, and
 //! `specs/Turning.antt` says what a turn of it does; `working` lets workers and desks work on threads.
 //!
 //! When the threads are done, `ending` closes the room, does the lines that are left (`finishing`), settles, and prints

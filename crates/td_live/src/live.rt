@@ -23,9 +23,9 @@ use td_script::{EditorLines, Live};
 use td_tree::Tree;
 use td_view::Opener;
 
-/// What a live script comes to, as a trace. Its workers and its editors run at once, each on a thread of its own, for as
-/// many turns as it says; then what is left of the editors' lines is done. Where no room can be opened all lines are done
-/// so. It may wait.
+/// What a live script comes to, as a trace. Its workers and its editors run at once, each on a thread of its own, for
+/// as many turns as it says; then what is left of the editors' lines is done. Where no room can be opened all lines
+/// are done so. It may wait.
 pub fn live_trace<R: Threads + Wait + Copy + Send + Sync, G: Gate + Sync>(
     rt: &R,
     alloc: Global,

@@ -17,9 +17,9 @@ use td_line::Gate;
 use td_room::Worker;
 use td_tree::Tree;
 
-/// Each worker makes so many turns, and each desk at most so many, up to `Over`; each is on a thread of its own, and all
-/// of them at once, as far as threads can be made. What finds no memory in a turn goes on with its next turn. It may
-/// wait for readers.
+/// Each worker makes so many turns, and each desk at most so many, up to `Over`; each is on a thread of its own, and
+/// all of them at once, as far as threads can be made. What finds no memory in a turn goes on with its next turn. It
+/// may wait for readers.
 pub fn work<R: Threads + Wait + Sync, G: Gate + Sync>(
     rt: &R,
     gate: &G,

@@ -1,9 +1,11 @@
 -- The list of all operations of a family.
-use Rattle.std.proofs.Common.{◌≡◌, ◌≢◌, ◌<◌, ◌≤◌, ℕ, zero, suc, List, length, Bool, true, false, nat_eq, refl, ap, subst, ⊎_elim, arith}
+use Rattle.std.proofs.Common.{◌≡◌, ◌≢◌, ◌<◌, ◌≤◌, ℕ, zero, suc, List, length, Bool, true}
+use Rattle.std.proofs.Common.{false, nat_eq, refl, ap, subst, ⊎_elim, arith}
 use Rattle.std.proofs.lemmas.Bool.{eqb-true, eqb-false}
 use Rattle.td_base.specs.Value.{DotValue}
 use Rattle.td_base.specs.Lists.{In, Successive}
-use Rattle.td_base.proofs.Lists.{In-append, In-front, In-back, In-filter, filter_In, successive_append, successive_filter}
+use Rattle.td_base.proofs.Lists.{In-append, In-front, In-back, In-filter, filter_In}
+use Rattle.td_base.proofs.Lists.{successive_append, successive_filter}
 use Rattle.td_op.specs.Op.{OpValue}
 use Rattle.td_machine.specs.Counts.{ops_of}
 use Rattle.td_machine.specs.History.{Family, IsConsistent, IsOpOf, log_of}

@@ -1,5 +1,6 @@
 -- Each operation of a log met what it names when it came.
-use Rattle.std.proofs.Common.{◌≡◌, ◌<◌, ◌≤◌, ◌++◌, ℕ, List, [], ◌∷◌, length, Bool, true, false, ◌&&◌, nat_eq, Some, None, refl, sym, ap, ◌∙◌, subst, if◌then◌else◌}
+use Rattle.std.proofs.Common.{◌≡◌, ◌<◌, ◌≤◌, ◌++◌, ℕ, List, [], ◌∷◌, length, Bool, true, false, ◌&&◌}
+use Rattle.std.proofs.Common.{nat_eq, Some, None, refl, sym, ap, ◌∙◌, subst, if◌then◌else◌}
 use Rattle.std.proofs.lemmas.Bool.{and_parts, eqb-true}
 use Rattle.std.specs.Option.{is_some, is_none}
 use Rattle.td_base.specs.Value.{DotValue}
@@ -21,7 +22,8 @@ use Rattle.td_machine.specs.Hold.{is_of, is_held}
 use Rattle.td_machine.specs.Machine.{Machine, start}
 use Rattle.td_machine.specs.Replay.{doc_of}
 use Rattle.td_machine.specs.Taking.{body_misfit}
-use Rattle.td_machine.specs.History.{History, Family, Moment, IsConsistent, machine_at, history, machine, machine_after, log_of}
+use Rattle.td_machine.specs.History.{History, Family, Moment, IsConsistent, machine_at}
+use Rattle.td_machine.specs.History.{history, machine, machine_after, log_of}
 use Rattle.td_machine.proofs.Parts.{MayMake, IsOpenAt, IsBuilt, IsDone, Own, Other}
 use Rattle.td_machine.proofs.Turns.{placed, counted, by_each}
 use Rattle.td_machine.proofs.Documents.{logged, documents}

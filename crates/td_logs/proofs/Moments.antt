@@ -9,7 +9,8 @@ use Rattle.td_op.specs.Input.{IsInput}
 use Rattle.td_machine.specs.Counts.{IsInTurn}
 use Rattle.td_machine.specs.Machine.{Machine, start}
 use Rattle.td_machine.specs.Step.{step}
-use Rattle.td_machine.specs.History.{History, Family, Moment, IsConsistent, machine_at, IsLegalFrom, IsOpOf, after, history, log_of, machine_after}
+use Rattle.td_machine.specs.History.{History, Family, Moment, IsConsistent, machine_at, IsLegalFrom}
+use Rattle.td_machine.specs.History.{IsOpOf, after, history, log_of, machine_after}
 use Rattle.td_machine.proofs.Induction.{after_both, the_end, log_grows}
 use Rattle.td_machine.proofs.Family.{log_in_turn, past_in_older as past_in_older_then, past_in_log as past_in_log_then}
 use Rattle.td_logs.specs.Logs.{IsLogOf}

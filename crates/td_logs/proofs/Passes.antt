@@ -1,5 +1,6 @@
 -- Paths that pass a node, and how two slots lie on one path.
-use Rattle.std.proofs.Common.{◌≡◌, ◌<◌, [], ◌∷◌, ◌++◌, length, true, ◌&&◌, refl, sym, ap, ◌∙◌, subst, ⊎_elim, true≢false, append_assoc, length-append, arith}
+use Rattle.std.proofs.Common.{◌≡◌, ◌<◌, [], ◌∷◌, ◌++◌, length, true, ◌&&◌, refl, sym, ap, ◌∙◌, subst}
+use Rattle.std.proofs.Common.{⊎_elim, true≢false, append_assoc, length-append, arith}
 use Rattle.std.proofs.lemmas.Bool.{or_left, or_right, and_parts, or_cases}
 use Rattle.td_base.specs.declared.bit.Bit.{Bit}
 use Rattle.td_base.specs.Value.{AtomIdValue}

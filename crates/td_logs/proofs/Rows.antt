@@ -1,5 +1,6 @@
 -- Rows of one document: where they stand, which slots have them, and which slots overlap.
-use Rattle.std.proofs.Common.{◌≡◌, List, [], ◌∷◌, ◌++◌, true, false, ◌||◌, Option, Some, None, refl, sym, ap, ◌∙◌, subst, ⊎_elim, true≢false, append_assoc}
+use Rattle.std.proofs.Common.{◌≡◌, List, [], ◌∷◌, ◌++◌, true, false, ◌||◌, Option, Some, None, refl}
+use Rattle.std.proofs.Common.{sym, ap, ◌∙◌, subst, ⊎_elim, true≢false, append_assoc}
 use Rattle.std.proofs.lemmas.Bool.{or_left, or_right, cases_Bool}
 use Rattle.std.specs.Option.{option_map, is_some}
 use Rattle.td_base.specs.declared.bit.Bit.{Bit}

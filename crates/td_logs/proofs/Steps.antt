@@ -1,5 +1,6 @@
 -- Where atoms stand after one operation of a log.
-use Rattle.std.proofs.Common.{◌≡◌, ℕ, List, ◌∷◌, length, true, false, Option, Some, None, refl, sym, ap, ◌∙◌, subst, inl, ⊎_elim, true≢false}
+use Rattle.std.proofs.Common.{◌≡◌, ℕ, List, ◌∷◌, length, true, false, Option, Some, None, refl}
+use Rattle.std.proofs.Common.{sym, ap, ◌∙◌, subst, inl, ⊎_elim, true≢false}
 use Rattle.std.specs.Option.{option_map, is_some}
 use Rattle.td_base.specs.Value.{DotValue, AtomIdValue}
 use Rattle.td_base.specs.Lists.{In}
@@ -35,7 +36,8 @@ use Rattle.td_logs.proofs.Words.{held_by, holds, atom_at, born, moved_in, moved_
 use Rattle.td_logs.proofs.Rows.{standing, place_at, holds_of, held_in}
 use Rattle.td_logs.proofs.LogRows.{doc_is, HasAtom, born_parts, born_true, born_dot, named_after}
 use Rattle.td_logs.proofs.Fitting.{FitsBody}
-use Rattle.td_logs.proofs.Bases.{slot_in, op_in, tail, causal, fits, past_older, Home, home, home_log, proposal_of, base_log, log_at_is}
+use Rattle.td_logs.proofs.Bases.{slot_in, op_in, tail, causal, fits, past_older, Home, home}
+use Rattle.td_logs.proofs.Bases.{home_log, proposal_of, base_log, log_at_is}
 use Rattle.td_logs.proofs.DocSteps.{slot_same, new_place, stay_place, live_in}
 use Rattle.std.proofs.lemmas.Option.{same_Some}
 

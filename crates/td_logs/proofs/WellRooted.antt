@@ -13,7 +13,8 @@ use Rattle.td_op.specs.Op.{OpValue, named_atom}
 use Rattle.td_machine.specs.Counts.{IsInTurn}
 use Rattle.td_op.specs.Insertion.{Inserts, insertion_by, insertion_of}
 use Rattle.td_machine.specs.History.{Family, Moment, IsConsistent, machine_at}
-use Rattle.td_machine.proofs.Family.{not_older, valid_of, full_of, inserted_in_past, size_of, log_in_turn, past_covered, past_in_log, op_at}
+use Rattle.td_machine.proofs.Family.{not_older, valid_of, full_of, inserted_in_past, size_of}
+use Rattle.td_machine.proofs.Family.{log_in_turn, past_covered, past_in_log, op_at}
 use Rattle.td_op.specs.declared.insertion.Insertion.{Insertion}
 use Rattle.td_order.specs.Insertions.{IsInsertionOf, IsAtomOf}
 use Rattle.td_order.specs.LineUp.{DotsDiffer, line_up}

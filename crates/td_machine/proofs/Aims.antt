@@ -1,6 +1,7 @@
 -- What a request comes down to: an operation that may be made where no hold stands against it and there is room for
 -- it.
-use Rattle.std.proofs.Common.{◌≡◌, ◌<◌, ℕ, List, [], ◌∷◌, true, false, nat_lt, length, Option, Some, None, refl, subst, arith}
+use Rattle.std.proofs.Common.{◌≡◌, ◌<◌, ℕ, List, [], ◌∷◌, true, false, nat_lt, length}
+use Rattle.std.proofs.Common.{Option, Some, None, refl, subst, arith}
 use Rattle.std.proofs.lemmas.Bool.{ltb-false}
 use Rattle.std.specs.Prelude.{slice_get}
 use Rattle.std.specs.List.{find}
@@ -10,7 +11,8 @@ use Rattle.td_base.proofs.Lists.{In-filter}
 use Rattle.td_path.specs.declared.slot.Slot.{Slot}
 use Rattle.td_path.specs.declared.slot.Slot.TheVariants.{Root, At}
 use Rattle.td_op.specs.declared.request.Request.{Request}
-use Rattle.td_op.specs.declared.request.Request.TheVariants.{Insert, InsertAfter, Paste, PasteAfter, Delete, DeleteAtom, Propose, ProposeAt, Cancel}
+use Rattle.td_op.specs.declared.request.Request.TheVariants.{Insert, InsertAfter, Paste, PasteAfter, Delete}
+use Rattle.td_op.specs.declared.request.Request.TheVariants.{DeleteAtom, Propose, ProposeAt, Cancel}
 use Rattle.td_op.specs.declared.reply.Reply.TheVariants.{Position, Gone, NotOpen}
 use Rattle.td_op.specs.Input.{IsRequest}
 use Rattle.td_doc.specs.Document.{DocRow, is_live, row_id, live_rows, live_id_at, find_row}
@@ -20,7 +22,8 @@ use Rattle.td_doc.proofs.Rules.{in_found, alloc_rooted}
 use Rattle.td_doc.proofs.Typing.{anchor_row}
 use Rattle.td_machine.specs.Decision.{Ballot, is_on, is_open}
 use Rattle.td_machine.specs.Machine.{Machine}
-use Rattle.td_machine.specs.Request.{Aim, Refuse, Do, GiveUp, aim, insert_aim, insert_aim_at, insert_aim_after, delete_aim, propose_aim, propose_aim_of, live_aim, cancel_aim, len}
+use Rattle.td_machine.specs.Request.{Aim, Refuse, Do, GiveUp, aim, insert_aim, insert_aim_at, insert_aim_after}
+use Rattle.td_machine.specs.Request.{delete_aim, propose_aim, propose_aim_of, live_aim, cancel_aim, len}
 use Rattle.td_base.proofs.Elements.{either, In-slice_get}
 use Rattle.td_machine.proofs.Parts.{RoomFor, IsOpenAt, MayMake}
 use Rattle.std.proofs.lemmas.Option.{same_Some}

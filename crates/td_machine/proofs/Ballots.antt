@@ -1,5 +1,6 @@
 -- What happens to ballots: one is closed, one is counted.
-use Rattle.std.proofs.Common.{◌≡◌, ◌<◌, ◌≤◌, ℕ, suc, List, [], ◌∷◌, Bool, true, false, if◌then◌else◌, length, filter, Some, refl, sym, ap, ◌∙◌, inl, inr, true≢false, arith}
+use Rattle.std.proofs.Common.{◌≡◌, ◌<◌, ◌≤◌, ℕ, suc, List, [], ◌∷◌, Bool, true, false, if◌then◌else◌, length}
+use Rattle.std.proofs.Common.{filter, Some, refl, sym, ap, ◌∙◌, inl, inr, true≢false, arith}
 use Rattle.std.specs.List.{find}
 use Rattle.td_base.specs.Value.{DotValue}
 use Rattle.td_base.specs.Lists.{In}

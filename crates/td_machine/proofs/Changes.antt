@@ -1,5 +1,6 @@
 -- What a step does to the atoms shown: what the first operation does that it makes or takes.
-use Rattle.std.proofs.Common.{◌≡◌, ◌≤◌, ◌+◌, ℕ, suc, List, [], ◌∷◌, Bool, true, false, length, if◌then◌else◌, nat_eq, Option, Some, None, refl, sym, ap, ◌∙◌, subst, arith}
+use Rattle.std.proofs.Common.{◌≡◌, ◌≤◌, ◌+◌, ℕ, suc, List, [], ◌∷◌, Bool, true, false, length, if◌then◌else◌}
+use Rattle.std.proofs.Common.{nat_eq, Option, Some, None, refl, sym, ap, ◌∙◌, subst, arith}
 use Rattle.std.proofs.lemmas.Bool.{ltb-false, eqb-true, eq-eqb}
 use Rattle.std.specs.Option.{option_and_then}
 use Rattle.td_base.specs.Value.{DotValue}
@@ -120,7 +121,8 @@ module _ {Came : Message → Type 0} {site size : ℕ} (m : Machine) (b : IsBuil
       (ap live_atoms f)
 
   -- nor does one after a proposal
-  proposed_decided : (x : OpValue) (slot : Slot) → x.body ≡ Propose slot → (p : DotValue) (o : Option Bool) (n : Machine)
+  proposed_decided : (x : OpValue) (slot : Slot) → x.body ≡ Propose slot
+      → (p : DotValue) (o : Option Bool) (n : Machine)
       → n.log ≡ x ∷ m.log → n.doc ≡ m.doc → Shows (decide p o n)
   proposed_decided x slot i p o n e f = at o
     where
@@ -141,7 +143,8 @@ module _ {Came : Message → Type 0} {site size : ℕ} (m : Machine) (b : IsBuil
       at (Some false) = twice (next_op n (Abort p)) (make (Abort p) n) refl (ap live_atoms f)
 
   performed : (body : Body) → MayMake body m → Shows (perform body m)
-  performed (Insert slot run) may = once (next_op m (Insert slot run)) (Own (Insert slot run) may) (make (Insert slot run) m) refl refl
+  performed (Insert slot run) may = once (next_op m (Insert slot run)) (Own (Insert slot run) may)
+      (make (Insert slot run) m) refl refl
   performed (Delete x) may = once (next_op m (Delete x)) (Own (Delete x) may) (make (Delete x) m) refl refl
   performed (Propose slot) may =
       proposed_decided (next_op m (Propose slot)) slot refl (next_dot m)

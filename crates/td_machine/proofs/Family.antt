@@ -1,6 +1,7 @@
 -- Each operation of a consistent family was made at its site, where it knew all that was known there. So pasts are in
 -- order.
-use Rattle.std.proofs.Common.{◌≡◌, ◌⊎◌, ◌<◌, ◌≤◌, ◌+◌, ◌++◌, ℕ, suc, List, [], ◌∷◌, Bool, true, false, if◌then◌else◌, nat_eq, length, Some, refl, sym, ap, ◌∙◌, subst, inl, inr, ⊎_elim, append_assoc, arith}
+use Rattle.std.proofs.Common.{◌≡◌, ◌⊎◌, ◌<◌, ◌≤◌, ◌+◌, ◌++◌, ℕ, suc, List, [], ◌∷◌, Bool, true, false, if◌then◌else◌}
+use Rattle.std.proofs.Common.{nat_eq, length, Some, refl, sym, ap, ◌∙◌, subst, inl, inr, ⊎_elim, append_assoc, arith}
 use Rattle.std.proofs.lemmas.Bool.{eq-eqb, leb-true, le-leb}
 use Rattle.std.specs.Prelude.{IsTrue}
 use Rattle.td_base.specs.Value.{DotValue, AtomIdValue}
@@ -22,7 +23,8 @@ use Rattle.td_machine.specs.Machine.{Machine, next_op}
 use Rattle.td_machine.specs.History.{Family, Moment, IsConsistent, IsOpOf, machine_at, log_of}
 use Rattle.td_base.proofs.Elements.{In-behind, cut_at, CutAt}
 use Rattle.td_machine.proofs.Vectors.{bump_covers}
-use Rattle.td_machine.proofs.Parts.{Part, Makes, Proposes, Takes, Agrees, Declines, IsBuilt, IsDone, Own, Other, by_parts}
+use Rattle.td_machine.proofs.Parts.{Part, Makes, Proposes, Takes, Agrees, Declines}
+use Rattle.td_machine.proofs.Parts.{IsBuilt, IsDone, Own, Other, by_parts}
 use Rattle.td_machine.proofs.Turns.{length_counts, placed, counted, by_each}
 use Rattle.td_machine.proofs.Counting.{total, older_in_turn, numbered, past_found, Found}
 use Rattle.td_machine.proofs.Naming.{IsSound, sound, names}

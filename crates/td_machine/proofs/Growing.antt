@@ -1,5 +1,7 @@
 -- A consistent family with one more entry, of an input that may come to its site then, is consistent.
-use Rattle.std.proofs.Common.{◌≡◌, ◌≢◌, ◌⊎◌, ◌<◌, ◌≤◌, ◌-◌, ◌++◌, ℕ, zero, suc, List, [], ◌∷◌, Bool, true, false, nat_eq, length, replicate, Option, Some, None, refl, sym, ap, ◌∙◌, subst, inl, inr, ⊎_elim, append-nil, append_assoc, arith}
+use Rattle.std.proofs.Common.{◌≡◌, ◌≢◌, ◌⊎◌, ◌<◌, ◌≤◌, ◌-◌, ◌++◌, ℕ, zero, suc, List, [], ◌∷◌, Bool, true}
+use Rattle.std.proofs.Common.{false, nat_eq, length, replicate, Option, Some, None, refl, sym, ap, ◌∙◌}
+use Rattle.std.proofs.Common.{subst, inl, inr, ⊎_elim, append-nil, append_assoc, arith}
 use Rattle.std.proofs.lemmas.Bool.{eqb-true, eqb-false}
 use Rattle.std.proofs.lemmas.List.{length-replicate}
 use Rattle.td_base.specs.Value.{DotValue}
@@ -23,7 +25,8 @@ use Rattle.td_machine.specs.Making.{done, make, decide}
 use Rattle.td_machine.specs.Taking.{Stepped, answer, vote_on, take_as}
 use Rattle.td_machine.specs.Request.{perform}
 use Rattle.td_machine.specs.Step.{step}
-use Rattle.td_machine.specs.History.{History, Family, after, history, history_at, machine, machine_after, with_entry, with_entry_at, IsLegal, IsConsistent, MayCome}
+use Rattle.td_machine.specs.History.{History, Family, after, history, history_at, machine, machine_after}
+use Rattle.td_machine.specs.History.{with_entry, with_entry_at, IsLegal, IsConsistent, MayCome}
 use Rattle.td_op.specs.Message.{sender}
 use Rattle.td_base.proofs.Elements.{same_head, same_tail}
 use Rattle.td_machine.proofs.StepKinds.{by_kinds}

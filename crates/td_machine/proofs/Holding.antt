@@ -1,11 +1,14 @@
 -- The holds of a machine never overlap, and the atom of a held slot is a row.
-use Rattle.std.proofs.Common.{◌≡◌, ◌≢◌, ◌≤◌, ◌+◌, ◌||◌, ◌&&◌, ℕ, List, [], ◌∷◌, Bool, true, false, not, if◌then◌else◌, map, filter, Option, Some, None, refl, sym, ap, ◌∙◌, subst, inl, inr, true≢false, arith}
+use Rattle.std.proofs.Common.{◌≡◌, ◌≢◌, ◌≤◌, ◌+◌, ◌||◌, ◌&&◌, ℕ, List, [], ◌∷◌, Bool, true, false}
+use Rattle.std.proofs.Common.{not, if◌then◌else◌, map, filter, Option, Some, None, refl, sym, ap}
+use Rattle.std.proofs.Common.{◌∙◌, subst, inl, inr, true≢false, arith}
 use Rattle.std.proofs.lemmas.Bool.{and_parts, leb-true, le-leb, not-true}
 use Rattle.std.specs.Prelude.{IsTrue}
 use Rattle.std.specs.List.{list_all, list_any}
 use Rattle.td_base.specs.Value.{DotValue, AtomIdValue}
 use Rattle.td_base.specs.Lists.{In, Successive}
-use Rattle.td_base.proofs.Lists.{In-filter, In-map, filter_In, all_in, all_of, any_found, any_from, any_none, successive_filter}
+use Rattle.td_base.proofs.Lists.{In-filter, In-map, filter_In, all_in, all_of, any_found}
+use Rattle.td_base.proofs.Lists.{any_from, any_none, successive_filter}
 use Rattle.td_clock.specs.Vector.{vector_get, vector_has, vector_bump}
 use Rattle.td_clock.proofs.VectorLemmas.{covered_dots}
 use Rattle.td_path.specs.declared.slot.Slot.{Slot}
@@ -35,7 +38,8 @@ use Rattle.td_machine.specs.Taking.{body_misfit, vote_on}
 use Rattle.td_machine.proofs.Vectors.{bump_same, bump_covers}
 use Rattle.td_base.proofs.Equals.{same_dot_refl, same_dot_true, same_dot_other}
 use Rattle.td_machine.proofs.Ballots.{find_ballot, closed_in, counted_in}
-use Rattle.td_machine.proofs.Parts.{MayMake, IsProposing, IsOpenAt, IsBuilt, Goes, Part, Makes, Proposes, Counts, Takes, Agrees, Declines, Own, Other, proposed_here, by_parts}
+use Rattle.td_machine.proofs.Parts.{MayMake, IsProposing, IsOpenAt, IsBuilt, Goes, Part, Makes, Proposes, Counts}
+use Rattle.td_machine.proofs.Parts.{Takes, Agrees, Declines, Own, Other, proposed_here, by_parts}
 use Rattle.td_machine.proofs.Turns.{comes_next}
 use Rattle.std.proofs.lemmas.Option.{same_Some}
 use Rattle.td_base.proofs.Elements.{one_more, successive_among}

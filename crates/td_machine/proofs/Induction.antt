@@ -1,6 +1,7 @@
 -- The one induction over machines. What a machine has at the start, and keeps in each step, it has after each legal
 -- history; and what a site of a consistent family keeps, where each message may come to it, it has at every moment.
-use Rattle.std.proofs.Common.{◌≡◌, ◌≢◌, ◌<◌, ◌≤◌, ◌++◌, ℕ, List, [], ◌∷◌, length, refl, sym, ap, ◌∙◌, subst, append-nil, append_assoc}
+use Rattle.std.proofs.Common.{◌≡◌, ◌≢◌, ◌<◌, ◌≤◌, ◌++◌, ℕ, List, [], ◌∷◌, length, refl, sym}
+use Rattle.std.proofs.Common.{ap, ◌∙◌, subst, append-nil, append_assoc}
 use Rattle.td_base.specs.declared.site.TheConstants.{MAX_SITE}
 use Rattle.td_base.specs.Lists.{In}
 use Rattle.td_op.specs.declared.entry.Entry.{Entry}
@@ -11,7 +12,8 @@ use Rattle.td_op.specs.Input.{IsInput}
 use Rattle.td_op.specs.Op.{OpValue}
 use Rattle.td_machine.specs.Machine.{Machine, start}
 use Rattle.td_machine.specs.Step.{step}
-use Rattle.td_machine.specs.History.{History, Family, Moment, after, history, machine, machine_after, machine_at, log_of, IsLegalFrom, IsReached, IsConsistent, IsAddressed, MayCome}
+use Rattle.td_machine.specs.History.{History, Family, Moment, after, history, machine, machine_after, machine_at}
+use Rattle.td_machine.specs.History.{log_of, IsLegalFrom, IsReached, IsConsistent, IsAddressed, MayCome}
 use Rattle.td_op.specs.Message.{sender}
 use Rattle.td_machine.proofs.Parts.{IsBuilt, Begins}
 use Rattle.td_machine.proofs.Walk.{built_step, step_grows}

@@ -1,5 +1,6 @@
 -- The vector of a machine has all that was done to the rows of its document: their identities and their deletes.
-use Rattle.std.proofs.Common.{◌≡◌, ◌+◌, ℕ, List, Bool, true, false, not, map, length, if◌then◌else◌, Option, Some, None, sym, subst, ⊎_elim, arith}
+use Rattle.std.proofs.Common.{◌≡◌, ◌+◌, ℕ, List, Bool, true, false, not, map, length}
+use Rattle.std.proofs.Common.{if◌then◌else◌, Option, Some, None, sym, subst, ⊎_elim, arith}
 use Rattle.std.proofs.lemmas.Bool.{le-leb, and_from}
 use Rattle.std.specs.Prelude.{IsTrue}
 use Rattle.std.specs.List.{list_all}
@@ -61,7 +62,8 @@ module _ (P : DotValue → Type 0) where
       → EachDelete (flatten_below slot rows)
   after_flatten_below None rows h = h
   after_flatten_below (Some slot) rows h =
-      after_puts slot (map named (live_rows (rows_below rows (Some slot)))) (rows_beside slot rows) (λ r i. h r (In-filter (λ (z : DocRow). not (slot_contains slot z.path)) r rows i).0)
+      after_puts slot (map named (live_rows (rows_below rows (Some slot)))) (rows_beside slot rows)
+      (λ r i. h r (In-filter (λ (z : DocRow). not (slot_contains slot z.path)) r rows i).0)
 
   after_found : (slot : Option Slot) (rows : List DocRow) → EachDelete rows → EachDelete (flatten_found slot rows)
   after_found None rows h = h

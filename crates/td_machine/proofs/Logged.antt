@@ -1,6 +1,8 @@
 -- What is in a log was made or taken by an entry.
 use Rattle.std.specs.Prelude.{◌↔◌, drop}
-use Rattle.std.proofs.Common.{◌≡◌, ◌⊎◌, ◌++◌, ℕ, List, [], ◌∷◌, Bool, true, false, not, if◌then◌else◌, ◌||◌, nat_eq, nat_lt, length, Option, Some, None, refl, sym, ap, ◌∙◌, subst, inl, inr, ⊎_elim, append-nil, append_assoc}
+use Rattle.std.proofs.Common.{◌≡◌, ◌⊎◌, ◌++◌, ℕ, List, [], ◌∷◌, Bool, true, false, not, if◌then◌else◌}
+use Rattle.std.proofs.Common.{◌||◌, nat_eq, nat_lt, length, Option, Some, None, refl, sym, ap, ◌∙◌}
+use Rattle.std.proofs.Common.{subst, inl, inr, ⊎_elim, append-nil, append_assoc}
 use Rattle.std.specs.List.{find}
 use Rattle.std.proofs.Math.Seq.{drop-append_seam}
 use Rattle.td_base.specs.Value.{DotValue}
@@ -28,7 +30,8 @@ use Rattle.td_machine.specs.Log.{proposed}
 use Rattle.td_machine.specs.Decision.{Ballot, is_on, is_counted, counted, outcome, revise, new_ballot}
 use Rattle.td_machine.specs.Machine.{Machine, start, made, undecided, next_dot, next_op}
 use Rattle.td_machine.specs.Making.{done, make, decide}
-use Rattle.td_machine.specs.Taking.{Stepped, stepped, misfit, answer, vote_on, take_as, take, keep_waiting, fit_step, op_step, count, ballot_step, vote_step, forget, waited, next_of}
+use Rattle.td_machine.specs.Taking.{Stepped, stepped, misfit, answer, vote_on, take_as, take, keep_waiting, fit_step}
+use Rattle.td_machine.specs.Taking.{op_step, count, ballot_step, vote_step, forget, waited, next_of}
 use Rattle.td_machine.specs.Request.{Aim, Refuse, Do, GiveUp, aim, is_past_limit, attempt_step, aim_step, perform}
 use Rattle.td_machine.specs.Step.{step}
 use Rattle.td_machine.specs.History.{History, IsLegal, IsLegalFrom, after}
@@ -123,14 +126,16 @@ adds_taken (Some slot) x m n log sent = at (vote_on x slot n)
         record {
           log = ap (λ (l : List OpValue). x ∷ l) log;
           more = AVote (record { proposal = x.dot; voter = n.site; yes = true }) ∷ [];
-          sent = ap (λ (l : List Message). l ++ AVote (record { proposal = x.dot; voter = n.site; yes = true }) ∷ []) sent;
+          sent = ap (λ (l : List Message). l ++ AVote (record { proposal = x.dot; voter = n.site; yes = true }) ∷ [])
+              sent;
           none = no_vote (record { proposal = x.dot; voter = n.site; yes = true });
         }
     at false =
         record {
           log = ap (λ (l : List OpValue). x ∷ l) log;
           more = AVote (record { proposal = x.dot; voter = n.site; yes = false }) ∷ [];
-          sent = ap (λ (l : List Message). l ++ AVote (record { proposal = x.dot; voter = n.site; yes = false }) ∷ []) sent;
+          sent = ap (λ (l : List Message). l ++ AVote (record { proposal = x.dot; voter = n.site; yes = false }) ∷ [])
+              sent;
           none = no_vote (record { proposal = x.dot; voter = n.site; yes = false });
         }
 
@@ -179,7 +184,8 @@ module _ (m : Machine) where
           absurd
           (⊎_elim
           (λ (q : (input ≡ Take (AnOp x)) × (s.reply ≡ New)). came x q.0 q.1)
-          (λ (q : (input ≡ Next) × (s.reply ≡ Taken x.dot) × (next_ready m.have m.waiting ≡ Some x)). went x.dot q.0 q.1)
+          (λ (q : (input ≡ Next) × (s.reply ≡ Taken x.dot) × (next_ready m.have m.waiting ≡ Some x)). went x.dot q.0
+          q.1)
           j)) k)
           i)
 
@@ -209,7 +215,8 @@ module _ (m : Machine) where
           ⊎ ((input ≡ Next) × (s.reply ≡ Taken y.dot) × (next_ready m.have m.waiting ≡ Some y))).
           ⊎_elim
           (λ (q : (input ≡ Take (AnOp y)) × (s.reply ≡ New)). inl (came y q.0 q.1))
-          (λ (q : (input ≡ Next) × (s.reply ≡ Taken y.dot) × (next_ready m.have m.waiting ≡ Some y)). inl (went y q.0 q.2))
+          (λ (q : (input ≡ Next) × (s.reply ≡ Taken y.dot) × (next_ready m.have m.waiting ≡ Some y)). inl
+          (went y q.0 q.2))
           j) k)
           i)
 
@@ -237,11 +244,15 @@ module _ (m : Machine) where
       let ready : Stepped = if not (is_ready m.have x) then late else fit in
       let mine : Stepped = if own then stepped (Unfit Own) m else ready in
       let rest : Stepped = if again then stepped Repeat m else mine in
-      either (λ (s : Stepped). PutsExactly (Take (AnOp x)) s) (not (nat_eq (length x.deps) m.size)) (stepped (Unfit Size) m) rest (λ e. quiet (Unfit Size) (λ f. absurd cc))
-      (λ e. either (λ (s : Stepped). PutsExactly (Take (AnOp x)) s) again (stepped Repeat m) mine (λ f. quiet Repeat (λ f. absurd cc))
-      (λ f. either (λ (s : Stepped). PutsExactly (Take (AnOp x)) s) own (stepped (Unfit Own) m) ready (λ g. quiet (Unfit Own) (λ f. absurd cc))
+      either (λ (s : Stepped). PutsExactly (Take (AnOp x)) s) (not (nat_eq (length x.deps) m.size))
+      (stepped (Unfit Size) m) rest (λ e. quiet (Unfit Size) (λ f. absurd cc))
+      (λ e. either (λ (s : Stepped). PutsExactly (Take (AnOp x)) s) again (stepped Repeat m) mine
+      (λ f. quiet Repeat (λ f. absurd cc))
+      (λ f. either (λ (s : Stepped). PutsExactly (Take (AnOp x)) s) own (stepped (Unfit Own) m) ready
+      (λ g. quiet (Unfit Own) (λ f. absurd cc))
       (λ g. either (λ (s : Stepped). PutsExactly (Take (AnOp x)) s) (not (is_ready m.have x)) late fit
-      (λ h. makes (Take (AnOp x)) late (adds_none m (keep_waiting x m) refl refl) (λ y k l. absurd cc) (λ d k l. absurd cc))
+      (λ h. makes (Take (AnOp x)) late (adds_none m (keep_waiting x m) refl refl) (λ y k l. absurd cc)
+      (λ d k l. absurd cc))
       (λ h. fitted (misfit x m)))))
     where
       quiet : (reply : Reply) → (reply ≡ New → ⊥) → PutsExactly (Take (AnOp x)) (stepped reply m)
@@ -260,7 +271,8 @@ module _ (m : Machine) where
       counted_so : (o : Option Ballot) → Adds m (ballot_step o v m).machine
       counted_so None = adds_none m m refl refl
       counted_so (Some b) =
-          either (λ (s : Stepped). Adds m s.machine) (is_counted v.voter b) (stepped Repeat m) (stepped New (count v b m))
+          either (λ (s : Stepped). Adds m s.machine) (is_counted v.voter b) (stepped Repeat m)
+          (stepped New (count v b m))
           (λ e. adds_none m m refl refl)
           (λ e.
           adds_decided v.proposal (outcome m.size v.yes (counted v.voter v.yes b)) m
@@ -274,7 +286,8 @@ module _ (m : Machine) where
           either (λ (s : Stepped). Adds m s.machine) (nat_lt m.size v.voter || nat_lt m.size v.proposal.site)
           (stepped (Unfit Size) m) here (λ e. adds_none m m refl refl)
           (λ e.
-          either (λ (s : Stepped). Adds m s.machine) (not (nat_eq v.proposal.site m.site)) (stepped (Unfit Address) m) found
+          either (λ (s : Stepped). Adds m s.machine) (not (nat_eq v.proposal.site m.site)) (stepped (Unfit Address) m)
+          found
           (λ f. adds_none m m refl refl) (λ f. counted_so (find (is_on v.proposal) m.ballots)))
 
   went : (o : Option OpValue) → next_ready m.have m.waiting ≡ o → PutsExactly Next (next_of o m)

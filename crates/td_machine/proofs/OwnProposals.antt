@@ -1,5 +1,6 @@
 -- Own ballots are on own proposals, and an open one on a proposal of which the log has no decision.
-use Rattle.std.proofs.Common.{◌≡◌, ◌≢◌, ◌≤◌, ◌+◌, ◌&&◌, ℕ, List, [], ◌∷◌, Bool, true, false, if◌then◌else◌, nat_eq, Option, Some, None, refl, sym, ap, ◌∙◌, subst, inl, inr, true≢false, arith}
+use Rattle.std.proofs.Common.{◌≡◌, ◌≢◌, ◌≤◌, ◌+◌, ◌&&◌, ℕ, List, [], ◌∷◌, Bool, true, false, if◌then◌else◌, nat_eq}
+use Rattle.std.proofs.Common.{Option, Some, None, refl, sym, ap, ◌∙◌, subst, inl, inr, true≢false, arith}
 use Rattle.std.proofs.lemmas.Bool.{le-leb, leb-true, and_parts}
 use Rattle.std.specs.Prelude.{IsTrue}
 use Rattle.std.specs.Option.{option_or, is_some, is_none}
@@ -27,7 +28,8 @@ use Rattle.td_machine.specs.Taking.{body_misfit}
 use Rattle.td_machine.specs.Hold.{is_held, is_of}
 use Rattle.td_machine.proofs.Vectors.{bump_same, bump_covers}
 use Rattle.td_machine.proofs.Ballots.{find_ballot, closed_in, counted_in, revised_in}
-use Rattle.td_machine.proofs.Parts.{IsProposing, IsOpenAt, MayMake, IsFit, Part, proposed_here, Delays, Forgets, Makes, Proposes, Counts, Takes, Agrees, Declines, IsBuilt, Own, Other, by_parts}
+use Rattle.td_machine.proofs.Parts.{IsProposing, IsOpenAt, MayMake, IsFit, Part, proposed_here, Delays, Forgets}
+use Rattle.td_machine.proofs.Parts.{Makes, Proposes, Counts, Takes, Agrees, Declines, IsBuilt, Own, Other, by_parts}
 use Rattle.td_machine.proofs.Holding.{holding}
 use Rattle.td_machine.proofs.Turns.{counted as in_turn, comes_next}
 
@@ -217,7 +219,8 @@ module _ {Came : Message → Type 0} {site size : ℕ} where
     where
       makes : (body : Body) (m : Machine) → IsBuilt Came site size m → MayMake body m → Polls m → Polls (make body m)
       makes body m b may s =
-          let d = done_polls (next_op m body) m (comes_next m b (next_op m body) (Own body may)) (made_had body m s may) s in
+          let d = done_polls (next_op m body) m (comes_next m b (next_op m body) (Own body may))
+          (made_had body m s may) s in
           record { had = d.had; undecided = d.undecided; known = d.known }
 
       takes : (x : OpValue) (m : Machine) → IsBuilt Came site size m → IsFit Came m x → Polls m → Polls (done x m)

@@ -1,6 +1,7 @@
 -- The parts of a step: each thing that a step does to a machine, with what it knows then. What the start has, and each
 -- part keeps, holds of each machine that is built of them; and so for what an operation alone changes.
-use Rattle.std.proofs.Common.{◌≡◌, ◌≢◌, ◌<◌, ◌≤◌, ◌+◌, ◌||◌, ℕ, List, [], ◌∷◌, Bool, true, false, length, replicate, Option, Some, None}
+use Rattle.std.proofs.Common.{◌≡◌, ◌≢◌, ◌<◌, ◌≤◌, ◌+◌, ◌||◌, ℕ, List, [], ◌∷◌, Bool, true}
+use Rattle.std.proofs.Common.{false, length, replicate, Option, Some, None}
 use Rattle.std.specs.List.{find}
 use Rattle.std.specs.Option.{is_some, ForSome}
 use Rattle.td_base.specs.Value.{DotValue, AtomIdValue}

@@ -1,5 +1,6 @@
 -- Tests that compute: a message whose parts pass them is a value of its type.
-use Rattle.std.proofs.Common.{◌≡◌, ◌≤◌, ◌+◌, ℕ, zero, suc, List, [], ◌∷◌, Bool, true, ◌&&◌, length, nat_eq, nat_le, Option, Some, None, arith}
+use Rattle.std.proofs.Common.{◌≡◌, ◌≤◌, ◌+◌, ℕ, zero, suc, List, [], ◌∷◌, Bool, true, ◌&&◌}
+use Rattle.std.proofs.Common.{length, nat_eq, nat_le, Option, Some, None, arith}
 use Rattle.std.specs.Prelude.{IfSome, All}
 use Rattle.std.specs.List.{list_all, concat}
 use Rattle.std.specs.Str.{IsAscii}

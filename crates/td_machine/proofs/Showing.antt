@@ -1,5 +1,6 @@
 -- An operation changes the atoms shown as it is told.
-use Rattle.std.proofs.Common.{◌≡◌, ℕ, List, [], ◌∷◌, Bool, true, false, map, take, drop, append_assoc, Option, Some, None, refl, sym, ap, ◌∙◌, if◌then◌else◌}
+use Rattle.std.proofs.Common.{◌≡◌, ℕ, List, [], ◌∷◌, Bool, true, false, map, take, drop, append_assoc}
+use Rattle.std.proofs.Common.{Option, Some, None, refl, sym, ap, ◌∙◌, if◌then◌else◌}
 use Rattle.std.specs.Prelude.{IsTrue}
 use Rattle.std.specs.List.{insert_slice}
 use Rattle.td_base.specs.Value.{DotValue, AtomIdValue}
@@ -17,7 +18,8 @@ use Rattle.td_machine.specs.Log.{proposed_slot}
 use Rattle.td_machine.specs.Making.{effect, flatten_found}
 use Rattle.td_machine.specs.Shown.{put_at_index, change_by, changed_by}
 
-put_as_slice : (index : ℕ) (run atoms : List (List ℕ)) → changed (put_at_index index run) atoms ≡ insert_slice atoms index run
+put_as_slice : (index : ℕ) (run atoms : List (List ℕ)) → changed (put_at_index index run) atoms
+    ≡ insert_slice atoms index run
 put_as_slice index [] atoms = refl
 put_as_slice index (atom ∷ []) atoms = sym (append_assoc (take index atoms) (atom ∷ []) (drop index atoms))
 put_as_slice index (atom ∷ next ∷ run) atoms = refl

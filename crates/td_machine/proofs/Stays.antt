@@ -1,5 +1,6 @@
 -- Rows that stay with their paths, and the slots at them.
-use Rattle.std.proofs.Common.{◌≡◌, ◌||◌, ℕ, List, Bool, true, false, if◌then◌else◌, map, Option, Some, None, refl, sym, ap, ◌∙◌, inr}
+use Rattle.std.proofs.Common.{◌≡◌, ◌||◌, ℕ, List, Bool, true, false, if◌then◌else◌, map}
+use Rattle.std.proofs.Common.{Option, Some, None, refl, sym, ap, ◌∙◌, inr}
 use Rattle.std.specs.Option.{option_map, is_some}
 use Rattle.std.proofs.lemmas.Bool.{or_parts}
 use Rattle.td_base.specs.declared.bit.Bit.{Bit}

@@ -1,5 +1,6 @@
 -- The kinds of a step: what is shown of each kind, with what the step knows then, holds of the step.
-use Rattle.std.proofs.Common.{◌≡◌, ◌≢◌, ◌⊎◌, ◌≤◌, List, [], ◌∷◌, Bool, true, false, not, if◌then◌else◌, ◌||◌, nat_eq, nat_lt, length, filter, Option, Some, None, refl, sym, ap, inl, inr, ⊎_elim}
+use Rattle.std.proofs.Common.{◌≡◌, ◌≢◌, ◌⊎◌, ◌≤◌, List, [], ◌∷◌, Bool, true, false, not, if◌then◌else◌, ◌||◌, nat_eq}
+use Rattle.std.proofs.Common.{nat_lt, length, filter, Option, Some, None, refl, sym, ap, inl, inr, ⊎_elim}
 use Rattle.std.proofs.lemmas.Bool.{or_parts, eqb-true, eqb-false, ltb-false, not-false, not-true}
 use Rattle.std.specs.List.{find}
 use Rattle.td_base.specs.Value.{DotValue}
@@ -13,7 +14,8 @@ use Rattle.td_op.specs.declared.message.Message.TheVariants.{Op as AnOp, Vote as
 use Rattle.td_op.specs.declared.request.Request.{Request}
 use Rattle.td_op.specs.declared.vote.Vote.{Vote}
 use Rattle.td_op.specs.declared.reply.Reply.{Reply}
-use Rattle.td_op.specs.declared.reply.Reply.TheVariants.{Made, Cancelled, Limit, New, Later, Repeat, Unfit, Taken, Dropped}
+use Rattle.td_op.specs.declared.reply.Reply.TheVariants.{Made, Cancelled, Limit, New, Later, Repeat}
+use Rattle.td_op.specs.declared.reply.Reply.TheVariants.{Unfit, Taken, Dropped}
 use Rattle.td_op.specs.declared.reply.Why.{Why}
 use Rattle.td_op.specs.declared.reply.Why.TheVariants.{Size, Own, Address}
 use Rattle.td_op.specs.Op.{OpValue}
@@ -21,8 +23,10 @@ use Rattle.td_machine.specs.Ready.{is_had, is_ready, smaller_op, least_op, next_
 use Rattle.td_machine.specs.Decision.{Ballot, is_on, is_counted}
 use Rattle.td_machine.specs.Machine.{Machine, made, undecided, next_dot}
 use Rattle.td_machine.specs.Making.{decide}
-use Rattle.td_machine.specs.Taking.{Stepped, stepped, misfit, take, keep_waiting, fit_step, op_step, count, ballot_step, vote_step, forget, waited, next_of}
-use Rattle.td_machine.specs.Request.{Aim, Attempt, Refuse, Do, GiveUp, aim, is_past_limit, attempt_step, aim_step, perform}
+use Rattle.td_machine.specs.Taking.{Stepped, stepped, misfit, take, keep_waiting, fit_step, op_step}
+use Rattle.td_machine.specs.Taking.{count, ballot_step, vote_step, forget, waited, next_of}
+use Rattle.td_machine.specs.Request.{Aim, Attempt, Refuse, Do, GiveUp, aim, is_past_limit}
+use Rattle.td_machine.specs.Request.{attempt_step, aim_step, perform}
 use Rattle.td_machine.specs.Step.{step}
 use Rattle.td_base.proofs.Elements.{either}
 use Rattle.std.proofs.lemmas.Option.{same_Some}

@@ -1,5 +1,6 @@
 -- The operations of a machine's log came in their turn, and its vector counts them.
-use Rattle.std.proofs.Common.{◌≡◌, ◌<◌, ◌≤◌, ◌+◌, ◌++◌, ◌-◌, ℕ, List, [], ◌∷◌, not, length, refl, sym, ap, ◌∙◌, subst, arith}
+use Rattle.std.proofs.Common.{◌≡◌, ◌<◌, ◌≤◌, ◌+◌, ◌++◌, ◌-◌, ℕ, List, [], ◌∷◌, not}
+use Rattle.std.proofs.Common.{length, refl, sym, ap, ◌∙◌, subst, arith}
 use Rattle.std.proofs.lemmas.Bool.{leb-true, leb-false, le-leb, and_parts, not-true}
 use Rattle.std.proofs.lemmas.List.{length-set, length-replicate}
 use Rattle.td_base.specs.Value.{DotValue}

@@ -1,5 +1,6 @@
 -- Each step is built of parts.
-use Rattle.std.proofs.Common.{◌≡◌, ◌+◌, ◌++◌, ℕ, List, [], ◌∷◌, Bool, true, false, not, if◌then◌else◌, nat_eq, length, Option, Some, None, refl, ap, ◌∙◌, subst}
+use Rattle.std.proofs.Common.{◌≡◌, ◌+◌, ◌++◌, ℕ, List, [], ◌∷◌, Bool, true, false, not, if◌then◌else◌}
+use Rattle.std.proofs.Common.{nat_eq, length, Option, Some, None, refl, ap, ◌∙◌, subst}
 use Rattle.std.proofs.lemmas.Bool.{or_parts, eqb-true, ltb-false}
 use Rattle.std.specs.List.{find, list_any}
 use Rattle.std.specs.Option.{is_some}
@@ -27,7 +28,8 @@ use Rattle.td_machine.specs.Taking.{Stepped, answer, body_misfit, misfit, vote_o
 use Rattle.td_machine.specs.Request.{Aim, Do, GiveUp, aim, perform}
 use Rattle.td_machine.specs.Step.{step}
 use Rattle.td_base.proofs.Elements.{one_more}
-use Rattle.td_machine.proofs.Parts.{MayMake, IsOpenAt, IsOffered, IsFit, IsCounting, Part, Makes, Proposes, Counts, Takes, Agrees, Declines, Delays, Forgets, IsBuilt, Goes, proposed_here, by_parts}
+use Rattle.td_machine.proofs.Parts.{MayMake, IsOpenAt, IsOffered, IsFit, IsCounting, Part, Makes, Proposes, Counts}
+use Rattle.td_machine.proofs.Parts.{Takes, Agrees, Declines, Delays, Forgets, IsBuilt, Goes, proposed_here, by_parts}
 use Rattle.td_machine.proofs.Aims.{FitsAim, aimed}
 use Rattle.td_machine.proofs.StepKinds.{IsForeign, by_kinds}
 use Rattle.td_base.proofs.Equals.{same_dot_refl}

@@ -1,6 +1,7 @@
 -- A family that is written out is consistent where each entry is, at the machine before it; and that is shown by tests
 -- that compute.
-use Rattle.std.proofs.Common.{◌≡◌, ◌<◌, ◌≤◌, ◌++◌, ℕ, zero, suc, List, [], ◌∷◌, Bool, true, ◌&&◌, not, length, nat_eq, nat_le, Some, sym, subst, inl, inr, arith}
+use Rattle.std.proofs.Common.{◌≡◌, ◌<◌, ◌≤◌, ◌++◌, ℕ, zero, suc, List, [], ◌∷◌, Bool, true, ◌&&◌, not}
+use Rattle.std.proofs.Common.{length, nat_eq, nat_le, Some, sym, subst, inl, inr, arith}
 use Rattle.std.proofs.lemmas.Bool.{leb-true, eqb-true, eqb-false, not-true, and_parts}
 use Rattle.td_base.specs.declared.site.TheConstants.{MAX_SITE}
 use Rattle.td_base.specs.Lists.{In}
@@ -14,7 +15,8 @@ use Rattle.td_op.specs.Input.{IsInput, IsRequest}
 use Rattle.td_machine.specs.Machine.{Machine, start, made}
 use Rattle.td_machine.specs.Step.{step}
 use Rattle.td_machine.specs.Stage.{at_place}
-use Rattle.td_machine.specs.History.{History, Family, after, history, machine, known_of, IsAddressed, IsLegalFrom, IsConsistent, MayCome}
+use Rattle.td_machine.specs.History.{History, Family, after, history, machine, known_of}
+use Rattle.td_machine.specs.History.{IsAddressed, IsLegalFrom, IsConsistent, MayCome}
 use Rattle.td_op.specs.Message.{sender}
 use Rattle.std.proofs.lemmas.Option.{same_Some}
 use Rattle.td_machine.proofs.Ranges.{message_fits, message_from}

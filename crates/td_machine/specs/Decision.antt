@@ -1,5 +1,6 @@
 -- The decision rule: how a proposer counts votes (two-phase commitment, Gray 1978).
-use Rattle.std.specs.Prelude.{ℕ, List, [], ◌∷◌, Bool, true, false, ◌||◌, length, map, filter, Option, Some, None, if◌then◌else◌, ◌==◌}
+use Rattle.std.specs.Prelude.{ℕ, List, [], ◌∷◌, Bool, true, false, ◌||◌, length, map}
+use Rattle.std.specs.Prelude.{filter, Option, Some, None, if◌then◌else◌, ◌==◌}
 use Rattle.std.specs.List.{list_any}
 use Rattle.std.specs.Option.{is_some, is_none}
 use Rattle.td_base.specs.Value.{DotValue}

@@ -1,6 +1,7 @@
 -- A stage for worked examples: machines side by side, their messages in the order of sending, and what each machine
 -- was given.
-use Rattle.std.specs.Prelude.{ℕ, zero, suc, ◌-◌, List, [], ◌∷◌, ◌++◌, Bool, true, false, length, map, filter, drop, Option, Some, None, if◌then◌else◌, ◌==◌}
+use Rattle.std.specs.Prelude.{ℕ, zero, suc, ◌-◌, List, [], ◌∷◌, ◌++◌, Bool, true, false, length, map}
+use Rattle.std.specs.Prelude.{filter, drop, Option, Some, None, if◌then◌else◌, ◌==◌}
 use Rattle.std.specs.List.{filter_map}
 use Rattle.td_base.specs.Value.{DotValue, AtomIdValue}
 use Rattle.td_op.specs.declared.entry.Entry.{Entry}

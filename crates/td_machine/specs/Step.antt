@@ -2,7 +2,8 @@
 use Rattle.td_op.specs.declared.input.Input.{Input}
 use Rattle.td_op.specs.declared.input.Input.TheVariants.{Local, Take, Next}
 use Rattle.td_op.specs.declared.reply.Reply.{Reply}
-use Rattle.td_op.specs.declared.reply.Reply.TheVariants.{Made, Cancelled, Held, Position, Gone, Limit, NotOpen, New, Later, Repeat, Unfit, Taken, Dropped, Idle}
+use Rattle.td_op.specs.declared.reply.Reply.TheVariants.{Made, Cancelled, Held, Position, Gone, Limit, NotOpen, New}
+use Rattle.td_op.specs.declared.reply.Reply.TheVariants.{Later, Repeat, Unfit, Taken, Dropped, Idle}
 use Rattle.td_machine.specs.Machine.{Machine}
 use Rattle.td_machine.specs.Taking.{Stepped, message_step, next_step}
 use Rattle.td_machine.specs.Request.{request_step}

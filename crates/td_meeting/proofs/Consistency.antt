@@ -1,5 +1,6 @@
 -- Workers whose links are settled are a consistent family.
-use Rattle.std.proofs.Common.{◌≡◌, ◌≢◌, ◌<◌, ◌≤◌, ◌+◌, ◌-◌, ◌++◌, ℕ, zero, suc, List, [], ◌∷◌, true, length, slice_get, Some, refl, sym, ap, ◌∙◌, subst, inl, inr, ◌⊎◌, ⊎_elim, arith}
+use Rattle.std.proofs.Common.{◌≡◌, ◌≢◌, ◌<◌, ◌≤◌, ◌+◌, ◌-◌, ◌++◌, ℕ, zero, suc, List, [], ◌∷◌, true, length}
+use Rattle.std.proofs.Common.{slice_get, Some, refl, sym, ap, ◌∙◌, subst, inl, inr, ◌⊎◌, ⊎_elim, arith}
 use Rattle.std.specs.Option.{option_to_list}
 use Rattle.td_base.specs.declared.site.TheConstants.{MAX_SITE}
 use Rattle.td_base.specs.Lists.{In}
@@ -12,7 +13,8 @@ use Rattle.td_op.specs.declared.message.Message.{Message}
 use Rattle.td_wire.specs.Spelling.{SpellsIn}
 use Rattle.td_wire.proofs.Decoding.{one_message}
 use Rattle.td_machine.specs.Machine.{Machine, start}
-use Rattle.td_machine.specs.History.{History, history, after, machine, machine_after, IsAddressed, IsLegal, MayCome, IsConsistent}
+use Rattle.td_machine.specs.History.{History, history, after, machine, machine_after}
+use Rattle.td_machine.specs.History.{IsAddressed, IsLegal, MayCome, IsConsistent}
 use Rattle.td_op.specs.Message.{sender}
 use Rattle.td_meeting.specs.Thin.{is_addressed}
 use Rattle.td_meeting.specs.Takes.{takes_from, IsWelcome, TakesWelcome}

@@ -1,5 +1,6 @@
 -- The two workers of the example are settled.
-use Rattle.std.proofs.Common.{◌≡◌, ◌+◌, ℕ, zero, suc, [], ◌∷◌, Some, slice_get, codes, refl, sym, subst, inl, inr, arith}
+use Rattle.std.proofs.Common.{◌≡◌, ◌+◌, ℕ, zero, suc, [], ◌∷◌, Some, slice_get}
+use Rattle.std.proofs.Common.{codes, refl, sym, subst, inl, inr, arith}
 use Rattle.td_op.specs.declared.input.Input.TheVariants.{Take}
 use Rattle.td_op.specs.declared.message.Message.{Message}
 use Rattle.td_op.specs.Message.{IsMessage}

@@ -1,5 +1,6 @@
 -- Which of a site's messages are for another one, and what is sent of these where some are lost and some come twice.
-use Rattle.std.specs.Prelude.{ℕ, suc, ◌%◌, Bool, true, ◌&&◌, nat_lt, List, [], ◌∷◌, ◌++◌, filter, replicate, if◌then◌else◌, ◌==◌}
+use Rattle.std.specs.Prelude.{ℕ, suc, ◌%◌, Bool, true, ◌&&◌, nat_lt, List, [], ◌∷◌, ◌++◌}
+use Rattle.std.specs.Prelude.{filter, replicate, if◌then◌else◌, ◌==◌}
 use Rattle.td_op.specs.declared.message.Message.{Message}
 use Rattle.td_op.specs.declared.message.Message.TheVariants.{Op, Vote}
 

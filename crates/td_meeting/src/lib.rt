@@ -3,8 +3,8 @@
 //!
 //! Begin at `specs/Accounts.antt`, which says what each worker can tell by itself and when all are settled.
 //! `specs/Thin.antt` has what is sent of a site's messages where some are lost and some come twice, `specs/Peers.antt`
-//! what a worker keeps for another one, `specs/Takes.antt` what a history takes, and `specs/Rows.antt` an order in which
-//! all links can be settled. The laws are in `laws`, worked examples in `examples`.
+//! what a worker keeps for another one, `specs/Takes.antt` what a history takes, and `specs/Rows.antt` an order in
+//! which all links can be settled. The laws are in `laws`, worked examples in `examples`.
 #![tactic(auto)]
 
 mod examples;

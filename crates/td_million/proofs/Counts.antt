@@ -1,5 +1,6 @@
 -- How many rows there are after an insert.
-use Rattle.std.proofs.Common.{◌≡◌, ◌+◌, ℕ, suc, List, [], ◌∷◌, Bool, true, false, cond, length, map, Option, Some, None, refl, ap, ◌∙◌, arith}
+use Rattle.std.proofs.Common.{◌≡◌, ◌+◌, ℕ, suc, List, [], ◌∷◌, Bool, true, false, cond, length}
+use Rattle.std.proofs.Common.{map, Option, Some, None, refl, ap, ◌∙◌, arith}
 use Rattle.std.specs.Prelude.{IsTrue, IsSome}
 use Rattle.std.specs.Option.{option_map}
 use Rattle.std.specs.Ordering.{is_lt}
@@ -34,11 +35,14 @@ named : (dot : DotValue) (offset : ℕ) (run : List (List ℕ)) → length (run_
 named dot offset [] = refl
 named dot offset (atom ∷ run) = ap suc (named dot (suc offset) run)
 
-in_slot : (slot : SlotPath) (dot : DotValue) (run : List (List ℕ)) (rows : List DocRow) → length (put_rows (array slot (run_atoms dot run)) rows) ≡ length rows + length run
-in_slot slot dot run rows = more (array slot (run_atoms dot run)) rows ∙ ap (λ (n : ℕ). length rows + n) (length_array slot (run_atoms dot run) ∙ named dot 0 run)
+in_slot : (slot : SlotPath) (dot : DotValue) (run : List (List ℕ)) (rows : List DocRow)
+    → length (put_rows (array slot (run_atoms dot run)) rows) ≡ length rows + length run
+in_slot slot dot run rows = more (array slot (run_atoms dot run)) rows
+    ∙ ap (λ (n : ℕ). length rows + n) (length_array slot (run_atoms dot run) ∙ named dot 0 run)
 
 below : (o : Option DocRow) (bit : Bit) (dot : DotValue) (run : List (List ℕ)) (rows : List DocRow) → IsSome o
-    → length (put_array_below (option_map (λ (r : DocRow). Below r.path bit) o) (run_atoms dot run) rows) ≡ length rows + length run
+    → length (put_array_below (option_map (λ (r : DocRow). Below r.path bit) o) (run_atoms dot run) rows)
+    ≡ length rows + length run
 below None bit dot run rows some = absurd (cc some)
 below (Some r) bit dot run rows some = in_slot (Below r.path bit) dot run rows
 

@@ -25,13 +25,16 @@ fresh_next next dot rows same fresh = subst (IsFresh rows) (sym same) (fresh nex
 -- an insert uses its dot
 pub fresh_put : (slot : Slot) (next : DotValue) (run : List (List ℕ)) (rows : List DocRow) → AreFreshFrom next rows
     → AreFreshFrom (dot_after next) (insert_run slot next run rows)
-fresh_put slot next run rows fresh d coming = fresh_after slot next d run rows (other next d coming) (fresh d (later next d coming))
+fresh_put slot next run rows fresh d coming = fresh_after slot next d run rows (other next d coming)
+    (fresh d (later next d coming))
 
 -- and a delete too
-pub fresh_delete : (x : AtomIdValue) (next by : DotValue) (rows : List DocRow) → AreFreshFrom next rows → AreFreshFrom (dot_after next) (delete x by rows)
+pub fresh_delete : (x : AtomIdValue) (next by : DotValue) (rows : List DocRow) → AreFreshFrom next rows
+    → AreFreshFrom (dot_after next) (delete x by rows)
 fresh_delete x next by rows fresh d coming = fresh_deleted x by d rows (fresh d (later next d coming))
 
 -- the dots of the next site are all to come
-pub fresh_site : (site next seq : ℕ) (rows : List DocRow) → next ≡ site + 1 → AreFreshFrom (record { site = site; seq = seq }) rows → AreFreshFrom (first_dot next) rows
+pub fresh_site : (site next seq : ℕ) (rows : List DocRow) → next ≡ site + 1
+    → AreFreshFrom (record { site = site; seq = seq }) rows → AreFreshFrom (first_dot next) rows
 fresh_site site next seq rows more fresh d (inl less) = fresh d (inl (omega (arith, less, more)))
 fresh_site site next seq rows more fresh d (inr same) = fresh d (inl (omega (arith, same.0, more)))

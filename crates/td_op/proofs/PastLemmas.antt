@@ -34,9 +34,11 @@ apart_if_concurrent x y is_x is_y other concurrent site =
 pub ruleset one_site = (earlier_in_past, apart_if_concurrent)
 
 -- at the site of the earlier one the numbers differ
-pub past_sum : (x y : OpValue) → IsOp x → length x.deps ≡ length y.deps → IsTrue (vector_covers y.deps x.deps) → IsTrue (in_past x y) → op_sum x < op_sum y
+pub past_sum : (x y : OpValue) → IsOp x → length x.deps ≡ length y.deps → IsTrue (vector_covers y.deps x.deps)
+    → IsTrue (in_past x y) → op_sum x < op_sum y
 past_sum x y is one_size covers past =
     let more : x.dot.seq ≤ vector_get y.deps x.dot.site = leb-true x.dot.seq (vector_get y.deps x.dot.site) past in
     sum_grows y.deps x.deps (sym one_size) covers (λ same.
-    let here : vector_get y.deps x.dot.site ≡ vector_get x.deps x.dot.site = ap (λ (v : List ℕ). vector_get v x.dot.site) same in
+    let here : vector_get y.deps x.dot.site ≡ vector_get x.deps x.dot.site =
+    ap (λ (v : List ℕ). vector_get v x.dot.site) same in
     omega (arith, more, here, is.next))

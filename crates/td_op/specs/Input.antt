@@ -5,7 +5,8 @@ use Rattle.td_base.specs.Atom.{IsAtom}
 use Rattle.td_base.specs.Run.{IsRun}
 use Rattle.td_path.specs.Slot.{IsSlot}
 use Rattle.td_op.specs.declared.request.Request.{Request}
-use Rattle.td_op.specs.declared.request.Request.TheVariants.{Insert, InsertAfter, Paste, PasteAfter, Delete, DeleteAtom, Propose, ProposeAt, Cancel}
+use Rattle.td_op.specs.declared.request.Request.TheVariants.{Insert, InsertAfter, Paste, PasteAfter, Delete}
+use Rattle.td_op.specs.declared.request.Request.TheVariants.{DeleteAtom, Propose, ProposeAt, Cancel}
 use Rattle.td_op.specs.declared.input.Input.{Input}
 use Rattle.td_op.specs.declared.input.Input.TheVariants.{Local, Take, Next}
 use Rattle.td_op.specs.Message.{IsMessage}

@@ -1,5 +1,6 @@
 -- Looking for a dot that comes twice.
-use Rattle.std.proofs.Common.{◌≡◌, ◌+◌, ◌-◌, ◌<◌, ◌≤◌, ℕ, List, ◌∷◌, true, false, take, drop, get_or, length, sym, ap, ◌∙◌, subst, true≢false}
+use Rattle.std.proofs.Common.{◌≡◌, ◌+◌, ◌-◌, ◌<◌, ◌≤◌, ℕ, List, ◌∷◌, true, false, take, drop}
+use Rattle.std.proofs.Common.{get_or, length, sym, ap, ◌∙◌, subst, true≢false}
 use Rattle.std.specs.Prelude.{◌↔◌}
 use Rattle.std.specs.List.{list_any}
 use Rattle.std.proofs.lemmas.List.{drop_more, drop_all, length-drop}
@@ -19,18 +20,23 @@ to_end k xs = ap (λ n. take n (drop k xs)) (sym (length-drop k xs)) ∙ take-le
 abbrev pub Same : List OpValue → ℕ → Type 0
 Same ops i = DotsDiffer (drop i ops) ↔ DotsDiffer ops
 
-module _ (ops : List OpValue) (i : ℕ) (o : OpValue) (item : o ≡ get_or ops i o) (within : i < length ops) (same : Same ops i) where
+module _ (ops : List OpValue) (i : ℕ) (o : OpValue) (item : o ≡ get_or ops i o) (within : i < length ops)
+    (same : Same ops i) where
   rest : drop i ops ≡ o ∷ drop (i + 1) ops
   rest = drop_more ops i o within ∙ ap (λ p. p ∷ drop (i + 1) ops) (sym item)
 
-  other_dots : list_any (λ (p : OpValue). same_dot p.dot o.dot) (drop (i + 1) ops) ≡ false → (p : OpValue) → In p (drop (i + 1) ops) → o.dot ≡ p.dot → ⊥
+  other_dots : list_any (λ (p : OpValue). same_dot p.dot o.dot) (drop (i + 1) ops) ≡ false → (p : OpValue)
+      → In p (drop (i + 1) ops) → o.dot ≡ p.dot → ⊥
   other_dots none p k e =
-      true≢false (sym (subst (λ d. same_dot d o.dot ≡ true) e (same_dot_refl o.dot)) ∙ any_none (λ (q : OpValue). same_dot q.dot o.dot) (drop (i + 1) ops) p none k)
+      true≢false (sym (subst (λ d. same_dot d o.dot ≡ true) e (same_dot_refl o.dot))
+      ∙ any_none (λ (q : OpValue). same_dot q.dot o.dot) (drop (i + 1) ops) p none k)
 
   pub differ_next : list_any (λ (p : OpValue). same_dot p.dot o.dot) (drop (i + 1) ops) ≡ false → Same ops (i + 1)
   differ_next none = (
-    (λ d. same.0 (subst (λ (l : List OpValue). DotsDiffer l) (sym rest) (all_of (OtherDot o) (drop (i + 1) ops) (other_dots none), d))),
-    (λ d. let r : DotsDiffer (o ∷ drop (i + 1) ops) = subst (λ (l : List OpValue). DotsDiffer l) rest (same.1 d) in r.1),
+    (λ d. same.0 (subst (λ (l : List OpValue). DotsDiffer l) (sym rest)
+        (all_of (OtherDot o) (drop (i + 1) ops) (other_dots none), d))),
+    (λ d. let r : DotsDiffer (o ∷ drop (i + 1) ops) = subst (λ (l : List OpValue). DotsDiffer l) rest (same.1 d) in
+        r.1),
   )
 
   pub differ_not : list_any (λ (p : OpValue). same_dot p.dot o.dot) (drop (i + 1) ops) ≡ true → DotsDiffer ops → ⊥

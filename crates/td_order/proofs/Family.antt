@@ -31,6 +31,8 @@ AllFollow (a ∷ os) = Follows a os × AllFollow os
 -- pasts are pasts; and where one insertion of a slot is in the past of another, each third insertion of the slot
 -- comes after the first or before the second
 pub record HasPasts (os : List Insertion) : Type 0 where
-  pub onward : (c d e : Insertion) → In c os → In d os → In e os → precedes c d ≡ true → precedes d e ≡ true → precedes c e ≡ true
+  pub onward : (c d e : Insertion) → In c os → In d os → In e os → precedes c d ≡ true → precedes d e ≡ true
+      → precedes c e ≡ true
   pub apart : (c : Insertion) → In c os → precedes c c ≡ false
-  pub epochs : (c d e : Insertion) → In c os → In d os → In e os → c.slot ≡ d.slot → e.slot ≡ d.slot → precedes c d ≡ true → (precedes c e ≡ true) ⊎ (precedes e d ≡ true)
+  pub epochs : (c d e : Insertion) → In c os → In d os → In e os → c.slot ≡ d.slot → e.slot ≡ d.slot → precedes c d
+      ≡ true → (precedes c e ≡ true) ⊎ (precedes e d ≡ true)

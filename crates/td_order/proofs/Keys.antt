@@ -34,25 +34,37 @@ pub first_step : (r q : ℕ) (d e : DotValue) (i j s t : ℕ) (u v : Key) → Ke
 first_step r q d e i j s t u v h =
     ⊎_elim (λ a. from_step a (λ k. inl k)) (λ (b : (step r d i s ≡ step q e j t) × KeyLt u v). equal b.0 b.1) h
   where
-    from_step : StepLt (step r d i s) (step q e j t) → (StepLt (i ∷ s ∷ []) (j ∷ t ∷ []) → KeyLt ((i ∷ s ∷ []) ∷ u) ((j ∷ t ∷ []) ∷ v)) → (r < q) ⊎ ((r ≡ q) × ((dot_lt d e ≡ true) ⊎ ((d ≡ e) × KeyLt ((i ∷ s ∷ []) ∷ u) ((j ∷ t ∷ []) ∷ v))))
+    from_step : StepLt (step r d i s) (step q e j t)
+        → (StepLt (i ∷ s ∷ []) (j ∷ t ∷ []) → KeyLt ((i ∷ s ∷ []) ∷ u) ((j ∷ t ∷ []) ∷ v)) → (r < q)
+        ⊎ ((r ≡ q) × ((dot_lt d e ≡ true) ⊎ ((d ≡ e) × KeyLt ((i ∷ s ∷ []) ∷ u) ((j ∷ t ∷ []) ∷ v))))
     from_step a lift =
         ⊎_elim (λ k. inl k)
         (λ (b : (r ≡ q) × StepLt (d.site ∷ d.seq ∷ i ∷ s ∷ []) (e.site ∷ e.seq ∷ j ∷ t ∷ [])). inr (
           b.0,
           ⊎_elim (λ k. inl (dot_lt_from d e (inl k)))
               (λ (c : (d.site ≡ e.site) × StepLt (d.seq ∷ i ∷ s ∷ []) (e.seq ∷ j ∷ t ∷ [])).
-              ⊎_elim (λ k. inl (dot_lt_from d e (inr (c.0, k)))) (λ (f : (d.seq ≡ e.seq) × StepLt (i ∷ s ∷ []) (j ∷ t ∷ [])). inr ((λ x. record { site = c.0 x; seq = f.0 x }), lift f.1)) c.1)
+              ⊎_elim (λ k. inl (dot_lt_from d e (inr (c.0, k))))
+              (λ (f : (d.seq ≡ e.seq) × StepLt (i ∷ s ∷ []) (j ∷ t ∷ [])). inr
+              ((λ x. record { site = c.0 x; seq = f.0 x }), lift f.1)) c.1)
               b.1,
         ))
         a
 
-    equal : step r d i s ≡ step q e j t → KeyLt u v → (r < q) ⊎ ((r ≡ q) × ((dot_lt d e ≡ true) ⊎ ((d ≡ e) × KeyLt ((i ∷ s ∷ []) ∷ u) ((j ∷ t ∷ []) ∷ v))))
+    equal : step r d i s ≡ step q e j t → KeyLt u v → (r < q)
+        ⊎ ((r ≡ q) × ((dot_lt d e ≡ true) ⊎ ((d ≡ e) × KeyLt ((i ∷ s ∷ []) ∷ u) ((j ∷ t ∷ []) ∷ v))))
     equal e' k =
-        let rr : r ≡ q = cc in let a : d.site ≡ e.site = cc in let b : d.seq ≡ e.seq = cc in let c : i ≡ j = cc in let g : s ≡ t = cc in
+        let rr : r ≡ q = cc in let a : d.site ≡ e.site = cc in let b : d.seq ≡ e.seq = cc in let c : i ≡ j = cc in
+        let g : s ≡ t = cc in
         inr (rr, inr ((λ x. record { site = a x; seq = b x }), inr ((λ x. c x ∷ g x ∷ []), k)))
 
-pub rank_first : (r q : ℕ) (d e : DotValue) (i j s t : ℕ) (u v : Key) → r < q → KeyLt (step r d i s ∷ u) (step q e j t ∷ v)
+pub rank_first : (r q : ℕ) (d e : DotValue) (i j s t : ℕ) (u v : Key) → r < q
+    → KeyLt (step r d i s ∷ u) (step q e j t ∷ v)
 rank_first r q d e i j s t u v h = inl (inl h)
 
-pub dot_first : (r q : ℕ) (d e : DotValue) (i j s t : ℕ) (u v : Key) → r ≡ q → dot_lt d e ≡ true → KeyLt (step r d i s ∷ u) (step q e j t ∷ v)
-dot_first r q d e i j s t u v h k = inl (inr (h, ⊎_elim (λ a. inl a) (λ (b : (d.site ≡ e.site) × (d.seq < e.seq)). inr (b.0, inl b.1)) (dot_lt_true d e k)))
+pub dot_first : (r q : ℕ) (d e : DotValue) (i j s t : ℕ) (u v : Key) → r ≡ q → dot_lt d e ≡ true
+    → KeyLt (step r d i s ∷ u) (step q e j t ∷ v)
+dot_first r q d e i j s t u v h k = inl (inr (
+  h,
+  ⊎_elim (λ a. inl a)
+      (λ (b : (d.site ≡ e.site) × (d.seq < e.seq)). inr (b.0, inl b.1)) (dot_lt_true d e k),
+))

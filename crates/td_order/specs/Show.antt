@@ -1,5 +1,6 @@
 -- The text that operations make: the atoms in order, without those that a delete names.
-use Rattle.std.specs.Prelude.{ℕ, List, [], Bool, false, not, Option, filter, find, map, slice_get, unwrap_or, option_and_then}
+use Rattle.std.specs.Prelude.{ℕ, List, [], Bool, false, not, Option, filter, find, map}
+use Rattle.std.specs.Prelude.{slice_get, unwrap_or, option_and_then}
 use Rattle.std.specs.List.{concat, list_any}
 use Rattle.td_base.specs.Value.{AtomIdValue}
 use Rattle.td_op.specs.declared.body.Body.{Body}

@@ -39,17 +39,20 @@ marks (p ∷ path) = (side_number p.0, p.1) ∷ marks path
 mark_total : IsTotalOrder mark_cmp
 mark_total = then_total (on_total (λ (m : Mark). m.0) nat_cmp_total) (on_total (λ (m : Mark). m.1) id_total)
 
-pair_marks : (b c : Bit) (x y : AtomIdValue) (o : Ordering) → ordering_then (pair_cmp (b, x) (c, y)) o ≡ ordering_then (mark_cmp (side_number b, x) (side_number c, y)) o
+pair_marks : (b c : Bit) (x y : AtomIdValue) (o : Ordering) → ordering_then (pair_cmp (b, x) (c, y)) o
+    ≡ ordering_then (mark_cmp (side_number b, x) (side_number c, y)) o
 pair_marks Left Left x y o = refl
 pair_marks Left Right x y o = refl
 pair_marks Right Left x y o = refl
 pair_marks Right Right x y o = refl
 
-before_marks : (b : Bit) (x : AtomIdValue) (o : Ordering) → node_cmp b ≡ ordering_then (mark_cmp (1, nobody) (side_number b, x)) o
+before_marks : (b : Bit) (x : AtomIdValue) (o : Ordering) → node_cmp b
+    ≡ ordering_then (mark_cmp (1, nobody) (side_number b, x)) o
 before_marks Left x o = refl
 before_marks Right x o = refl
 
-after_marks : (b : Bit) (x : AtomIdValue) (o : Ordering) → ordering_reverse (node_cmp b) ≡ ordering_then (mark_cmp (side_number b, x) (1, nobody)) o
+after_marks : (b : Bit) (x : AtomIdValue) (o : Ordering) → ordering_reverse (node_cmp b)
+    ≡ ordering_then (mark_cmp (side_number b, x) (1, nobody)) o
 after_marks Left x o = refl
 after_marks Right x o = refl
 
@@ -60,7 +63,8 @@ path_marks (a ∷ p) [] = after_marks a.0 a.1 _
 path_marks (a ∷ p) (b ∷ q) = ap (ordering_then (pair_cmp a b)) (path_marks p q) ∙ pair_marks a.0 b.0 a.1 b.1 _
 
 pub path_total : IsTotalOrder path_cmp
-path_total = subst (λ (f : Pairs → Pairs → Ordering). IsTotalOrder f) (λ i p q. sym (path_marks p q) i) (on_total marks (lists_total mark_total))
+path_total = subst (λ (f : Pairs → Pairs → Ordering). IsTotalOrder f) (λ i p q. sym (path_marks p q) i)
+    (on_total marks (lists_total mark_total))
 
 -- what the order does not tell apart is one
 
@@ -106,10 +110,12 @@ same_pair_from p q e = ap (λ (r : Pair). same_pair p r) (sym (equal_pairs p q e
 
 -- a node, and what hangs below it on one side
 
-pub goes_on_from : (front : Pairs) (bit : Bit) (x : AtomIdValue) (rest : Pairs) → goes_on front bit (front ++ (bit, x) ∷ rest) ≡ true
+pub goes_on_from : (front : Pairs) (bit : Bit) (x : AtomIdValue) (rest : Pairs)
+    → goes_on front bit (front ++ (bit, x) ∷ rest) ≡ true
 goes_on_from [] bit x rest = same_bit_refl bit
 goes_on_from (q ∷ front) bit x rest =
-    and_from (same_pair q q) (goes_on front bit (front ++ (bit, x) ∷ rest)) (same_pair_refl q) (goes_on_from front bit x rest)
+    and_from (same_pair q q) (goes_on front bit (front ++ (bit, x) ∷ rest)) (same_pair_refl q)
+    (goes_on_from front bit x rest)
 
 -- the path begins with the front and one pair with the bit
 pub record GoesOn (front : Pairs) (bit : Bit) (path : Pairs) : Type 0 where
@@ -134,27 +140,34 @@ goes_on_parts (q ∷ front) bit (p ∷ path) h =
 
 pub right_after : (front : Pairs) (x : AtomIdValue) (rest : Pairs) → path_cmp front (front ++ (Right, x) ∷ rest) ≡ Less
 right_after [] x rest = refl
-right_after (q ∷ front) x rest = ap (λ (o : Ordering). ordering_then o (path_cmp front (front ++ (Right, x) ∷ rest))) (same_pairs q) ∙ right_after front x rest
+right_after (q ∷ front) x rest = ap (λ (o : Ordering). ordering_then o (path_cmp front (front ++ (Right, x) ∷ rest)))
+    (same_pairs q) ∙ right_after front x rest
 
 pub left_before : (front : Pairs) (x : AtomIdValue) (rest : Pairs) → path_cmp (front ++ (Left, x) ∷ rest) front ≡ Less
 left_before [] x rest = refl
-left_before (q ∷ front) x rest = ap (λ (o : Ordering). ordering_then o (path_cmp (front ++ (Left, x) ∷ rest) front)) (same_pairs q) ∙ left_before front x rest
+left_before (q ∷ front) x rest = ap (λ (o : Ordering). ordering_then o (path_cmp (front ++ (Left, x) ∷ rest) front))
+    (same_pairs q) ∙ left_before front x rest
 
 -- where two paths agree in one direction and in the other, their first pairs are one
-less_both_ways : (o m n : Ordering) → ordering_then o m ≡ Less → ordering_then (ordering_reverse o) n ≡ Less → (o ≡ Equal) × (m ≡ Less) × (n ≡ Less)
+less_both_ways : (o m n : Ordering) → ordering_then o m ≡ Less → ordering_then (ordering_reverse o) n ≡ Less
+    → (o ≡ Equal) × (m ≡ Less) × (n ≡ Less)
 less_both_ways Less m n h k = cc
 less_both_ways Equal m n h k = (refl, h, k)
 less_both_ways Greater m n h k = cc
 
-pub first_pairs : (a s : Pair) (m n : Ordering) → ordering_then (pair_cmp a s) m ≡ Less → ordering_then (pair_cmp s a) n ≡ Less → (pair_cmp a s ≡ Equal) × (m ≡ Less) × (n ≡ Less)
-first_pairs a s m n h k = less_both_ways (pair_cmp a s) m n h (ap (λ (o : Ordering). ordering_then o n) (sym (pair_total.antisymm s a)) ∙ k)
+pub first_pairs : (a s : Pair) (m n : Ordering) → ordering_then (pair_cmp a s) m ≡ Less
+    → ordering_then (pair_cmp s a) n ≡ Less → (pair_cmp a s ≡ Equal) × (m ≡ Less) × (n ≡ Less)
+first_pairs a s m n h k = less_both_ways (pair_cmp a s) m n h
+    (ap (λ (o : Ordering). ordering_then o n) (sym (pair_total.antisymm s a)) ∙ k)
 
-goes_on_further : (a s : Pair) (front : Pairs) (bit : Bit) (q : Pairs) → pair_cmp a s ≡ Equal → goes_on front bit q ≡ true → goes_on (a ∷ front) bit (s ∷ q) ≡ true
+goes_on_further : (a s : Pair) (front : Pairs) (bit : Bit) (q : Pairs) → pair_cmp a s ≡ Equal → goes_on front bit q
+    ≡ true → goes_on (a ∷ front) bit (s ∷ q) ≡ true
 goes_on_further a s front bit q e h =
     and_from (same_pair a s) (goes_on front bit q) (same_pair_from a s e) h
 
 -- what stands between a node and what hangs on its right hangs on its right
-pub between_right : (front q : Pairs) (x : AtomIdValue) (rest : Pairs) → path_cmp front q ≡ Less → path_cmp q (front ++ (Right, x) ∷ rest) ≡ Less → goes_on front Right q ≡ true
+pub between_right : (front q : Pairs) (x : AtomIdValue) (rest : Pairs) → path_cmp front q ≡ Less
+    → path_cmp q (front ++ (Right, x) ∷ rest) ≡ Less → goes_on front Right q ≡ true
 between_right [] [] x rest h k = cc
 between_right [] ((Left, y) ∷ q) x rest h k = cc
 between_right [] ((Right, y) ∷ q) x rest h k = refl
@@ -165,7 +178,8 @@ between_right (a ∷ front) (s ∷ q) x rest h k =
     goes_on_further a s front Right q both.0 (between_right front q x rest both.1 both.2)
 
 -- and what stands between what hangs on its left and the node hangs on its left
-pub between_left : (front q : Pairs) (x : AtomIdValue) (rest : Pairs) → path_cmp (front ++ (Left, x) ∷ rest) q ≡ Less → path_cmp q front ≡ Less → goes_on front Left q ≡ true
+pub between_left : (front q : Pairs) (x : AtomIdValue) (rest : Pairs) → path_cmp (front ++ (Left, x) ∷ rest) q ≡ Less
+    → path_cmp q front ≡ Less → goes_on front Left q ≡ true
 between_left [] [] x rest h k = cc
 between_left [] ((Left, y) ∷ q) x rest h k = refl
 between_left [] ((Right, y) ∷ q) x rest h k = cc

@@ -10,7 +10,8 @@ pub same_slot_true : (s t : Slot) → same_slot s t ≡ true → s ≡ t
 same_slot_true Root Root h = refl
 same_slot_true Root (At y c) h = absurd (true≢false (sym h))
 same_slot_true (At x b) Root h = absurd (true≢false (sym h))
-same_slot_true (At x b) (At y c) h = let p = and_parts _ _ h in let a = same_id_true x y p.0 in let d = same_bit_true b c p.1 in λ i. At (a i) (d i)
+same_slot_true (At x b) (At y c) h = let p = and_parts _ _ h in let a = same_id_true x y p.0 in
+    let d = same_bit_true b c p.1 in λ i. At (a i) (d i)
 
 pub same_slot_refl : (s t : Slot) → s ≡ t → same_slot s t ≡ true
 same_slot_refl s t e = subst (λ u. same_slot s u ≡ true) e (at s)

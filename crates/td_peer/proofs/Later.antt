@@ -1,5 +1,6 @@
 -- What holds of a peer later on.
-use Rattle.std.proofs.Common.{◌≡◌, ◌<◌, ◌≤◌, ◌++◌, ℕ, zero, suc, List, [], ◌∷◌, Bool, true, false, length, take, refl, sym, ap, ◌∙◌, subst, append_assoc, append-nil, arith}
+use Rattle.std.proofs.Common.{◌≡◌, ◌<◌, ◌≤◌, ◌++◌, ℕ, zero, suc, List, [], ◌∷◌, Bool, true, false, length}
+use Rattle.std.proofs.Common.{take, refl, sym, ap, ◌∙◌, subst, append_assoc, append-nil, arith}
 use Rattle.std.proofs.Math.Seq.{take-length}
 use Rattle.std.proofs.lemmas.List.{take-append-le}
 use mathlib.Core.List.{IsPrefix}
@@ -106,5 +107,6 @@ fresh_serves one other places lost p sent f =
       twice = λ m at again. absurd (cc again);
     })
 
-pub fresh_hears : (one other places : ℕ) (lost : Loss) (p : PeerState) → IsFresh one other places lost p → Hears [] (peer_of p)
+pub fresh_hears : (one other places : ℕ) (lost : Loss) (p : PeerState) → IsFresh one other places lost p
+    → Hears [] (peer_of p)
 fresh_hears one other places lost p f = subst (Hears []) (sym (fresh_is_new one other places lost p f)) tt

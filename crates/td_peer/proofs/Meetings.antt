@@ -1,5 +1,6 @@
 -- Rows of peers as their links end.
-use Rattle.std.proofs.Common.{◌≡◌, ◌<◌, ◌++◌, ℕ, suc, List, [], ◌∷◌, length, map, drop, refl, sym, ap, ◌∙◌, subst, append_assoc, arith}
+use Rattle.std.proofs.Common.{◌≡◌, ◌<◌, ◌++◌, ℕ, suc, List, [], ◌∷◌, length, map, drop}
+use Rattle.std.proofs.Common.{refl, sym, ap, ◌∙◌, subst, append_assoc, arith}
 use Rattle.td_meeting.specs.Rows.{MatchesFirsts, AllMatch}
 use Rattle.td_peer.specs.Peers.{PeerState, Linked, PeersMet}
 use Rattle.td_peer.specs.Meeting.{MetNext}
@@ -33,7 +34,8 @@ heads p row (q ∷ qs) rows m =
 pub heads_of : (whole row qs : List PeerState) (p : PeerState) (all rows : List (List PeerState)) → whole ≡ p ∷ row
     → all ≡ qs ∷ rows → MatchesFirsts Linked whole all → Heads p row qs rows
 heads_of whole row qs p all rows e f m =
-    heads p row qs rows (subst (λ (v : List PeerState × List (List PeerState)). MatchesFirsts Linked v.0 v.1) (λ i. (e i, f i)) m)
+    heads p row qs rows (subst (λ (v : List PeerState × List (List PeerState)). MatchesFirsts Linked v.0 v.1)
+    (λ i. (e i, f i)) m)
 
 pub met_next : (row next qs rest' : List PeerState) (p q : PeerState) (rows others left more : List (List PeerState))
     → row ≡ p ∷ next → rows ≡ qs ∷ others → qs ≡ q ∷ rest' → PeersMet p q → more ≡ left ++ rest' ∷ []

@@ -1,5 +1,7 @@
 -- Rows of peers as links are opened, from the last site to the first.
-use Rattle.std.proofs.Common.{◌≡◌, ◌≢◌, ◌<◌, ◌+◌, ◌-◌, ◌++◌, ℕ, zero, suc, List, [], ◌∷◌, length, map, drop, slice_get, Some, refl, sym, ap, ◌∙◌, subst, append_assoc, append-nil, length-append, arith}
+use Rattle.std.proofs.Common.{◌≡◌, ◌≢◌, ◌<◌, ◌+◌, ◌-◌, ◌++◌, ℕ, zero, suc, List, [], ◌∷◌, length, map, drop}
+use Rattle.std.proofs.Common.{slice_get, Some, refl, sym, ap, ◌∙◌, subst, append_assoc, append-nil, length-append}
+use Rattle.std.proofs.Common.{arith}
 use Rattle.std.specs.List.{AllByRecursion, range_with_len}
 use Rattle.std.proofs.lemmas.Option.{same_Some}
 use Rattle.std.proofs.lemmas.List.{map-append}
@@ -120,7 +122,8 @@ matches_weaker R S (x ∷ row) ([] ∷ rows) h m = absurd m
 matches_weaker R S (x ∷ row) ((y ∷ ys) ∷ rows) h m = (h x y m.0, matches_weaker R S row rows h m.1)
 
 mine_fresh : (first : ℕ) (lost : Loss) (row : List PeerState) (rows : List (List PeerState))
-    → MatchesFirsts (Paired first lost) row rows → AllByRecursion (λ (p : PeerState). IsFresh first p.site PLACES lost p) row
+    → MatchesFirsts (Paired first lost) row rows → AllByRecursion
+    (λ (p : PeerState). IsFresh first p.site PLACES lost p) row
 mine_fresh first lost [] rows m = tt
 mine_fresh first lost (p ∷ row) [] m = absurd m
 mine_fresh first lost (p ∷ row) ([] ∷ rows) m = absurd m
@@ -129,7 +132,8 @@ mine_fresh first lost (p ∷ row) ((q ∷ qs) ∷ rows) m = (m.0.mine, mine_fres
 module _ (first m : ℕ) (lost : Loss) where
   -- the row of a site behind the first, which it has something for in front now
   one_fresh : (site other : ℕ) (q : PeerState) (qs : List PeerState) → first < site → other ≡ site
-      → IsFresh other first PLACES lost q → IsFreshFrom (first + 1) m site lost qs → IsFreshFrom first (suc m) site lost (q ∷ qs)
+      → IsFresh other first PLACES lost q → IsFreshFrom (first + 1) m site lost qs
+      → IsFreshFrom first (suc m) site lost (q ∷ qs)
   one_fresh site other q qs below same f h =
       record {
         in_order = (λ i. is_first i ∷ h.in_order i) ∙ sym (first_kept first m site (differs first site below));
@@ -145,7 +149,8 @@ module _ (first m : ℕ) (lost : Loss) where
   theirs_fresh : (k : ℕ) (row : List PeerState) (theirs rows : List (List PeerState))
       → MatchesFirsts (Paired first lost) row theirs → sites row ≡ range_with_len k (length rows)
       → map (drop 1) theirs ≡ rows → first < k
-      → ((place : ℕ) (r : List PeerState) → slice_get rows place ≡ Some r → IsFreshFrom (first + 1) m (k + place) lost r)
+      → ((place : ℕ) (r : List PeerState) → slice_get rows place ≡ Some r
+      → IsFreshFrom (first + 1) m (k + place) lost r)
       → (place : ℕ) (r : List PeerState) → slice_get theirs place ≡ Some r
       → IsFreshFrom first (suc m) (k + place) lost r
   theirs_fresh k [] [] rows p s d below h place r at = absurd (cc at)
@@ -212,7 +217,8 @@ opened_more first count lost rows theirs whole row is o h =
         right a = omega arith
     fresh (suc place) r at =
         subst (λ (j : ℕ). IsFreshFrom first (suc count) j lost r) (sym (shift first place))
-        (theirs_fresh first count lost (first + 1) row theirs rows o.paired o.sites o.rests (omega arith) h.fresh place r at)
+        (theirs_fresh first count lost (first + 1) row theirs rows o.paired o.sites o.rests (omega arith) h.fresh
+        place r at)
       where
         shift : (a b : ℕ) → a + suc b ≡ a + 1 + b
         shift a b = omega arith
@@ -221,7 +227,8 @@ pub opened_none : (begin : ℕ) (lost : Loss) → Opened begin 0 lost []
 opened_none begin lost = record { all = refl; linked = tt; fresh = λ place row at. absurd (cc at) }
 
 -- the row of one more site in front
-pub opened_before : (before first n : ℕ) (lost : Loss) (rows whole : List (List PeerState)) → 0 < before → first ≡ before
+pub opened_before : (before first n : ℕ) (lost : Loss) (rows whole : List (List PeerState)) → 0 < before → first
+    ≡ before
     → before + length rows ≡ n → Opened (before + 1) (length rows) lost rows
     → (row : List PeerState) × (theirs : List (List PeerState)) × (whole ≡ row ∷ theirs)
     × OpensFirst first lost rows row theirs

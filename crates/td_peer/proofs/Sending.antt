@@ -1,5 +1,7 @@
 -- What is sent to a peer stays what is to be sent.
-use Rattle.std.proofs.Common.{◌≡◌, ◌<◌, ◌≤◌, ◌+◌, ◌-◌, ◌++◌, ℕ, suc, List, [], ◌∷◌, Bool, true, false, cond, not, ◌&&◌, nat_eq, length, slice_get, Some, None, refl, sym, ap, ◌∙◌, subst, arith, append-nil}
+use Rattle.std.proofs.Common.{◌≡◌, ◌<◌, ◌≤◌, ◌+◌, ◌-◌, ◌++◌, ℕ, suc, List, [], ◌∷◌, Bool, true, false, cond, not}
+use Rattle.std.proofs.Common.{◌&&◌, nat_eq, length, slice_get, Some, None, refl, sym, ap, ◌∙◌, subst, arith}
+use Rattle.std.proofs.Common.{append-nil}
 use Rattle.std.proofs.lemmas.Bool.Decides.{nat_tests}
 use Rattle.td_base.proofs.Elements.{In-slice_get}
 use Rattle.std.proofs.lemmas.Option.{slice_get_within}
@@ -13,7 +15,8 @@ use Rattle.td_replica.specs.Replica.{ReplicaValue, IsReplica}
 use Rattle.td_replica.proofs.Legal.{built}
 use Rattle.td_meeting.specs.Thin.{is_addressed, Loss, copies, divides}
 use Rattle.td_meeting.specs.Peers.{ArePackets, sent_to}
-use Rattle.td_meeting.proofs.Telling.{told_count, tell_other, tell_none, tell_one, tell_first, tell_second, count_other, count_next}
+use Rattle.td_meeting.proofs.Telling.{told_count, tell_other, tell_none, tell_one, tell_first}
+use Rattle.td_meeting.proofs.Telling.{tell_second, count_other, count_next}
 use Rattle.td_meeting.proofs.Hearing.{zip_append}
 use Rattle.td_meeting.proofs.Own.{sends_own}
 use Rattle.td_peer.specs.declared.parcel.Parcel.{Parcel}
@@ -57,15 +60,18 @@ copies_none p m e = ap (λ (b : Bool). cond b (copies p.loss (p.addressed + 1)) 
 counted_copies : (sent : List Message) (p : PeerState) → Serves sent p
     → copies p.loss (1 + told_count p.site p.dealt sent) ≡ copies p.loss (p.addressed + 1)
 counted_copies sent p s =
-    let e : 1 + told_count p.site p.dealt sent ≡ p.addressed + 1 = turned (told_count p.site p.dealt sent) p.addressed s.counted in
+    let e : 1 + told_count p.site p.dealt sent ≡ p.addressed + 1 =
+    turned (told_count p.site p.dealt sent) p.addressed s.counted in
     ap (copies p.loss) e
   where
     turned : (a b : ℕ) → b ≡ a → 1 + a ≡ b + 1
     turned a b h = omega (arith, h)
 
 addressed_next : (sent : List Message) (p : PeerState) (m : Message) → slice_get sent p.dealt ≡ Some m → Serves sent p
-    → (b : Bool) → is_addressed p.site m ≡ b → cond b (p.addressed + 1) p.addressed ≡ told_count p.site (suc p.dealt) sent
-addressed_next sent p m at s true e = ap (λ (k : ℕ). k + 1) s.counted ∙ sym (count_next p.loss p.site p.dealt sent m at e)
+    → (b : Bool) → is_addressed p.site m ≡ b → cond b (p.addressed + 1) p.addressed
+    ≡ told_count p.site (suc p.dealt) sent
+addressed_next sent p m at s true e = ap (λ (k : ℕ). k + 1) s.counted
+    ∙ sym (count_next p.loss p.site p.dealt sent m at e)
 addressed_next sent p m at s false e = s.counted ∙ sym (count_other p.loss p.site p.dealt sent m at e)
 
 -- when it is dealt with, and so many packets are sent
@@ -105,11 +111,14 @@ serves_passed sent p m more q at s loss number dealt again told out next =
 pub serves_skip : (sent : List Message) (p : PeerState) (m : Message) → slice_get sent p.dealt ≡ Some m → times p m ≡ 0
     → Serves sent p → Serves sent (passed m p)
 serves_skip sent p m at none s =
-    serves_passed sent p m [] (passed m p) at s refl refl refl refl (addressed_next sent p m at s (is_addressed p.site m) refl)
+    serves_passed sent p m [] (passed m p) at s refl refl refl refl
+    (addressed_next sent p m at s (is_addressed p.site m) refl)
     (sym (append-nil (packets p.outbox.sent)))
     (λ xs ps e h.
     subst (λ (v : List (List ℕ)). ArePackets (sent_to p.loss p.site (suc p.dealt) false sent) v) (sym (append-nil ps))
-    (subst (λ (l : List Message). ArePackets l ps) (e ∙ ap (λ (b : Bool). sent_to p.loss p.site p.dealt b sent) rests ∙ sym (same (is_addressed p.site m) refl)) h))
+    (subst (λ (l : List Message). ArePackets l ps)
+    (e ∙ ap (λ (b : Bool). sent_to p.loss p.site p.dealt b sent) rests ∙ sym (same (is_addressed p.site m) refl))
+    h))
   where
     rests : p.again ≡ false
     rests = false_from_ne_true p.again (λ a. let t = s.twice m at a in
@@ -128,7 +137,8 @@ serves_skip sent p m at none s =
 abbrev pub with_packet : PeerState → Parcel → PeerState
 with_packet p parcel = record p { outbox = sent_more parcel p.outbox }
 
-one_more : (p : PeerState) (parcel : Parcel) → packets (with_packet p parcel).outbox.sent ≡ packets p.outbox.sent ++ parcel.packet ∷ []
+one_more : (p : PeerState) (parcel : Parcel) → packets (with_packet p parcel).outbox.sent ≡ packets p.outbox.sent
+    ++ parcel.packet ∷ []
 one_more p parcel = packets_append p.outbox.sent (parcel ∷ [])
 
 module _ (sent : List Message) (p : PeerState) (m : Message) (parcel : Parcel) (at : slice_get sent p.dealt ≡ Some m)
@@ -147,14 +157,16 @@ module _ (sent : List Message) (p : PeerState) (m : Message) (parcel : Parcel) (
       subst (λ (l : List Message). ArePackets l (ps ++ parcel.packet ∷ [])) (sym e)
       (zip_append SpellsIn xs (m ∷ []) ps (parcel.packet ∷ []) h (spelled, tt))
 
-  serves_all : (b : Bool) → p.again ≡ b → sent_to p.loss p.site (suc p.dealt) false sent ≡ sent_to p.loss p.site p.dealt b sent ++ m ∷ []
+  serves_all : (b : Bool) → p.again ≡ b → sent_to p.loss p.site (suc p.dealt) false sent
+      ≡ sent_to p.loss p.site p.dealt b sent ++ m ∷ []
       → Serves sent (passed m (with_packet p parcel))
   serves_all b a e =
       serves_passed sent p m (parcel.packet ∷ []) (passed m (with_packet p parcel)) at s refl refl refl refl
       (addressed_next sent p m at s (is_addressed p.site m) refl) (one_more p parcel)
       (λ xs ps f h.
       extended xs (sent_to p.loss p.site (suc p.dealt) false sent) ps
-      (e ∙ ap (λ (w : List Message). w ++ m ∷ []) (sym (f ∙ ap (λ (c : Bool). sent_to p.loss p.site p.dealt c sent) a))) h)
+      (e ∙ ap (λ (w : List Message). w ++ m ∷ []) (sym
+      (f ∙ ap (λ (c : Bool). sent_to p.loss p.site p.dealt c sent) a))) h)
 
   serves_once : p.again ≡ false → times p m ≡ 2 → Serves sent (record (with_packet p parcel) { again = true })
   serves_once a two =
@@ -165,12 +177,15 @@ module _ (sent : List Message) (p : PeerState) (m : Message) (parcel : Parcel) (
           next = λ e. inside;
           packets = subst (λ (v : List (List ℕ)). ArePackets (sent_to p.loss p.site p.dealt true sent) v)
               (sym (one_more p parcel))
-              (extended (sent_to p.loss p.site p.dealt false sent) (sent_to p.loss p.site p.dealt true sent) (packets p.outbox.sent)
+              (extended (sent_to p.loss p.site p.dealt false sent) (sent_to p.loss p.site p.dealt true sent)
+              (packets p.outbox.sent)
               (tell_first p.loss p.site p.dealt sent m at for_peer)
-              (subst (λ (c : Bool). ArePackets (sent_to p.loss p.site p.dealt c sent) (packets p.outbox.sent)) a s.tells.packets));
+              (subst (λ (c : Bool). ArePackets (sent_to p.loss p.site p.dealt c sent) (packets p.outbox.sent)) a
+              s.tells.packets));
         };
         counted = s.counted;
-        twice = λ x e f. subst (λ (y : Message). (is_addressed p.site y ≡ true) × (copies p.loss (p.addressed + 1) ≡ 2)) (same m x (sym at ∙ e))
+        twice = λ x e f. subst (λ (y : Message). (is_addressed p.site y ≡ true)
+            × (copies p.loss (p.addressed + 1) ≡ 2)) (same m x (sym at ∙ e))
             (for_peer, copies_of p m for_peer ∙ two);
       }
     where
@@ -178,7 +193,8 @@ module _ (sent : List Message) (p : PeerState) (m : Message) (parcel : Parcel) (
       same a b h = cc
 
   by_case : (a t : Bool) → p.again ≡ a → nat_eq (times p m) 2 ≡ t
-      → Serves sent (cond (not a && t) (record (with_packet p parcel) { again = true }) (passed m (with_packet p parcel)))
+      → Serves sent (cond (not a && t) (record (with_packet p parcel) { again = true })
+      (passed m (with_packet p parcel)))
   by_case true t a e =
       let two = s.twice m at a in
       serves_all true a (tell_second p.loss p.site p.dealt sent m at for_peer (counted_copies sent p s ∙ two.1))
@@ -188,7 +204,8 @@ module _ (sent : List Message) (p : PeerState) (m : Message) (parcel : Parcel) (
       is_two k h = grind (arith, nat_tests)
   by_case false false a e =
       let one : copies p.loss (p.addressed + 1) ≡ 1 =
-      single (copies p.loss (p.addressed + 1)) (at_most p.loss (p.addressed + 1)) (subst (λ (k : ℕ). 0 < k) (sym (copies_of p m for_peer)) due)
+      single (copies p.loss (p.addressed + 1)) (at_most p.loss (p.addressed + 1))
+      (subst (λ (k : ℕ). 0 < k) (sym (copies_of p m for_peer)) due)
       (subst (λ (k : ℕ). nat_eq k 2 ≡ false) (sym (copies_of p m for_peer)) e) in
       serves_all false a (tell_one p.loss p.site p.dealt sent m at for_peer (counted_copies sent p s ∙ one))
     where
@@ -215,7 +232,8 @@ later_cond false p q r h k = k
 pub later_noted : (p : PeerState) (m : Message) (parcel : Parcel) → LaterPeer p (noted m (with_packet p parcel))
 later_noted p m parcel =
     later_cond (not p.again && nat_eq (times p m) 2) p (record (with_packet p parcel) { again = true })
-    (passed m (with_packet p parcel)) (of p.dealt p.addressed true) (of (p.dealt + 1) (cond (is_addressed p.site m) (p.addressed + 1) p.addressed) false)
+    (passed m (with_packet p parcel)) (of p.dealt p.addressed true)
+    (of (p.dealt + 1) (cond (is_addressed p.site m) (p.addressed + 1) p.addressed) false)
   where
     of : (d t : ℕ) (b : Bool) → LaterPeer p (record (with_packet p parcel) { dealt = d; addressed = t; again = b })
     of d t b =

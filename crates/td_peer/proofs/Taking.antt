@@ -1,5 +1,6 @@
 -- A packet taken from a link, and two links settled.
-use Rattle.std.proofs.Common.{◌≡◌, ◌++◌, ℕ, List, [], ◌∷◌, false, Option, Some, None, MatchOption, refl, sym, ap, ◌∙◌, subst, append-nil}
+use Rattle.std.proofs.Common.{◌≡◌, ◌++◌, ℕ, List, [], ◌∷◌, false, Option, Some, None}
+use Rattle.std.proofs.Common.{MatchOption, refl, sym, ap, ◌∙◌, subst, append-nil}
 use Rattle.std.specs.Option.{option_to_list, is_some}
 use mathlib.Core.List.{IsPrefix}
 use Rattle.td_op.specs.declared.message.Message.{Message}
@@ -55,11 +56,13 @@ later_taken p inbox (Some m) h =
     }
 
 pub hears_taken : (entries : History) (number : ℕ) (old new : RxValue Parcel ℕ) (waiting found : Option Message)
-    → waiting ≡ None → Took old new found → ArePackets (takes_from number entries ++ option_to_list waiting) (packets old.taken)
+    → waiting ≡ None → Took old new found → ArePackets (takes_from number entries ++ option_to_list waiting)
+    (packets old.taken)
     → ArePackets (takes_from number entries ++ option_to_list found) (packets new.taken)
 hears_taken entries number old new waiting None none h k =
     let w : ArePackets (takes_from number entries ++ []) (packets old.taken) =
-    subst (λ (o : Option Message). ArePackets (takes_from number entries ++ option_to_list o) (packets old.taken)) none k in
+    subst (λ (o : Option Message). ArePackets (takes_from number entries ++ option_to_list o) (packets old.taken))
+    none k in
     subst (λ (x : RxValue Parcel ℕ). ArePackets (takes_from number entries ++ []) (packets x.taken)) (sym h.0) w
 hears_taken entries number old new waiting (Some m) none h k =
     let ts = takes_from number entries in

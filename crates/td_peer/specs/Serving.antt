@@ -1,5 +1,6 @@
 -- How what is kept for another worker stands to the messages of the own replica, and what may become of it.
-use Rattle.std.specs.Prelude.{◌≡◌, ◌⊎◌, ◌+◌, ℕ, true, List, ◌∷◌, [], ◌++◌, length, take, Some, None, MatchOption, slice_get, if◌then◌else◌, false, not, ◌&&◌, ◌==◌}
+use Rattle.std.specs.Prelude.{◌≡◌, ◌⊎◌, ◌+◌, ℕ, true, List, ◌∷◌, [], ◌++◌, length, take, Some, None}
+use Rattle.std.specs.Prelude.{MatchOption, slice_get, if◌then◌else◌, false, not, ◌&&◌, ◌==◌}
 use mathlib.Core.List.{IsPrefix}
 use Rattle.td_op.specs.declared.message.Message.{Message}
 use Rattle.td_wire.specs.Spelling.{SpellsIn}

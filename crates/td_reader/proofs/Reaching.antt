@@ -86,7 +86,8 @@ at_history r lines site h is room reached =
     let v : TraceValue = h.value in
     let fewer : length v.histories < v.sites = omega (arith, h.site, h.sites) in
     let none = h.first fewer in
-    let still : r.is_ended ≡ false = false_from_ne_true r.is_ended (λ (e : r.is_ended ≡ true). let full : length v.histories ≡
+    let still : r.is_ended ≡ false = false_from_ne_true r.is_ended
+    (λ (e : r.is_ended ≡ true). let full : length v.histories ≡
     v.sites = (h.ended e).0 in absurd (omega arith)) in
     let one_more : length (v.histories ++ [] ∷ []) ≡ length v.histories + 1 = length-append v.histories ([] ∷ []) in
     let number : site ≡ 1 + length v.histories = omega (arith, h.site) in
@@ -149,7 +150,8 @@ at_entry r lines number e h small fits is some no_logs no_texts reached =
       few_logs = h.few_logs;
       utf8 = h.utf8;
       said = more_said r v (with_entry v e) lines (EntryIs number e) still h.said
-          (open_entry v number e (nil_from_length v.logs (omega (arith, h.editors))) (nil_from_length v.texts (omega (arith, h.texts)))
+          (open_entry v number e (nil_from_length v.logs (omega (arith, h.editors)))
+          (nil_from_length v.texts (omega (arith, h.texts)))
           (last_weaker (λ x. r.entries ≡ length x) (λ x. number ≡ 1 + length x)
           (λ x (l : r.entries ≡ length x). omega arith) v.histories last));
       reached = reached;

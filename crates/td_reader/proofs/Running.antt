@@ -221,7 +221,8 @@ begins_early r lines h still early =
     (ap (λ (s : List TraceLine). SitesAre v.sites ∷ s)
     ((λ i. numbered_behind history_said 1 v.histories (replicate m no_entries) i
     ++ (numbered log_said 1 v.logs ++ (numbered_behind text_said 1 v.texts (replicate k no_text) i ++ Ended ∷ [])))
-    ∙ front_split a b (numbered log_said 1 v.logs) c d (Ended ∷ []) (ap (numbered log_said 1) (nil_from_length v.logs none.0))
+    ∙ front_split a b (numbered log_said 1 v.logs) c d (Ended ∷ [])
+    (ap (numbered log_said 1) (nil_from_length v.logs none.0))
     (ap (numbered text_said 1) (nil_from_length v.texts none.1)))
     ∙ ap (λ (s : List TraceLine). s ++ (b ++ (d ++ Ended ∷ []))) (sym (h.said ∙ ap (opening v) still)))
 

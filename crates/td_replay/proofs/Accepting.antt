@@ -1,5 +1,6 @@
 -- A trace is accepted at the end of its replay exactly where it is that of a live family.
-use Rattle.std.proofs.Common.{◌≡◌, ◌↔◌, ◌<◌, ◌≤◌, ◌+◌, ◌-◌, List, [], ◌∷◌, ℕ, suc, Bool, true, false, if◌then◌else◌, nat_eq, length, get_or, Some, refl, sym, ap, ◌∙◌, subst, arith}
+use Rattle.std.proofs.Common.{◌≡◌, ◌↔◌, ◌<◌, ◌≤◌, ◌+◌, ◌-◌, List, [], ◌∷◌, ℕ, suc, Bool, true, false}
+use Rattle.std.proofs.Common.{if◌then◌else◌, nat_eq, length, get_or, Some, refl, sym, ap, ◌∙◌, subst, arith}
 use Rattle.std.proofs.lemmas.Bool.{eqb-true, eqb-false}
 use Rattle.std.proofs.lemmas.List.{length-map}
 use Rattle.td_base.proofs.Lists.{all_in, all_of}

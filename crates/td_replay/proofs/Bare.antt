@@ -1,5 +1,7 @@
 -- A machine in which nothing waits: what each step of the replay is for it.
-use Rattle.std.proofs.Common.{◌≡◌, ◌≢◌, ◌⊎◌, ◌<◌, ◌≤◌, ◌||◌, ◌&&◌, List, [], ℕ, Bool, true, false, not, if◌then◌else◌, nat_eq, nat_lt, length, filter, Option, Some, None, refl, sym, ap, ◌∙◌, inr, true≢false, arith}
+use Rattle.std.proofs.Common.{◌≡◌, ◌≢◌, ◌⊎◌, ◌<◌, ◌≤◌, ◌||◌, ◌&&◌, List, [], ℕ, Bool, true, false}
+use Rattle.std.proofs.Common.{not, if◌then◌else◌, nat_eq, nat_lt, length, filter, Option, Some, None}
+use Rattle.std.proofs.Common.{refl, sym, ap, ◌∙◌, inr, true≢false, arith}
 use Rattle.std.proofs.lemmas.Bool.{eqb-true, eq-eqb, ltb-true, and_parts, not-true, false_from_ne_true}
 use Rattle.td_base.specs.Value.{DotValue}
 use Rattle.td_base.specs.Equality.{same_dot}

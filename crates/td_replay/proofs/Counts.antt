@@ -1,5 +1,7 @@
 -- Counting along the entries of a site.
-use Rattle.std.proofs.Common.{◌≡◌, ◌<◌, ◌≤◌, ◌+◌, ◌-◌, ◌++◌, List, [], ◌∷◌, ℕ, zero, suc, Bool, true, false, if◌then◌else◌, nat_eq, nat_le, get_or, set, length, Option, Some, None, option_and_then, All, refl, ap, ◌∙◌, arith}
+use Rattle.std.proofs.Common.{◌≡◌, ◌<◌, ◌≤◌, ◌+◌, ◌-◌, ◌++◌, List, [], ◌∷◌, ℕ, zero, suc, Bool, true}
+use Rattle.std.proofs.Common.{false, if◌then◌else◌, nat_eq, nat_le, get_or, set, length, Option, Some}
+use Rattle.std.proofs.Common.{None, option_and_then, All, refl, ap, ◌∙◌, arith}
 use Rattle.std.specs.List.{list_all}
 use Rattle.std.proofs.lemmas.Bool.{leb-true, le-leb, false_from_ne_true}
 use Rattle.std.proofs.lemmas.Option.{same_Some}
@@ -9,7 +11,8 @@ use Rattle.td_base.specs.Value.{DotValue}
 use Rattle.td_base.specs.declared.dot.TheConstants.{MAX_SEQ}
 use Rattle.td_clock.specs.Vector.{IsVector, vector_get, vector_set, vector_bump}
 use Rattle.td_trace.specs.declared.entry.TraceEntry.{TraceEntry}
-use Rattle.td_replay.specs.Counting.{Count, count_entry, makes, raised, with_use, used, no_count, deps_from, in_vector, made_deps}
+use Rattle.td_replay.specs.Counting.{Count, count_entry, makes, raised, with_use, used}
+use Rattle.td_replay.specs.Counting.{no_count, deps_from, in_vector, made_deps}
 use Rattle.td_replay.specs.Traced.{site_entries}
 use Rattle.td_op.specs.declared.reply.Reply.{Reply}
 use Rattle.td_op.specs.declared.reply.Reply.TheVariants.{Made, Cancelled}

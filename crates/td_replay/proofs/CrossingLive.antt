@@ -1,5 +1,6 @@
 -- The worked example that no order in time gives is the trace of a live family.
-use Rattle.std.proofs.Common.{◌≡◌, ◌<◌, ◌≤◌, ◌-◌, ℕ, zero, suc, List, [], ◌∷◌, true, codes, refl, sym, ◌∙◌, true≢false, arith}
+use Rattle.std.proofs.Common.{◌≡◌, ◌<◌, ◌≤◌, ◌-◌, ℕ, zero, suc, List, [], ◌∷◌, true}
+use Rattle.std.proofs.Common.{codes, refl, sym, ◌∙◌, true≢false, arith}
 use Rattle.std.specs.Prelude.{Some, slice_get}
 use Rattle.td_doc.specs.Document.{text_of}
 use Rattle.td_machine.specs.Machine.{undecided}
@@ -13,7 +14,8 @@ use Rattle.td_replay.specs.Accepted.{IsLiveTrace, AreTextsOnTheWay, IsAcceptedAt
 use Rattle.td_replay.specs.Stage.{after_sites}
 use Rattle.td_replay.specs.Examples.{crossing, crossing_sites, crossing_logs, crossing_texts}
 use Rattle.td_replay.proofs.Staged.{reaches_sites, leads_then}
-use Rattle.td_replay.proofs.Crossing.{at_three, crossing_entries, crossing_goes, crossing_reaches, crossing_over, crossing_votes}
+use Rattle.td_replay.proofs.Crossing.{at_three, crossing_entries, crossing_goes}
+use Rattle.td_replay.proofs.Crossing.{crossing_reaches, crossing_over, crossing_votes}
 use Rattle.td_replay.proofs.Accepting.{texts_there, accepted_is_live}
 
 abbrev last : States

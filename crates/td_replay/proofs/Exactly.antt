@@ -1,5 +1,6 @@
 -- Lines can be replayed to the end exactly where they are those of a consistent family.
-use Rattle.std.proofs.Common.{◌≡◌, ◌≢◌, ◌↔◌, ◌<◌, ◌≤◌, ◌+◌, ◌-◌, List, ℕ, zero, suc, Bool, true, false, if◌then◌else◌, nat_eq, length, refl, sym, ap, subst, ⊎_elim, arith}
+use Rattle.std.proofs.Common.{◌≡◌, ◌≢◌, ◌↔◌, ◌<◌, ◌≤◌, ◌+◌, ◌-◌, List, ℕ, zero, suc, Bool, true, false}
+use Rattle.std.proofs.Common.{if◌then◌else◌, nat_eq, length, refl, sym, ap, subst, ⊎_elim, arith}
 use Rattle.std.proofs.lemmas.Bool.{eqb-true, eqb-false, ne_eqb}
 use Rattle.td_base.specs.Lists.{In}
 use Rattle.td_base.specs.declared.site.TheConstants.{MAX_SITE}

@@ -1,5 +1,7 @@
 -- The replay of what is told of a consistent family goes on to the end, in whatever order the sites are taken.
-use Rattle.std.proofs.Common.{◌≡◌, ◌≢◌, ◌<◌, ◌≤◌, ◌-◌, ◌++◌, ◌||◌, List, [], ◌∷◌, ℕ, Bool, true, false, not, if◌then◌else◌, nat_eq, nat_lt, length, filter, Option, Some, None, refl, sym, ap, ◌∙◌, subst, true≢false}
+use Rattle.std.proofs.Common.{◌≡◌, ◌≢◌, ◌<◌, ◌≤◌, ◌-◌, ◌++◌, ◌||◌, List, [], ◌∷◌, ℕ, Bool, true}
+use Rattle.std.proofs.Common.{false, not, if◌then◌else◌, nat_eq, nat_lt, length, filter, Option}
+use Rattle.std.proofs.Common.{Some, None, refl, sym, ap, ◌∙◌, subst, true≢false}
 use Rattle.std.proofs.lemmas.Bool.{eq-eqb, ne_eqb}
 use Rattle.std.proofs.lemmas.List.{length-map}
 use Rattle.td_base.specs.Value.{DotValue}
@@ -15,7 +17,8 @@ use Rattle.td_op.specs.declared.message.Message.TheVariants.{Op as AnOp, Vote as
 use Rattle.td_op.specs.declared.request.Request.{Request}
 use Rattle.td_op.specs.declared.vote.Vote.{Vote}
 use Rattle.td_op.specs.declared.reply.Reply.{Reply}
-use Rattle.td_op.specs.declared.reply.Reply.TheVariants.{Made, Cancelled, Held, Position, Gone, Limit, NotOpen, New, Later, Repeat, Unfit, Taken, Dropped, Idle}
+use Rattle.td_op.specs.declared.reply.Reply.TheVariants.{Made, Cancelled, Held, Position, Gone, Limit, NotOpen, New}
+use Rattle.td_op.specs.declared.reply.Reply.TheVariants.{Later, Repeat, Unfit, Taken, Dropped, Idle}
 use Rattle.td_op.specs.declared.reply.Why.{Why}
 use Rattle.td_op.specs.declared.reply.Why.TheVariants.{Size, Own}
 use Rattle.td_op.specs.Op.{OpValue}
@@ -25,7 +28,8 @@ use Rattle.td_machine.specs.Ready.{is_dot_of, next_ready, is_ready, is_had, wait
 use Rattle.td_machine.specs.Machine.{Machine, start, made}
 use Rattle.td_machine.specs.Taking.{Stepped, stepped, misfit, take, forget, waited, next_of, fit_step, keep_waiting}
 use Rattle.td_machine.specs.Step.{step}
-use Rattle.td_machine.specs.History.{History, Family, IsReached, IsLegalFrom, IsConsistent, IsOpOf, MayCome, after, history, machine, machine_after, log_of}
+use Rattle.td_machine.specs.History.{History, Family, IsReached, IsLegalFrom, IsConsistent, IsOpOf}
+use Rattle.td_machine.specs.History.{MayCome, after, history, machine, machine_after, log_of}
 use Rattle.td_machine.proofs.StepKinds.{least_in}
 use Rattle.td_machine.proofs.Walk.{offered}
 use Rattle.td_machine.proofs.Induction.{built_at, reached_at, log_grows, the_end}
@@ -40,9 +44,11 @@ use Rattle.td_trace.specs.declared.entry.TraceEntry.{TraceEntry}
 use Rattle.td_trace.specs.declared.told_input.ToldInput.{ToldInput}
 use Rattle.td_trace.specs.declared.told_input.ToldInput.TheVariants.{TookOp}
 use Rattle.td_replay.specs.Counting.{made_deps}
-use Rattle.td_replay.specs.Judging.{States, begin, made_op, Lost, Waits, Steps, take_waiting, use_of, judge_offer, judge_taken, judge_next, judge}
+use Rattle.td_replay.specs.Judging.{States, begin, made_op, Lost, Waits, Steps, take_waiting, use_of}
+use Rattle.td_replay.specs.Judging.{judge_offer, judge_taken, judge_next, judge}
 use Rattle.td_replay.specs.Replies.{is_new, taken_of, NotUnfit}
-use Rattle.td_replay.proofs.Outlined.{outlined_step, local_outlined, vote_outlined, new_outlined, known_outlined, IsResumed, resumed_here, resumed_outlined, idle_outlined}
+use Rattle.td_replay.proofs.Outlined.{outlined_step, local_outlined, vote_outlined, new_outlined, known_outlined}
+use Rattle.td_replay.proofs.Outlined.{IsResumed, resumed_here, resumed_outlined, idle_outlined}
 use Rattle.td_replay.proofs.Matching.{take_parts}
 use Rattle.td_replay.proofs.Made.{made_deps_of}
 use Rattle.td_replay.proofs.Telling.{entries_there}

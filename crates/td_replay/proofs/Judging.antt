@@ -1,5 +1,6 @@
 -- What an entry that is done came to.
-use Rattle.std.proofs.Common.{◌≡◌, ◌≢◌, ◌<◌, ◌≤◌, ◌-◌, ◌||◌, List, [], ◌∷◌, ℕ, Bool, true, false, not, if◌then◌else◌, nat_eq, nat_le, length, Option, Some, None, option_and_then, refl, sym, ap, ◌∙◌, arith}
+use Rattle.std.proofs.Common.{◌≡◌, ◌≢◌, ◌<◌, ◌≤◌, ◌-◌, ◌||◌, List, [], ◌∷◌, ℕ, Bool, true, false, not, if◌then◌else◌}
+use Rattle.std.proofs.Common.{nat_eq, nat_le, length, Option, Some, None, option_and_then, refl, sym, ap, ◌∙◌, arith}
 use Rattle.std.proofs.lemmas.List.{get_or_past}
 use Rattle.std.proofs.lemmas.Bool.{eqb-true, eqb-false, leb-true, leb-false}
 use Rattle.td_base.specs.Value.{DotValue}
@@ -14,7 +15,8 @@ use Rattle.td_machine.specs.Step.{step}
 use Rattle.td_trace.specs.declared.entry.TraceEntry.{TraceEntry}
 use Rattle.td_trace.specs.declared.told_input.ToldInput.TheVariants.{TookOp, TookVote, Went}
 use Rattle.td_replay.specs.Counting.{deps_from, no_count, in_vector, made_deps}
-use Rattle.td_replay.specs.Judging.{outline, States, made_op, Lost, Waits, Steps, take_waiting, judge_offer, judge_taken, judge_next, judge}
+use Rattle.td_replay.specs.Judging.{outline, States, made_op, Lost, Waits, Steps, take_waiting}
+use Rattle.td_replay.specs.Judging.{judge_offer, judge_taken, judge_next, judge}
 use Rattle.td_replay.specs.Replies.{is_new, taken_of}
 use Rattle.td_replay.specs.Traced.{site_entries}
 

@@ -1,5 +1,7 @@
 -- What is counted from the entries of a site is what its machine has.
-use Rattle.std.proofs.Common.{◌≡◌, ◌≢◌, ◌<◌, ◌≤◌, ◌+◌, ◌-◌, ◌||◌, ◌&&◌, List, ◌∷◌, ℕ, suc, Bool, true, false, not, if◌then◌else◌, nat_eq, length, filter, Option, Some, None, refl, sym, ap, ◌∙◌, subst, true≢false, arith}
+use Rattle.std.proofs.Common.{◌≡◌, ◌≢◌, ◌<◌, ◌≤◌, ◌+◌, ◌-◌, ◌||◌, ◌&&◌, List, ◌∷◌, ℕ, suc, Bool, true}
+use Rattle.std.proofs.Common.{false, not, if◌then◌else◌, nat_eq, length, filter, Option, Some, None}
+use Rattle.std.proofs.Common.{refl, sym, ap, ◌∙◌, subst, true≢false, arith}
 use Rattle.std.proofs.lemmas.Bool.{eqb-true, leb-true, false_from_ne_true}
 use Rattle.std.proofs.lemmas.List.{length-set}
 use Rattle.std.specs.List.{list_any, find}
@@ -11,19 +13,22 @@ use Rattle.td_base.proofs.Equals.{same_dot_true}
 use Rattle.td_clock.specs.Vector.{vector_get, vector_bump}
 use Rattle.td_path.specs.declared.slot.Slot.{Slot}
 use Rattle.td_op.specs.declared.body.Body.{Body}
-use Rattle.td_op.specs.declared.body.Body.TheVariants.{Insert as InsertIn, Delete as DeleteOf, Propose as ProposeOf, Commit, Abort}
+use Rattle.td_op.specs.declared.body.Body.TheVariants.{Insert as InsertIn, Delete as DeleteOf}
+use Rattle.td_op.specs.declared.body.Body.TheVariants.{Propose as ProposeOf, Commit, Abort}
 use Rattle.td_op.specs.declared.input.Input.{Input}
 use Rattle.td_op.specs.declared.input.Input.TheVariants.{Take}
 use Rattle.td_op.specs.declared.message.Message.TheVariants.{Op as AnOp}
 use Rattle.td_op.specs.declared.request.Request.{Request}
 use Rattle.td_op.specs.declared.vote.Vote.{Vote}
 use Rattle.td_op.specs.declared.reply.Reply.{Reply}
-use Rattle.td_op.specs.declared.reply.Reply.TheVariants.{Made, Cancelled, Held, Position, Gone, Limit, NotOpen, New, Later, Repeat, Unfit, Taken, Dropped, Idle}
+use Rattle.td_op.specs.declared.reply.Reply.TheVariants.{Made, Cancelled, Held, Position, Gone, Limit, NotOpen, New}
+use Rattle.td_op.specs.declared.reply.Reply.TheVariants.{Later, Repeat, Unfit, Taken, Dropped, Idle}
 use Rattle.td_op.specs.Op.{OpValue}
 use Rattle.td_op.specs.Input.{IsInput}
 use Rattle.td_op.specs.Message.{IsOpValue}
 use Rattle.td_machine.specs.Log.{proposed}
-use Rattle.td_machine.specs.Decision.{Ballot, is_on, is_open, is_counted, counted as counted_vote, outcome, new_ballot, revise}
+use Rattle.td_machine.specs.Decision.{Ballot, is_on, is_open, is_counted}
+use Rattle.td_machine.specs.Decision.{counted as counted_vote, outcome, new_ballot, revise}
 use Rattle.td_machine.specs.Machine.{Machine, start, made, next_dot}
 use Rattle.td_machine.specs.Making.{done, make, decide, hold, open_ballot, ballots_after}
 use Rattle.td_machine.specs.Taking.{Stepped, stepped, take, take_as, answer, vote_on, keep_waiting, count, forget}

@@ -1,5 +1,6 @@
 -- A machine of which what waits is known by dots and dependencies alone steps as the machine does.
-use Rattle.std.proofs.Common.{◌≡◌, ◌||◌, List, [], ◌∷◌, ℕ, Bool, true, false, not, if◌then◌else◌, nat_eq, nat_lt, length, filter, map, Option, Some, None, refl, sym, ap, ◌∙◌, true≢false}
+use Rattle.std.proofs.Common.{◌≡◌, ◌||◌, List, [], ◌∷◌, ℕ, Bool, true, false, not, if◌then◌else◌, nat_eq, nat_lt}
+use Rattle.std.proofs.Common.{length, filter, map, Option, Some, None, refl, sym, ap, ◌∙◌, true≢false}
 use Rattle.std.specs.List.{find}
 use Rattle.std.specs.Option.{option_map}
 use Rattle.td_base.specs.Value.{DotValue, AtomIdValue}
@@ -10,25 +11,30 @@ use Rattle.td_clock.specs.Vector.{vector_get}
 use Rattle.td_path.specs.declared.slot.Slot.{Slot}
 use Rattle.td_path.specs.declared.slot.Slot.TheVariants.{Root, At}
 use Rattle.td_op.specs.declared.body.Body.{Body}
-use Rattle.td_op.specs.declared.body.Body.TheVariants.{Insert as InsertIn, Delete as DeleteOf, Propose as ProposeOf, Commit, Abort}
+use Rattle.td_op.specs.declared.body.Body.TheVariants.{Insert as InsertIn, Delete as DeleteOf}
+use Rattle.td_op.specs.declared.body.Body.TheVariants.{Propose as ProposeOf, Commit, Abort}
 use Rattle.td_op.specs.declared.input.Input.{Input}
 use Rattle.td_op.specs.declared.input.Input.TheVariants.{Local, Take, Next}
 use Rattle.td_op.specs.declared.message.Message.TheVariants.{Op as AnOp, Vote as AVote}
 use Rattle.td_op.specs.declared.request.Request.{Request}
-use Rattle.td_op.specs.declared.request.Request.TheVariants.{Insert, InsertAfter, Paste, PasteAfter, Delete, DeleteAtom, Propose, ProposeAt, Cancel}
+use Rattle.td_op.specs.declared.request.Request.TheVariants.{Insert, InsertAfter, Paste, PasteAfter, Delete}
+use Rattle.td_op.specs.declared.request.Request.TheVariants.{DeleteAtom, Propose, ProposeAt, Cancel}
 use Rattle.td_op.specs.declared.vote.Vote.{Vote}
 use Rattle.td_op.specs.declared.reply.Reply.TheVariants.{Made, Cancelled, Limit, New, Later, Repeat, Unfit, Taken, Idle}
 use Rattle.td_op.specs.declared.reply.Why.{Why}
 use Rattle.td_op.specs.declared.reply.Why.TheVariants.{Size, Own, Address}
 use Rattle.td_op.specs.Op.{OpValue}
 use Rattle.td_doc.specs.Document.{live_id_at}
-use Rattle.td_machine.specs.Ready.{is_had, is_ready, smaller_op, least_op, next_ready, is_dot_of, waits, put_waiting, without}
+use Rattle.td_machine.specs.Ready.{is_had, is_ready, smaller_op, least_op, next_ready}
+use Rattle.td_machine.specs.Ready.{is_dot_of, waits, put_waiting, without}
 use Rattle.td_machine.specs.Log.{proposed}
 use Rattle.td_machine.specs.Decision.{Ballot, is_on, is_counted, counted, outcome, new_ballot, revise}
 use Rattle.td_machine.specs.Machine.{Machine, made, undecided, next_dot}
 use Rattle.td_machine.specs.Making.{done, make, decide, hold, open_ballot}
-use Rattle.td_machine.specs.Taking.{Stepped, stepped, misfit, body_misfit, take, take_as, answer, vote_on, keep_waiting, fit_step, count, ballot_step, forget, waited, next_of}
-use Rattle.td_machine.specs.Request.{Aim, Attempt, Refuse, Do, GiveUp, aim, aim_step, attempt_step, is_past_limit, perform, live_aim, delete_aim, propose_aim}
+use Rattle.td_machine.specs.Taking.{Stepped, stepped, misfit, body_misfit, take, take_as, answer, vote_on}
+use Rattle.td_machine.specs.Taking.{keep_waiting, fit_step, count, ballot_step, forget, waited, next_of}
+use Rattle.td_machine.specs.Request.{Aim, Attempt, Refuse, Do, GiveUp, aim, aim_step, attempt_step}
+use Rattle.td_machine.specs.Request.{is_past_limit, perform, live_aim, delete_aim, propose_aim}
 use Rattle.td_machine.specs.Step.{step}
 use Rattle.td_replay.specs.Judging.{outline_of, take_waiting, take_waiting_as}
 use Rattle.td_replay.specs.Replies.{is_new, NotUnfit}

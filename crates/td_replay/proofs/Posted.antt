@@ -1,11 +1,13 @@
 -- What a site made, it sent.
-use Rattle.std.proofs.Common.{◌≡◌, ◌≢◌, List, [], ◌∷◌, Bool, true, false, Option, Some, None, refl, sym, ap, ◌∙◌, subst, inl, inr}
+use Rattle.std.proofs.Common.{◌≡◌, ◌≢◌, List, [], ◌∷◌, Bool, true, false, Option, Some}
+use Rattle.std.proofs.Common.{None, refl, sym, ap, ◌∙◌, subst, inl, inr}
 use Rattle.td_base.specs.Value.{DotValue}
 use Rattle.td_base.specs.Lists.{In}
 use Rattle.td_base.proofs.Lists.{In-front, In-back}
 use Rattle.td_path.specs.declared.slot.Slot.{Slot}
 use Rattle.td_op.specs.declared.body.Body.{Body}
-use Rattle.td_op.specs.declared.body.Body.TheVariants.{Insert as InsertIn, Delete as DeleteOf, Propose as ProposeOf, Commit, Abort}
+use Rattle.td_op.specs.declared.body.Body.TheVariants.{Insert as InsertIn, Delete as DeleteOf}
+use Rattle.td_op.specs.declared.body.Body.TheVariants.{Propose as ProposeOf, Commit, Abort}
 use Rattle.td_op.specs.declared.message.Message.{Message}
 use Rattle.td_op.specs.declared.message.Message.TheVariants.{Op as AnOp}
 use Rattle.td_op.specs.Op.{OpValue}

@@ -1,6 +1,8 @@
 -- The replay never stops: as long as an entry is left, the next entry of some site can be done. For what a site waits
 -- for was made with all that its maker had used, so what that maker waits for in its turn has the smaller sum.
-use Rattle.std.proofs.Common.{◌≡◌, ◌≢◌, ◌⊎◌, ◌<◌, ◌≤◌, ◌++◌, List, [], ◌∷◌, ℕ, zero, suc, Bool, true, false, if◌then◌else◌, nat_eq, length, None, refl, sym, ap, ◌∙◌, subst, inl, inr, ⊎_elim, append_assoc, append-nil, arith}
+use Rattle.std.proofs.Common.{◌≡◌, ◌≢◌, ◌⊎◌, ◌<◌, ◌≤◌, ◌++◌, List, [], ◌∷◌, ℕ, zero, suc, Bool, true}
+use Rattle.std.proofs.Common.{false, if◌then◌else◌, nat_eq, length, None, refl, sym, ap, ◌∙◌, subst}
+use Rattle.std.proofs.Common.{inl, inr, ⊎_elim, append_assoc, append-nil, arith}
 use Rattle.std.proofs.lemmas.Bool.{eqb-true, eqb-false}
 use Rattle.td_base.specs.Lists.{In}
 use Rattle.td_base.proofs.Lists.{In-append, In-back}
@@ -22,7 +24,8 @@ use Rattle.td_trace.specs.declared.entry.TraceEntry.{TraceEntry}
 use Rattle.td_replay.specs.Judging.{States, made_op, Steps, judge}
 use Rattle.td_replay.specs.Replay.{put, Goes, Reaches, Begun, Then, AllDone}
 use Rattle.td_replay.proofs.Outlined.{outlined_step}
-use Rattle.td_replay.proofs.Going.{Follows, many, follows_begin, Waiting, Looked, Ready, Blocked, look, fit, reply_is, not_yet}
+use Rattle.td_replay.proofs.Going.{Follows, many, follows_begin, Waiting, Looked, Ready}
+use Rattle.td_replay.proofs.Going.{Blocked, look, fit, reply_is, not_yet}
 use Rattle.td_replay.specs.Ended.{IsBehind, outlined}
 use Rattle.td_replay.proofs.Judging.{same_steps, waits_steps}
 

@@ -1,5 +1,6 @@
 -- Rounds are a replay, and in a consistent family no entry stops them.
-use Rattle.std.proofs.Common.{◌≡◌, ◌≢◌, ◌<◌, ◌≤◌, ◌++◌, List, [], ◌∷◌, ℕ, Bool, true, false, nat_eq, length, refl, sym, ap, ◌∙◌, subst, ⊎_elim, true≢false, arith}
+use Rattle.std.proofs.Common.{◌≡◌, ◌≢◌, ◌<◌, ◌≤◌, ◌++◌, List, [], ◌∷◌, ℕ, Bool, true, false, nat_eq}
+use Rattle.std.proofs.Common.{length, refl, sym, ap, ◌∙◌, subst, ⊎_elim, true≢false, arith}
 use Rattle.std.proofs.lemmas.Bool.{eqb-true, eqb-false}
 use Rattle.td_machine.specs.Machine.{Machine}
 use Rattle.td_machine.specs.Taking.{Stepped}
@@ -11,7 +12,8 @@ use Rattle.td_trace.specs.declared.entry.TraceEntry.{TraceEntry}
 use Rattle.td_replay.specs.Judging.{States, Judgement, Lost, Waits, Steps, judge}
 use Rattle.td_replay.specs.Replay.{Goes, Reaches, Begun, Then, AllDone}
 use Rattle.td_replay.specs.Replies.{NotUnfit}
-use Rattle.td_replay.specs.Rounds.{GoesAt, Rests, Done, Waiting as WaitsHere, Course, Starts, Does, Passes, Repeats, IsLostAt, IsWrongAt, IsStuck}
+use Rattle.td_replay.specs.Rounds.{GoesAt, Rests, Done, Waiting as WaitsHere, Course, Starts, Does}
+use Rattle.td_replay.specs.Rounds.{Passes, Repeats, IsLostAt, IsWrongAt, IsStuck}
 use Rattle.td_replay.proofs.Going.{Follows, Looked, Ready, Blocked, look}
 use Rattle.td_replay.proofs.Progress.{Can, can_go, reached_follows, never_stops}
 use Rattle.td_replay.specs.Ended.{IsBehind, outlined}

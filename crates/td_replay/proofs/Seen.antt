@@ -1,5 +1,7 @@
 -- What is known of a site in the replay from its entries alone.
-use Rattle.std.proofs.Common.{◌≡◌, ◌≢◌, ◌<◌, ◌≤◌, ◌-◌, ◌++◌, List, [], ◌∷◌, ℕ, Bool, true, false, not, if◌then◌else◌, nat_eq, nat_le, length, filter, Some, None, refl, sym, ap, ◌∙◌, subst, inl, ⊎_elim, append_assoc, arith}
+use Rattle.std.proofs.Common.{◌≡◌, ◌≢◌, ◌<◌, ◌≤◌, ◌-◌, ◌++◌, List, [], ◌∷◌, ℕ, Bool, true, false, not}
+use Rattle.std.proofs.Common.{if◌then◌else◌, nat_eq, nat_le, length, filter, Some, None, refl, sym, ap}
+use Rattle.std.proofs.Common.{◌∙◌, subst, inl, ⊎_elim, append_assoc, arith}
 use Rattle.std.proofs.lemmas.Option.{same_Some}
 use Rattle.std.proofs.lemmas.Bool.{eqb-true, leb-true, leb-false, le-leb, and_parts}
 use Rattle.td_base.specs.Value.{DotValue}
@@ -46,7 +48,8 @@ use Rattle.td_replay.proofs.Telling.{More, more, same_site, own_had, made_in_ste
 use Rattle.td_replay.proofs.Going.{new_is, taken_is, new_takes}
 use Rattle.td_replay.proofs.Counts.{is_made, count_entries, count_snoc, deps_skip, made_deps_is}
 use Rattle.td_replay.proofs.Bare.{bare, new_bare, IsKept, known_kept, IsTakenUp, taken_up, resumed_bare, idle_kept}
-use Rattle.td_replay.proofs.Judging.{same_steps, VoteJudged, vote_judged, Offer, Used, Known, offer_judged, Onward, Idles, TakesUp, onward_judged, made_deps_within}
+use Rattle.td_replay.proofs.Judging.{same_steps, VoteJudged, vote_judged, Offer, Used, Known, offer_judged}
+use Rattle.td_replay.proofs.Judging.{Onward, Idles, TakesUp, onward_judged, made_deps_within}
 
 pub record Seen (all : List (List TraceEntry)) (site : ℕ) (state : SiteState) : Type 0 where
   pub done : List TraceEntry

@@ -1,5 +1,6 @@
 -- What a replay that reached the end shows, and that the end does not depend on the order of sites.
-use Rattle.std.proofs.Common.{◌≡◌, ◌⊎◌, ◌<◌, ◌≤◌, ◌+◌, ◌-◌, ◌++◌, List, [], ◌∷◌, ℕ, zero, suc, length, get_or, take, refl, sym, ap, ◌∙◌, subst, append-nil, arith}
+use Rattle.std.proofs.Common.{◌≡◌, ◌⊎◌, ◌<◌, ◌≤◌, ◌+◌, ◌-◌, ◌++◌, List, [], ◌∷◌, ℕ, zero, suc, length}
+use Rattle.std.proofs.Common.{get_or, take, refl, sym, ap, ◌∙◌, subst, append-nil, arith}
 use Rattle.std.proofs.lemmas.List.{length-map, length-append, map-append, take_at}
 use Rattle.td_base.specs.Lists.{In}
 use Rattle.td_base.specs.declared.site.TheConstants.{MAX_SITE}
@@ -12,7 +13,8 @@ use Rattle.td_op.specs.declared.vote.Vote.{Vote}
 use Rattle.td_op.specs.Input.{IsInput}
 use Rattle.td_doc.specs.Document.{text_of}
 use Rattle.td_machine.specs.Machine.{Machine, start, made}
-use Rattle.td_machine.specs.History.{History, Family, IsLegal, IsLegalFrom, IsConsistent, MayCome, known_of, after, history, history_at, machine, machine_after}
+use Rattle.td_machine.specs.History.{History, Family, IsLegal, IsLegalFrom, IsConsistent, MayCome, known_of}
+use Rattle.td_machine.specs.History.{after, history, history_at, machine, machine_after}
 use Rattle.td_op.specs.Message.{sender}
 use Rattle.td_base.proofs.Elements.{CutAt, cut_at, same_tail}
 use Rattle.td_base.proofs.Lists.{map_In}

@@ -1,5 +1,7 @@
 -- A replay that reaches the end shows a consistent family: the histories that its entries tell.
-use Rattle.std.proofs.Common.{◌≡◌, ◌≢◌, ◌⊎◌, ◌<◌, ◌≤◌, ◌++◌, ◌||◌, List, [], ◌∷◌, ℕ, Bool, true, false, if◌then◌else◌, nat_eq, nat_lt, length, filter, map, Option, Some, None, refl, sym, ap, ◌∙◌, subst, inl, inr, ⊎_elim, append-nil, append_assoc, true≢false, arith}
+use Rattle.std.proofs.Common.{◌≡◌, ◌≢◌, ◌⊎◌, ◌<◌, ◌≤◌, ◌++◌, ◌||◌, List, [], ◌∷◌, ℕ, Bool, true, false, if◌then◌else◌}
+use Rattle.std.proofs.Common.{nat_eq, nat_lt, length, filter, map, Option, Some, None, refl, sym, ap, ◌∙◌, subst, inl}
+use Rattle.std.proofs.Common.{inr, ⊎_elim, append-nil, append_assoc, true≢false, arith}
 use Rattle.std.proofs.lemmas.List.{map-append}
 use Rattle.std.proofs.lemmas.Option.{same_Some}
 use Rattle.std.proofs.lemmas.Bool.{eqb-true, ltb-false, leb-true}
@@ -46,16 +48,20 @@ use Rattle.td_replay.specs.Judging.{outline, outline_of, SiteState, States, begi
 use Rattle.td_replay.specs.Replay.{Goes, Reaches, Begun, Then, AllDone}
 use Rattle.td_replay.specs.Replies.{is_new, taken_of, NotUnfit}
 use Rattle.td_replay.specs.Traced.{site_entries, IsTold, AreInRange}
-use Rattle.td_replay.proofs.Outlined.{with, outlined_step, local_outlined, vote_outlined, new_outlined, waits_outlines, next_outlines, misfit_with, offered_to, put_outlines, IsResumed, resumed_outlined, idle_outlined}
+use Rattle.td_replay.proofs.Outlined.{with, outlined_step, local_outlined, vote_outlined, new_outlined}
+use Rattle.td_replay.proofs.Outlined.{waits_outlines, next_outlines, misfit_with, offered_to, put_outlines}
+use Rattle.td_replay.proofs.Outlined.{IsResumed, resumed_outlined, idle_outlined}
 use Rattle.td_replay.proofs.Telling.{reached_after, same_site}
 use Rattle.td_replay.proofs.Going.{new_is, taken_is}
 use Rattle.td_replay.proofs.Counts.{count_entries, deps_counted, deps_made}
 use Rattle.td_replay.proofs.Bare.{bare, IsTakenUp, taken_up, idle_kept}
 use Rattle.td_replay.proofs.Posted.{posts}
-use Rattle.td_replay.proofs.Judging.{same_steps, VoteJudged, vote_judged, Offer, Used, Known, offer_judged, Onward, Idles, TakesUp, onward_judged, made_deps_within}
+use Rattle.td_replay.proofs.Judging.{same_steps, VoteJudged, vote_judged, Offer, Used, Known, offer_judged}
+use Rattle.td_replay.proofs.Judging.{Onward, Idles, TakesUp, onward_judged, made_deps_within}
 use Rattle.td_replay.proofs.Values.{values_of}
 use Rattle.td_replay.proofs.Seen.{Seen, AllSeen, found_dot, seen_begin, seen_goes}
-use Rattle.td_replay.proofs.Origins.{origin, log_step, log_resumed, made_up, vote_had, Standing, Had, Held, Low, stands, waits_in}
+use Rattle.td_replay.proofs.Origins.{origin, log_step, log_resumed, made_up, vote_had}
+use Rattle.td_replay.proofs.Origins.{Standing, Had, Held, Low, stands, waits_in}
 
 -- ---- replies of a machine with outlines
 
@@ -180,7 +186,8 @@ found_outline (Some x) z e =
 abbrev pub Within : States → States → Type 0
 Within states last = (site : ℕ) (x : OpValue) → In x (states site).machine.log → In x (last site).machine.log
 
-judged_grows : (all : List (List TraceEntry)) (states : States) (site : ℕ) (m : Machine) (told : ToldInput) (reply : Reply)
+judged_grows : (all : List (List TraceEntry)) (states : States) (site : ℕ) (m : Machine) (told : ToldInput)
+    (reply : Reply)
     (to : Stepped) → judge all states site m told reply ≡ Steps to → (x : OpValue) → In x m.log → In x to.machine.log
 judged_grows all states site m (Asked request) reply to e x i =
     subst (λ (y : Stepped). In x y.machine.log) (sym (same_steps (step m (Local request)) to e))

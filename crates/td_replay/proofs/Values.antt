@@ -1,5 +1,7 @@
 -- The operations of a machine that a legal history reached are values of their type.
-use Rattle.std.proofs.Common.{◌≡◌, ◌≢◌, ◌<◌, ◌≤◌, ◌+◌, ◌-◌, ◌++◌, List, [], ◌∷◌, ℕ, zero, suc, Bool, true, false, nat_eq, nat_lt, length, get_or, set, Option, Some, None, All, refl, sym, ap, ◌∙◌, subst, inl, inr, append_assoc, append-nil, arith}
+use Rattle.std.proofs.Common.{◌≡◌, ◌≢◌, ◌<◌, ◌≤◌, ◌+◌, ◌-◌, ◌++◌, List, [], ◌∷◌, ℕ, zero, suc, Bool, true}
+use Rattle.std.proofs.Common.{false, nat_eq, nat_lt, length, get_or, set, Option, Some, None, All, refl, sym}
+use Rattle.std.proofs.Common.{ap, ◌∙◌, subst, inl, inr, append_assoc, append-nil, arith}
 use Rattle.std.proofs.lemmas.Option.{same_Some}
 use Rattle.std.proofs.lemmas.Bool.{eqb-true, eqb-false}
 use Rattle.std.proofs.lemmas.List.Elements.{All-cons, All-head, All-tail, All-nil, All-replicate}
@@ -18,10 +20,12 @@ use Rattle.td_path.specs.declared.slot.Slot.{Slot}
 use Rattle.td_path.specs.declared.slot.Slot.TheVariants.{Root, At}
 use Rattle.td_path.specs.Slot.{IsSlot, slot_atom}
 use Rattle.td_op.specs.declared.body.Body.{Body}
-use Rattle.td_op.specs.declared.body.Body.TheVariants.{Insert as InsertIn, Delete as DeleteOf, Propose as ProposeOf, Commit, Abort}
+use Rattle.td_op.specs.declared.body.Body.TheVariants.{Insert as InsertIn, Delete as DeleteOf}
+use Rattle.td_op.specs.declared.body.Body.TheVariants.{Propose as ProposeOf, Commit, Abort}
 use Rattle.td_op.specs.declared.input.Input.{Input}
 use Rattle.td_op.specs.declared.request.Request.{Request}
-use Rattle.td_op.specs.declared.request.Request.TheVariants.{Insert, InsertAfter, Paste, PasteAfter, Delete, DeleteAtom, Propose, ProposeAt, Cancel}
+use Rattle.td_op.specs.declared.request.Request.TheVariants.{Insert, InsertAfter, Paste, PasteAfter, Delete}
+use Rattle.td_op.specs.declared.request.Request.TheVariants.{DeleteAtom, Propose, ProposeAt, Cancel}
 use Rattle.td_op.specs.Op.{OpValue, named_atom}
 use Rattle.td_op.specs.declared.insertion.Insertion.{Insertion}
 use Rattle.td_op.specs.Insertion.{Inserts, insertion_by, ids_of}
@@ -35,7 +39,8 @@ use Rattle.td_machine.specs.Decision.{Ballot, is_on, is_open, outcome, new_ballo
 use Rattle.td_machine.specs.Machine.{Machine, made, undecided, next_dot}
 use Rattle.td_machine.specs.Making.{make, decide, hold, open_ballot}
 use Rattle.td_machine.specs.Taking.{Stepped, take, forget}
-use Rattle.td_machine.specs.Request.{Aim, Refuse, Do, GiveUp, aim, perform, live_aim, delete_aim, propose_aim, cancel_aim, len}
+use Rattle.td_machine.specs.Request.{Aim, Refuse, Do, GiveUp, aim, perform, live_aim}
+use Rattle.td_machine.specs.Request.{delete_aim, propose_aim, cancel_aim, len}
 use Rattle.td_machine.specs.History.{IsReached}
 use Rattle.td_machine.proofs.Parts.{IsBuilt, IsDone, Own, Other, MayMake, IsOpenAt}
 use Rattle.td_machine.proofs.Walk.{offered}

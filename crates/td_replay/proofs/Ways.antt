@@ -1,5 +1,6 @@
 -- The ways of a step, told by their replies: what is shown of each way holds of the step.
-use Rattle.std.proofs.Common.{◌≡◌, ◌≤◌, ℕ, subst, List, [], ◌∷◌, Bool, true, false, not, if◌then◌else◌, ◌||◌, nat_eq, nat_lt, length, filter, Option, Some, None, refl}
+use Rattle.std.proofs.Common.{◌≡◌, ◌≤◌, ℕ, subst, List, [], ◌∷◌, Bool, true, false, not, if◌then◌else◌}
+use Rattle.std.proofs.Common.{◌||◌, nat_eq, nat_lt, length, filter, Option, Some, None, refl}
 use Rattle.std.proofs.lemmas.Bool.{or_parts, eqb-true, eqb-false, ltb-false, not-false, not-true}
 use Rattle.std.specs.List.{find}
 use Rattle.td_base.specs.Value.{DotValue}
@@ -10,10 +11,12 @@ use Rattle.td_op.specs.declared.input.Input.{Input}
 use Rattle.td_op.specs.declared.input.Input.TheVariants.{Local, Take, Next}
 use Rattle.td_op.specs.declared.message.Message.TheVariants.{Op as AnOp, Vote as AVote}
 use Rattle.td_op.specs.declared.request.Request.{Request}
-use Rattle.td_op.specs.declared.request.Request.TheVariants.{Insert, InsertAfter, Paste, PasteAfter, Delete, DeleteAtom, Propose, ProposeAt, Cancel}
+use Rattle.td_op.specs.declared.request.Request.TheVariants.{Insert, InsertAfter, Paste, PasteAfter, Delete}
+use Rattle.td_op.specs.declared.request.Request.TheVariants.{DeleteAtom, Propose, ProposeAt, Cancel}
 use Rattle.td_op.specs.declared.vote.Vote.{Vote}
 use Rattle.td_op.specs.declared.reply.Reply.{Reply}
-use Rattle.td_op.specs.declared.reply.Reply.TheVariants.{Made, Cancelled, Limit, New, Later, Repeat, Unfit, Taken, Dropped}
+use Rattle.td_op.specs.declared.reply.Reply.TheVariants.{Made, Cancelled, Limit, New, Later, Repeat}
+use Rattle.td_op.specs.declared.reply.Reply.TheVariants.{Unfit, Taken, Dropped}
 use Rattle.td_op.specs.declared.reply.Why.{Why}
 use Rattle.td_op.specs.declared.reply.Why.TheVariants.{Size, Own, Address}
 use Rattle.td_op.specs.Op.{OpValue}
@@ -21,14 +24,18 @@ use Rattle.td_machine.specs.Ready.{is_had, is_ready, next_ready, waits}
 use Rattle.td_machine.specs.Decision.{Ballot, is_on, is_counted}
 use Rattle.td_machine.specs.Machine.{Machine, made, undecided, next_dot}
 use Rattle.td_machine.specs.Making.{decide}
-use Rattle.td_machine.specs.Taking.{Stepped, stepped, misfit, take, keep_waiting, fit_step, op_step, count, ballot_step, vote_step, forget, waited, next_of}
-use Rattle.td_machine.specs.Request.{Aim, Attempt, Refuse, Do, GiveUp, aim, is_past_limit, attempt_step, aim_step, perform, insert_aim_at, insert_aim_after, live_aim, delete_aim, propose_aim, propose_aim_of, cancel_aim, len}
+use Rattle.td_machine.specs.Taking.{Stepped, stepped, misfit, take, keep_waiting, fit_step, op_step}
+use Rattle.td_machine.specs.Taking.{count, ballot_step, vote_step, forget, waited, next_of}
+use Rattle.td_machine.specs.Request.{Aim, Attempt, Refuse, Do, GiveUp, aim, is_past_limit, attempt_step}
+use Rattle.td_machine.specs.Request.{aim_step, perform, insert_aim_at, insert_aim_after, live_aim}
+use Rattle.td_machine.specs.Request.{delete_aim, propose_aim, propose_aim_of, cancel_aim, len}
 use Rattle.td_machine.specs.Decision.{is_open}
 use Rattle.td_base.specs.Value.{AtomIdValue}
 use Rattle.td_path.specs.declared.slot.Slot.{Slot}
 use Rattle.td_path.specs.declared.slot.Slot.TheVariants.{Root, At}
 use Rattle.td_op.specs.declared.body.Body.{Body}
-use Rattle.td_op.specs.declared.body.Body.TheVariants.{Insert as InsertIn, Delete as DeleteOf, Propose as ProposeOf, Commit, Abort}
+use Rattle.td_op.specs.declared.body.Body.TheVariants.{Insert as InsertIn, Delete as DeleteOf}
+use Rattle.td_op.specs.declared.body.Body.TheVariants.{Propose as ProposeOf, Commit, Abort}
 use Rattle.td_doc.specs.Document.{live_id_at}
 use Rattle.td_doc.specs.Answers.{is_live_id, is_rooted}
 use Rattle.td_replay.specs.Counting.{is_proposal}

@@ -1,6 +1,7 @@
 -- Which operations a site made, with what they depend on, read from its entries alone. Its k-th operation is the one
 -- after which k are counted, whatever dot its entry prints.
-use Rattle.std.specs.Prelude.{List, [], ◌∷◌, ℕ, zero, suc, ◌+◌, ◌-◌, Bool, true, false, ◌&&◌, not, length, filter, replicate, Option, Some, None, option_and_then, if◌then◌else◌, ◌==◌, nat_le}
+use Rattle.std.specs.Prelude.{List, [], ◌∷◌, ℕ, zero, suc, ◌+◌, ◌-◌, Bool, true, false, ◌&&◌, not, length, filter}
+use Rattle.std.specs.Prelude.{replicate, Option, Some, None, option_and_then, if◌then◌else◌, ◌==◌, nat_le}
 use Rattle.std.specs.List.{list_any, list_all}
 use Rattle.td_base.specs.Value.{DotValue}
 use Rattle.td_base.specs.Equality.{same_dot}

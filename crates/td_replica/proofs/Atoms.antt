@@ -1,5 +1,6 @@
 -- How many live atoms stand before an atom that is no row.
-use Rattle.std.proofs.Common.{◌≡◌, ◌+◌, ℕ, List, [], ◌∷◌, Bool, true, false, length, if◌then◌else◌, Option, Some, None, refl, ap, ◌∙◌, arith}
+use Rattle.std.proofs.Common.{◌≡◌, ◌+◌, ℕ, List, [], ◌∷◌, Bool, true, false, length}
+use Rattle.std.proofs.Common.{if◌then◌else◌, Option, Some, None, refl, ap, ◌∙◌, arith}
 use Rattle.td_base.specs.Value.{AtomIdValue}
 use Rattle.std.specs.Option.{option_map}
 use Rattle.td_doc.specs.declared.doc.Row.{Row}

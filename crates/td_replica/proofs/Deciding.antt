@@ -1,5 +1,7 @@
 -- What a machine knows of its open proposals, and what a decision of its own leaves.
-use Rattle.std.proofs.Common.{◌≡◌, ◌≢◌, ◌<◌, ◌≤◌, ◌+◌, ◌||◌, ◌⊎◌, ℕ, List, ◌∷◌, Bool, true, false, not, if◌then◌else◌, nat_eq, nat_lt, Option, Some, None, refl, sym, ap, ◌∙◌, subst, inl, inr, ⊎_elim, arith}
+use Rattle.std.proofs.Common.{◌≡◌, ◌≢◌, ◌<◌, ◌≤◌, ◌+◌, ◌||◌, ◌⊎◌, ℕ, List, ◌∷◌, Bool, true, false}
+use Rattle.std.proofs.Common.{not, if◌then◌else◌, nat_eq, nat_lt, Option, Some, None, refl, sym}
+use Rattle.std.proofs.Common.{ap, ◌∙◌, subst, inl, inr, ⊎_elim, arith}
 use Rattle.std.proofs.lemmas.Bool.{or_parts, leb-true, eqb-true, eq-eqb}
 use Rattle.std.proofs.lemmas.Bool.Decides.{nat_tests}
 use Rattle.std.proofs.lemmas.Option.{same_Some}
@@ -25,7 +27,8 @@ use Rattle.td_machine.proofs.Ballots.{find_ballot, closes}
 use Rattle.td_machine.proofs.Induction.{Anything}
 use Rattle.td_machine.proofs.Naming.{own_ballots}
 use Rattle.td_machine.proofs.OwnProposals.{polls, open_proposed}
-use Rattle.td_machine.proofs.Parts.{RoomFor, IsBuilt, Goes, Proposes, MayMake, IsOpenAt, IsCounting, IsProposing, proposed_here}
+use Rattle.td_machine.proofs.Parts.{RoomFor, IsBuilt, Goes, Proposes, MayMake, IsOpenAt}
+use Rattle.td_machine.proofs.Parts.{IsCounting, IsProposing, proposed_here}
 use Rattle.td_machine.proofs.Turns.{placed}
 use Rattle.td_machine.specs.Making.{make, propose, decide, hold, open_ballot, flatten_found}
 use Rattle.td_machine.specs.Taking.{Stepped, stepped, count, ballot_step, vote_step}

@@ -1,5 +1,6 @@
 -- What an operation that comes into the log leaves of the parts.
-use Rattle.std.proofs.Common.{◌≡◌, ◌≢◌, ◌≤◌, ◌+◌, ◌-◌, ◌++◌, ℕ, List, [], ◌∷◌, Bool, true, length, if◌then◌else◌, Option, Some, None, refl, sym, ap, ◌∙◌, subst, inl, inr, arith}
+use Rattle.std.proofs.Common.{◌≡◌, ◌≢◌, ◌≤◌, ◌+◌, ◌-◌, ◌++◌, ℕ, List, [], ◌∷◌, Bool, true, length, if◌then◌else◌}
+use Rattle.std.proofs.Common.{Option, Some, None, refl, sym, ap, ◌∙◌, subst, inl, inr, arith}
 use Rattle.std.proofs.lemmas.Bool.{leb-true}
 use Rattle.std.specs.Prelude.{IsTrue, IfSome, IsSome, slice_get}
 use Rattle.std.specs.List.{AllByRecursion, filter_map, cons_option}
@@ -31,7 +32,9 @@ use Rattle.td_coord.specs.Tally.{TallyValue}
 use Rattle.td_history.specs.Past.{Past, IsUndecided, IsNextIn, decided_by, made, taken, resumed, kept}
 use Rattle.td_replica.specs.declared.state.Origin.{Origin}
 use Rattle.td_replica.specs.declared.state.Origin.TheVariants.{Here, There, Waiting as Waited}
-use Rattle.td_replica.specs.Parts.{with_note, machine_of, state_of, waiting_too, ComesFrom, IsFromOutside, number_from, ops_with, IsState, CommitsNamed, logged, commits_with, commits_after, commits_after_body}
+use Rattle.td_replica.specs.Parts.{with_note, machine_of, state_of, waiting_too, ComesFrom}
+use Rattle.td_replica.specs.Parts.{IsFromOutside, number_from, ops_with, IsState, CommitsNamed, logged}
+use Rattle.td_replica.specs.Parts.{commits_with, commits_after, commits_after_body}
 
 -- the operation may be the next of its site in the log
 pub next_in : (have : List ℕ) (log : List OpValue) (x : OpValue) → have ≡ counts (length have) log

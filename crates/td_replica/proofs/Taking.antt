@@ -1,5 +1,6 @@
 -- What an operation of another site leaves of a machine.
-use Rattle.std.proofs.Common.{◌≡◌, ◌≢◌, ◌&&◌, List, ◌∷◌, Bool, true, false, nat_eq, Option, Some, None, refl, sym, ap, ◌∙◌}
+use Rattle.std.proofs.Common.{◌≡◌, ◌≢◌, ◌&&◌, List, ◌∷◌, Bool, true, false, nat_eq}
+use Rattle.std.proofs.Common.{Option, Some, None, refl, sym, ap, ◌∙◌}
 use Rattle.std.proofs.lemmas.Bool.{and_parts, eqb-true}
 use Rattle.std.specs.Option.{is_some, is_none}
 use Rattle.td_base.specs.Value.{DotValue}

@@ -1,5 +1,6 @@
 -- What is judged first, and done then, is the machine's step.
-use Rattle.std.proofs.Common.{◌≡◌, ◌≤◌, ◌+◌, ◌-◌, ◌||◌, ℕ, List, [], ◌∷◌, Bool, true, false, not, length, nat_eq, nat_lt, if◌then◌else◌, Option, Some, None, refl, sym, ap, ◌∙◌, subst, arith}
+use Rattle.std.proofs.Common.{◌≡◌, ◌≤◌, ◌+◌, ◌-◌, ◌||◌, ℕ, List, [], ◌∷◌, Bool, true, false, not, length, nat_eq}
+use Rattle.std.proofs.Common.{nat_lt, if◌then◌else◌, Option, Some, None, refl, sym, ap, ◌∙◌, subst, arith}
 use Rattle.std.proofs.lemmas.Bool.{ltb-false}
 use Rattle.std.specs.Prelude.{Result, Ok, Err, IfOk, IfSome, find}
 use Rattle.td_base.specs.declared.memory.Memory.{Memory}
@@ -15,9 +16,12 @@ use Rattle.td_doc.specs.Answers.{is_live_id, is_rooted}
 use Rattle.td_doc.specs.Document.{live_id_at}
 use Rattle.td_op.specs.declared.input.Input.TheVariants.{Local}
 use Rattle.td_op.specs.declared.request.Request.{Request}
-use Rattle.td_op.specs.declared.request.Request.TheVariants.{Insert as AskInsert, InsertAfter, Paste, PasteAfter, Delete as AskDelete, DeleteAtom, Propose as AskPropose, ProposeAt, Cancel as AskCancel}
+use Rattle.td_op.specs.declared.request.Request.TheVariants.{Insert as AskInsert, InsertAfter, Paste, PasteAfter}
+use Rattle.td_op.specs.declared.request.Request.TheVariants.{Delete as AskDelete, DeleteAtom, Propose as AskPropose}
+use Rattle.td_op.specs.declared.request.Request.TheVariants.{ProposeAt, Cancel as AskCancel}
 use Rattle.td_op.specs.declared.reply.Reply.{Reply}
-use Rattle.td_op.specs.declared.reply.Reply.TheVariants.{Made, Held, Position, Gone, Limit, NotOpen, New, Later, Repeat, Unfit}
+use Rattle.td_op.specs.declared.reply.Reply.TheVariants.{Made, Held, Position, Gone, Limit, NotOpen}
+use Rattle.td_op.specs.declared.reply.Reply.TheVariants.{New, Later, Repeat, Unfit}
 use Rattle.td_op.specs.declared.reply.Why.{Why}
 use Rattle.td_op.specs.declared.reply.Why.TheVariants.{Size, Own}
 use Rattle.td_op.specs.Input.{IsRequest}
@@ -26,7 +30,9 @@ use Rattle.td_machine.specs.Decision.{Ballot, is_on, is_open}
 use Rattle.td_machine.specs.Machine.{Machine, made, undecided, next_dot}
 use Rattle.td_machine.specs.Making.{make}
 use Rattle.td_machine.specs.Ready.{is_had, is_ready, waits}
-use Rattle.td_machine.specs.Request.{Aim, Refuse as RefuseAim, Do, GiveUp, Attempt, aim, aim_step, attempt_step, insert_aim, insert_aim_at, insert_aim_after, is_past_limit, len, perform, request_step, live_aim, delete_aim, propose_aim, cancel_aim}
+use Rattle.td_machine.specs.Request.{Aim, Refuse as RefuseAim, Do, GiveUp, Attempt, aim, aim_step, attempt_step}
+use Rattle.td_machine.specs.Request.{insert_aim, insert_aim_at, insert_aim_after, is_past_limit, len, perform}
+use Rattle.td_machine.specs.Request.{request_step, live_aim, delete_aim, propose_aim, cancel_aim}
 use Rattle.td_machine.specs.Taking.{Stepped, stepped, misfit, take, keep_waiting, fit_step, op_step}
 use Rattle.td_machine.proofs.Aims.{FitsAim, aimed}
 use Rattle.td_machine.proofs.Induction.{Anything}

@@ -1,5 +1,6 @@
 -- How what another site sends is judged, before anything is done.
-use Rattle.std.specs.Prelude.{◌≡◌, ◌||◌, false, not, nat_lt, length, Option, Some, None, if◌then◌else◌, ◌==◌, find, is_some}
+use Rattle.std.specs.Prelude.{◌≡◌, ◌||◌, false, not, nat_lt, length, Option, Some}
+use Rattle.std.specs.Prelude.{None, if◌then◌else◌, ◌==◌, find, is_some}
 use Rattle.std.specs.Option.{ForSome}
 use Rattle.td_clock.specs.Vector.{vector_get}
 use Rattle.td_op.specs.declared.reply.Reply.TheVariants.{Repeat, Unfit}

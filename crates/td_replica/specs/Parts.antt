@@ -1,5 +1,6 @@
 -- The parts of a replica, as contracts see them: its machine, and what is kept beside it.
-use Rattle.std.specs.Prelude.{◌≡◌, ◌<◌, ◌≤◌, ◌++◌, ◌∷◌, ◌-◌, ℕ, List, [], length, slice_get, Option, Some, None, IfSome, IsSome}
+use Rattle.std.specs.Prelude.{◌≡◌, ◌<◌, ◌≤◌, ◌++◌, ◌∷◌, ◌-◌, ℕ, List, [], length}
+use Rattle.std.specs.Prelude.{slice_get, Option, Some, None, IfSome, IsSome}
 use Rattle.std.specs.List.{AllByRecursion}
 use Rattle.td_base.specs.Value.{DotValue}
 use Rattle.td_base.specs.Lists.{In}

@@ -5,7 +5,8 @@ use Rattle.td_op.specs.declared.change.Change.{Change}
 use Rattle.td_op.specs.declared.entry.Entry.{Entry}
 use Rattle.td_op.specs.declared.input.Input.{Input}
 use Rattle.td_op.specs.declared.reply.Reply.{Reply}
-use Rattle.td_op.specs.declared.reply.Reply.TheVariants.{Made, Cancelled, Held, Position, Gone, Limit, NotOpen, New, Later, Repeat, Unfit, Taken, Dropped, Idle}
+use Rattle.td_op.specs.declared.reply.Reply.TheVariants.{Made, Cancelled, Held, Position, Gone, Limit, NotOpen, New}
+use Rattle.td_op.specs.declared.reply.Reply.TheVariants.{Later, Repeat, Unfit, Taken, Dropped, Idle}
 use Rattle.td_machine.specs.History.{History, after, IsLegal}
 use Rattle.td_machine.specs.Machine.{Machine, start}
 use Rattle.td_machine.specs.Shown.{change_between}

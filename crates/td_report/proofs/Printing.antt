@@ -1,5 +1,6 @@
 -- Values printed one behind the other.
-use Rattle.std.proofs.Common.{◌≡◌, ◌+◌, ◌∙◌, ℕ, zero, suc, List, [], ◌∷◌, ◌++◌, Option, Some, None, add-one, ap, append_assoc, append-nil, refl, sym, take}
+use Rattle.std.proofs.Common.{◌≡◌, ◌+◌, ◌∙◌, ℕ, zero, suc, List, [], ◌∷◌, ◌++◌, Option, Some, None}
+use Rattle.std.proofs.Common.{add-one, ap, append_assoc, append-nil, refl, sym, take}
 use Rattle.std.specs.Prelude.{slice_get}
 use Rattle.std.specs.Option.{option_and_then}
 use Rattle.std.specs.List.{flat_map}
@@ -15,25 +16,30 @@ next_by print [] zero = refl
 next_by print [] (suc k) = refl
 next_by print (x ∷ xs) zero = sym (append-nil (print x))
 next_by print (x ∷ xs) (suc k) =
-    append_assoc (print x) (flat_map print (take k xs)) (if_any print (slice_get xs k)) ∙ ap (λ (rest : List ℕ). print x ++ rest) (next_by print xs k)
+    append_assoc (print x) (flat_map print (take k xs)) (if_any print (slice_get xs k))
+    ∙ ap (λ (rest : List ℕ). print x ++ rest) (next_by print xs k)
 
 -- the next value, where there is one
 pub next_printed : {X : Type 0} (print : X → List ℕ) (start : List ℕ) (xs : List X) (k : ℕ)
     → (start ++ flat_map print (take k xs)) ++ if_any print (slice_get xs k) ≡ start ++ flat_map print (take (k + 1) xs)
 next_printed print start xs k =
     append_assoc start (flat_map print (take k xs)) (if_any print (slice_get xs k))
-    ∙ ap (λ (rest : List ℕ). start ++ rest) (next_by print xs k ∙ ap (λ (n : ℕ). flat_map print (take n xs)) (sym (add-one k)))
+    ∙ ap (λ (rest : List ℕ). start ++ rest) (next_by print xs k
+    ∙ ap (λ (n : ℕ). flat_map print (take n xs)) (sym (add-one k)))
 
-delete_found : (o : Option DocRow) (k : ℕ) → option_and_then (λ (r : DocRow). slice_get r.deletes k) o ≡ slice_get (deletes_of o) k
+delete_found : (o : Option DocRow) (k : ℕ) → option_and_then (λ (r : DocRow). slice_get r.deletes k) o
+    ≡ slice_get (deletes_of o) k
 delete_found None k = refl
 delete_found (Some r) k = refl
 
 -- a delete dot of a row is one of its deletes
-pub delete_is : (rows : List DocRow) (x : AtomIdValue) (k : ℕ) → delete_at rows x k ≡ slice_get (deletes_of (find_row x rows)) k
+pub delete_is : (rows : List DocRow) (x : AtomIdValue) (k : ℕ) → delete_at rows x k
+    ≡ slice_get (deletes_of (find_row x rows)) k
 delete_is rows x k = delete_found (find_row x rows) k
 
 -- so the value is printed behind those before it
-pub printed_behind : {X : Type 0} (print : X → List ℕ) (start before now : List ℕ) (xs : List X) (k : ℕ) (next : Option X)
+pub printed_behind : {X : Type 0} (print : X → List ℕ) (start before now : List ℕ) (xs : List X) (k : ℕ)
+    (next : Option X)
     → now ≡ before ++ if_any print next → next ≡ slice_get xs k → before ≡ start ++ flat_map print (take k xs)
     → now ≡ start ++ flat_map print (take (k + 1) xs)
 printed_behind print start before now xs k next printed at is =

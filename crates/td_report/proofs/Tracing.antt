@@ -23,7 +23,8 @@ kth_suc {X} k xs =
     ∙ ap (slice_get xs) back
 
 next_of : (number k : ℕ) (xs : List Entry)
-    → all_written (numbered entry_said number (map traced (take k xs))) ++ if_any (entry_written (number + k)) (slice_get xs k)
+    → all_written (numbered entry_said number (map traced (take k xs)))
+    ++ if_any (entry_written (number + k)) (slice_get xs k)
     ≡ all_written (numbered entry_said number (map traced (take (suc k) xs)))
 next_of number zero [] = refl
 next_of number (suc k) [] = refl
@@ -35,12 +36,14 @@ next_of number (suc k) (x ∷ xs) =
     append_assoc (entry_written number x) (all_written (numbered entry_said (number + 1) (map traced (take k xs))))
     (if_any (entry_written (number + suc k)) (slice_get xs k))
     ∙ ap (λ (n : ℕ). entry_written number x
-    ++ (all_written (numbered entry_said (number + 1) (map traced (take k xs))) ++ if_any (entry_written n) (slice_get xs k))) same
+    ++ (all_written (numbered entry_said (number + 1) (map traced (take k xs)))
+    ++ if_any (entry_written n) (slice_get xs k))) same
     ∙ ap (λ (rest : List ℕ). entry_written number x ++ rest) (next_of (number + 1) k xs)
 
 -- the next entry, where there is one
 pub next_entry : (start : List ℕ) (xs : List Entry) (k : ℕ)
-    → (start ++ all_written (numbered entry_said 1 (map traced (take k xs)))) ++ if_any (entry_written (k + 1)) (kth (k + 1) xs)
+    → (start ++ all_written (numbered entry_said 1 (map traced (take k xs))))
+    ++ if_any (entry_written (k + 1)) (kth (k + 1) xs)
     ≡ start ++ all_written (numbered entry_said 1 (map traced (take (k + 1) xs)))
 next_entry start xs k =
     let number : k + 1 ≡ 1 + k = omega arith in
@@ -51,7 +54,8 @@ next_entry start xs k =
     ∙ append_assoc start (all_written (numbered entry_said 1 (map traced (take k xs)))) (if_any (entry_written (k + 1))
     (slice_get xs k))
     ∙ ap (λ (n : ℕ). start
-    ++ (all_written (numbered entry_said 1 (map traced (take k xs))) ++ if_any (entry_written n) (slice_get xs k))) number
+    ++ (all_written (numbered entry_said 1 (map traced (take k xs))) ++ if_any (entry_written n) (slice_get xs k)))
+    number
     ∙ ap (λ (rest : List ℕ). start ++ rest) (next_of 1 k xs)
     ∙ ap (λ (n : ℕ). start ++ all_written (numbered entry_said 1 (map traced (take n xs)))) more
 

@@ -1,5 +1,6 @@
 -- A document is walked row by row.
-use Rattle.std.proofs.Common.{◌≡◌, ◌≢◌, ◌∙◌, ◌<◌, ◌+◌, ℕ, zero, suc, List, [], ◌∷◌, Option, Some, None, Bool, true, false, cond, add-one, ap, arith, drop, length, refl, subst, sym, true≢false}
+use Rattle.std.proofs.Common.{◌≡◌, ◌≢◌, ◌∙◌, ◌<◌, ◌+◌, ℕ, zero, suc, List, [], ◌∷◌, Option, Some, None, Bool, true}
+use Rattle.std.proofs.Common.{false, cond, add-one, ap, arith, drop, length, refl, subst, sym, true≢false}
 use Rattle.std.specs.Prelude.{slice_get}
 use Rattle.std.specs.Option.{is_some, option_map}
 use Rattle.std.proofs.lemmas.Option.{none-some, same_Some}
@@ -23,7 +24,8 @@ next_of (s ∷ rows) zero r apart e =
     ap (λ b. cond b (first_id rows) (next_id (row_id r) rows)) here
 next_of (s ∷ rows) (suc k) r apart e =
     let other : row_id s ≢ row_id r = all_in (Differ s) rows apart.0 r (In-slice_get rows k r e) in
-    ap (λ b. cond b (first_id rows) (next_id (row_id r) rows)) (has_id-false (row_id r) s other) ∙ next_of rows k r apart.1 e
+    ap (λ b. cond b (first_id rows) (next_id (row_id r) rows)) (has_id-false (row_id r) s other)
+    ∙ next_of rows k r apart.1 e
 
 -- the first of the rows from a place on is the one at the place
 first_from : (rows : List DocRow) (k : ℕ) → first_id (drop k rows) ≡ option_map row_id (slice_get rows k)
@@ -73,7 +75,8 @@ goes_to_the_end rows k after within at none =
 
 -- what the walk comes to is a row
 
-later_row : (x : AtomIdValue) (r : DocRow) (rows : List DocRow) (b : Bool) → is_some (find_row x rows) ≡ true → is_some (cond b (Some r) (find_row x rows)) ≡ true
+later_row : (x : AtomIdValue) (r : DocRow) (rows : List DocRow) (b : Bool) → is_some (find_row x rows) ≡ true
+    → is_some (cond b (Some r) (find_row x rows)) ≡ true
 later_row x r rows true h = refl
 later_row x r rows false h = h
 
@@ -83,15 +86,18 @@ first_is_row (r ∷ rows) x e =
     let here : has_id x r ≡ true = ap (λ (y : AtomIdValue). has_id y r) (sym (same_Some (row_id r) x e)) ∙ self_id r in
     ap (λ b. is_some (cond b (Some r) (find_row x rows))) here
 
-next_is_row_at : (p x : AtomIdValue) (r : DocRow) (rows : List DocRow) (b : Bool) → (next_id p rows ≡ Some x → is_some (find_row x rows) ≡ true)
+next_is_row_at : (p x : AtomIdValue) (r : DocRow) (rows : List DocRow) (b : Bool)
+    → (next_id p rows ≡ Some x → is_some (find_row x rows) ≡ true)
     → cond b (first_id rows) (next_id p rows) ≡ Some x → is_some (find_row x (r ∷ rows)) ≡ true
 next_is_row_at p x r rows true ih h = later_row x r rows (has_id x r) (first_is_row rows x h)
 next_is_row_at p x r rows false ih h = later_row x r rows (has_id x r) (ih h)
 
-next_is_row : (p : AtomIdValue) (rows : List DocRow) (x : AtomIdValue) → next_id p rows ≡ Some x → is_some (find_row x rows) ≡ true
+next_is_row : (p : AtomIdValue) (rows : List DocRow) (x : AtomIdValue) → next_id p rows ≡ Some x
+    → is_some (find_row x rows) ≡ true
 next_is_row p [] x e = absurd (none-some x e)
 next_is_row p (r ∷ rows) x e = next_is_row_at p x r rows (has_id p r) (next_is_row p rows x) e
 
-pub comes_to_a_row : (rows : List DocRow) (last : Option AtomIdValue) (x : AtomIdValue) → id_after rows last ≡ Some x → IsRow rows x
+pub comes_to_a_row : (rows : List DocRow) (last : Option AtomIdValue) (x : AtomIdValue) → id_after rows last ≡ Some x
+    → IsRow rows x
 comes_to_a_row rows None x e = first_is_row rows x e
 comes_to_a_row rows (Some p) x e = next_is_row p rows x e

@@ -25,7 +25,8 @@ module _ (es : List EditorValue) (ws : List WorkerValue) (rs : List ReplicaValue
   fits : Fits R es gs
   fits =
       record {
-        at_home = subst (λ (n : ℕ). AllByRecursion (λ (e : EditorValue). (0 < e.home) × (e.home ≤ n)) es) (sym many) room.homes;
+        at_home = subst (λ (n : ℕ). AllByRecursion (λ (e : EditorValue). (0 < e.home) × (e.home ≤ n)) es) (sym many)
+            room.homes;
         zips = λ place l.
             let k = at_place es ws rs gs rows h place (subst (λ (n : ℕ). place < n) many l) in
             let site = k.ended.left in

@@ -17,12 +17,16 @@ pub connected_on : (s t : SiteValue) (peers : List PeerState) → Went s t → I
 connected_on s t peers w c =
     record {
       numbers = c.numbers ∙ (λ i. others (sym w.later.size i) (sym w.later.site i));
-      owns = all_map (λ (p : PeerState). p.own ≡ s.replica.machine.site) (λ (p : PeerState). p.own ≡ t.replica.machine.site)
+      owns = all_map (λ (p : PeerState). p.own ≡ s.replica.machine.site)
+          (λ (p : PeerState). p.own ≡ t.replica.machine.site)
           peers (λ p e. e ∙ sym w.later.site) c.owns;
       welcome = w.welcome c.welcome;
-      hears = all_map (λ (p : PeerState). Hears s.replica.entries (peer_of p)) (λ (p : PeerState). Hears t.replica.entries (peer_of p))
+      hears = all_map (λ (p : PeerState). Hears s.replica.entries (peer_of p))
+          (λ (p : PeerState). Hears t.replica.entries (peer_of p))
           peers (λ p h. hears_on s.replica.entries t.replica.entries p (w.takes p.site) h) c.hears;
-      serves = all_map (λ (p : PeerState). Serves s.replica.machine.sent p) (λ (p : PeerState). Serves t.replica.machine.sent p)
-          peers (λ p h. subst (λ (l : List Message). Serves l p) w.later.sent.1 (serves_more s.replica.machine.sent w.later.sent.0 p h))
+      serves = all_map (λ (p : PeerState). Serves s.replica.machine.sent p)
+          (λ (p : PeerState). Serves t.replica.machine.sent p)
+          peers (λ p h. subst (λ (l : List Message). Serves l p) w.later.sent.1
+          (serves_more s.replica.machine.sent w.later.sent.0 p h))
           c.serves;
     }

@@ -1,5 +1,7 @@
 -- Workers that have ended, and whose links are settled.
-use Rattle.std.proofs.Common.{◌≡◌, ◌≢◌, ◌<◌, ◌≤◌, ◌+◌, ◌-◌, ◌++◌, ℕ, zero, suc, List, [], ◌∷◌, Bool, true, false, not, cond, nat_eq, length, map, drop, slice_get, get_or, Some, refl, sym, ap, ◌∙◌, subst, append_assoc, append-nil, arith}
+use Rattle.std.proofs.Common.{◌≡◌, ◌≢◌, ◌<◌, ◌≤◌, ◌+◌, ◌-◌, ◌++◌, ℕ, zero, suc, List, [], ◌∷◌, Bool, true}
+use Rattle.std.proofs.Common.{false, not, cond, nat_eq, length, map, drop, slice_get, get_or, Some, refl}
+use Rattle.std.proofs.Common.{sym, ap, ◌∙◌, subst, append_assoc, append-nil, arith}
 use Rattle.std.proofs.lemmas.Bool.Decides.{nat_tests}
 use Rattle.std.specs.List.{AllByRecursion, AllZip}
 use Rattle.td_base.specs.declared.site.TheConstants.{MAX_SITE}
@@ -35,7 +37,8 @@ some_same x y e = cc
 
 -- ---- one after another
 
-all_ended_next : (es : List EditorValue) (ws : List WorkerValue) (rs : List ReplicaValue) (gs : List (List (List Answer)))
+all_ended_next : (es : List EditorValue) (ws : List WorkerValue) (rs : List ReplicaValue)
+    (gs : List (List (List Answer)))
     (rows : List (List PeerState)) (w : WorkerValue) (r : ReplicaValue) (a : List (List Answer)) (ps : List PeerState)
     → AllEnded es ws rs gs rows → IsEnded w (editors_of w.site.replica.machine.site es) r a ps
     → AllEnded es (ws ++ w ∷ []) (rs ++ r ∷ []) (gs ++ a ∷ []) (rows ++ ps ∷ [])
@@ -46,7 +49,8 @@ all_ended_next es [] (q ∷ rs) gs rows w r a ps h e = absurd h
 all_ended_next es (v ∷ ws) [] gs rows w r a ps h e = absurd h
 all_ended_next es (v ∷ ws) (q ∷ rs) [] rows w r a ps h e = absurd h
 all_ended_next es (v ∷ ws) (q ∷ rs) (x ∷ gs) [] w r a ps h e = absurd h
-all_ended_next es (v ∷ ws) (q ∷ rs) (x ∷ gs) (y ∷ rows) w r a ps h e = (h.0, all_ended_next es ws rs gs rows w r a ps h.1 e)
+all_ended_next es (v ∷ ws) (q ∷ rs) (x ∷ gs) (y ∷ rows) w r a ps h e =
+    (h.0, all_ended_next es ws rs gs rows w r a ps h.1 e)
 
 -- so many of the workers have ended; of the editors those of later sites are left
 pub record Ending (editors : List EditorValue) (all left : List WorkerValue) (others : List EditorValue)
@@ -63,7 +67,8 @@ ending_first editors all rs gs rows e f g =
     record {
       done = [];
       splits = refl;
-      ended = subst (λ (v : List ReplicaValue × List (List (List Answer)) × List (List PeerState)). AllEnded editors [] v.0 v.1 v.2)
+      ended = subst (λ (v : List ReplicaValue × List (List (List Answer)) × List (List PeerState)). AllEnded editors
+          [] v.0 v.1 v.2)
           (λ i. (sym e i, sym f i, sym g i)) tt;
       theirs = λ site l. refl;
     }
@@ -79,7 +84,8 @@ pub first_site : (editors : List EditorValue) (all left next : List WorkerValue)
     → IsAtHome editors (length all) (length v.done + 1) w
 first_site editors all left next others rs gs rows w room v e =
     let is : all ≡ v.done ++ w ∷ next = v.splits ∙ ap (λ (l : List WorkerValue). v.done ++ l) e in
-    room.sites (length v.done) w (ap (λ (l : List WorkerValue). slice_get l (length v.done)) is ∙ at_front v.done next w)
+    room.sites (length v.done) w (ap (λ (l : List WorkerValue). slice_get l (length v.done)) is
+    ∙ at_front v.done next w)
 
 pub joined_first : (editors : List EditorValue) (all left : List WorkerValue) (others : List EditorValue)
     (rs : List ReplicaValue) (gs : List (List (List Answer))) (rows : List (List PeerState))
@@ -101,7 +107,8 @@ kept s t [] n = refl
 kept s t (e ∷ es) n = at (nat_eq e.home s) (nat_eq e.home t) refl refl (kept s t es n)
   where
     at : (b c : Bool) → nat_eq e.home s ≡ b → nat_eq e.home t ≡ c → editors_of t (others_of s es) ≡ editors_of t es
-        → editors_of t (cond (not b) (e ∷ others_of s es) (others_of s es)) ≡ cond c (e ∷ editors_of t es) (editors_of t es)
+        → editors_of t (cond (not b) (e ∷ others_of s es) (others_of s es))
+        ≡ cond c (e ∷ editors_of t es) (editors_of t es)
     at true true p q rest = absurd (n (no_both e.home s t p q))
     at true false p q rest = rest
     at false true p q rest =
@@ -130,7 +137,8 @@ ending_next editors all left next others fewer rs qs gs hs rows more room v n =
     record {
       done = v.done ++ w ∷ [];
       splits = v.splits ∙ ap (λ (l : List WorkerValue). v.done ++ l) n.first ∙ sym (append_assoc v.done (w ∷ []) next);
-      ended = subst (λ (x : List ReplicaValue × List (List (List Answer)) × List (List PeerState)). AllEnded editors (v.done ++ w ∷ []) x.0 x.1 x.2)
+      ended = subst (λ (x : List ReplicaValue × List (List (List Answer)) × List (List PeerState)). AllEnded editors
+          (v.done ++ w ∷ []) x.0 x.1 x.2)
           (λ i. (sym n.one i, sym n.its i, sym n.row i))
           (all_ended_next editors v.done rs gs rows w n.replica n.answers n.peers v.ended ended);
       theirs = λ site l.
@@ -161,7 +169,8 @@ accounts (r ∷ rs) [] = []
 accounts (r ∷ rs) (ps ∷ rows) = account r ps ∷ accounts rs rows
 
 module _ (es : List EditorValue) where
-  rows_later : (ws : List WorkerValue) (rs : List ReplicaValue) (gs : List (List (List Answer))) (rows : List (List PeerState))
+  rows_later : (ws : List WorkerValue) (rs : List ReplicaValue) (gs : List (List (List Answer)))
+      (rows : List (List PeerState))
       → AllEnded es ws rs gs rows
       → AllZip (λ (ps qs : List PeerState). AllZip LaterPeer ps qs) (map (λ (w : WorkerValue). w.peers) ws) rows
   rows_later [] [] [] [] h = tt
@@ -173,9 +182,11 @@ module _ (es : List EditorValue) where
   rows_later (w ∷ ws) (r ∷ rs) (x ∷ gs) [] h = absurd h
   rows_later (w ∷ ws) (r ∷ rs) (x ∷ gs) (ps ∷ rows) h = (h.0.later, rows_later ws rs gs rows h.1)
 
-  pub lengths : (ws : List WorkerValue) (rs : List ReplicaValue) (gs : List (List (List Answer))) (rows : List (List PeerState))
+  pub lengths : (ws : List WorkerValue) (rs : List ReplicaValue) (gs : List (List (List Answer)))
+      (rows : List (List PeerState))
       → AllEnded es ws rs gs rows
-      → (length rs ≡ length ws) × (length rows ≡ length ws) × (length (accounts rs rows) ≡ length ws) × (length gs ≡ length ws)
+      → (length rs ≡ length ws) × (length rows ≡ length ws) × (length (accounts rs rows) ≡ length ws)
+      × (length gs ≡ length ws)
   lengths [] [] [] [] h = (refl, refl, refl, refl)
   lengths [] [] [] (ps ∷ rows) h = absurd h
   lengths [] [] (x ∷ gs) rows h = absurd h
@@ -186,13 +197,15 @@ module _ (es : List EditorValue) where
   lengths (w ∷ ws) (r ∷ rs) (x ∷ gs) (ps ∷ rows) h =
       let k = lengths ws rs gs rows h.1 in (ap suc k.0, ap suc k.1, ap suc k.2, ap suc k.3)
 
-  pub linked_rows : (ws : List WorkerValue) (rs : List ReplicaValue) (gs : List (List (List Answer))) (rows : List (List PeerState))
+  pub linked_rows : (ws : List WorkerValue) (rs : List ReplicaValue) (gs : List (List (List Answer)))
+      (rows : List (List PeerState))
       → AllEnded es ws rs gs rows → AreOfOneRoom ws es → AllMatch Linked (length rows) rows
   linked_rows ws rs gs rows h room =
       subst (λ (k : ℕ). AllMatch Linked k rows) (sym (lengths ws rs gs rows h).1)
       (all_linked (length ws) (map (λ (w : WorkerValue). w.peers) ws) rows (rows_later ws rs gs rows h) room.linked)
 
-  family_is : (ws : List WorkerValue) (rs : List ReplicaValue) (gs : List (List (List Answer))) (rows : List (List PeerState))
+  family_is : (ws : List WorkerValue) (rs : List ReplicaValue) (gs : List (List (List Answer)))
+      (rows : List (List PeerState))
       → AllEnded es ws rs gs rows → family_of (accounts rs rows) ≡ map (λ (r : ReplicaValue). r.entries) rs
   family_is [] [] [] [] h = refl
   family_is [] [] [] (ps ∷ rows) h = absurd h
@@ -201,9 +214,11 @@ module _ (es : List EditorValue) where
   family_is (w ∷ ws) [] gs rows h = absurd h
   family_is (w ∷ ws) (r ∷ rs) [] rows h = absurd h
   family_is (w ∷ ws) (r ∷ rs) (x ∷ gs) [] h = absurd h
-  family_is (w ∷ ws) (r ∷ rs) (x ∷ gs) (ps ∷ rows) h = ap (λ (l : List History). r.entries ∷ l) (family_is ws rs gs rows h.1)
+  family_is (w ∷ ws) (r ∷ rs) (x ∷ gs) (ps ∷ rows) h =
+      ap (λ (l : List History). r.entries ∷ l) (family_is ws rs gs rows h.1)
 
-  peers_are : (ws : List WorkerValue) (rs : List ReplicaValue) (gs : List (List (List Answer))) (rows : List (List PeerState))
+  peers_are : (ws : List WorkerValue) (rs : List ReplicaValue) (gs : List (List (List Answer)))
+      (rows : List (List PeerState))
       → AllEnded es ws rs gs rows
       → rows_of (accounts rs rows) ≡ map (λ (ps : List PeerState). map (λ (p : PeerState). peer_of p) ps) rows
   peers_are [] [] [] [] h = refl
@@ -216,7 +231,8 @@ module _ (es : List EditorValue) where
   peers_are (w ∷ ws) (r ∷ rs) (x ∷ gs) (ps ∷ rows) h =
       ap (λ (l : List (List PeerValue)). map (λ (p : PeerState). peer_of p) ps ∷ l) (peers_are ws rs gs rows h.1)
 
-  pub all_go_on : (ws : List WorkerValue) (rs : List ReplicaValue) (gs : List (List (List Answer))) (rows : List (List PeerState))
+  pub all_go_on : (ws : List WorkerValue) (rs : List ReplicaValue) (gs : List (List (List Answer)))
+      (rows : List (List PeerState))
       → AllEnded es ws rs gs rows → AllZip GoesOn ws rs
   all_go_on [] [] [] [] h = tt
   all_go_on [] [] [] (ps ∷ rows) h = absurd h
@@ -228,7 +244,8 @@ module _ (es : List EditorValue) where
   all_go_on (w ∷ ws) (r ∷ rs) (x ∷ gs) (ps ∷ rows) h =
       (record { grown = h.0.left.grown; done = h.0.done }, all_go_on ws rs gs rows h.1)
 
-  pub all_looked : (ws : List WorkerValue) (rs : List ReplicaValue) (gs : List (List (List Answer))) (rows : List (List PeerState))
+  pub all_looked : (ws : List WorkerValue) (rs : List ReplicaValue) (gs : List (List (List Answer)))
+      (rows : List (List PeerState))
       → AllEnded es ws rs gs rows → AllZip (AreLooked es) ws rs
   all_looked [] [] [] [] h = tt
   all_looked [] [] [] (ps ∷ rows) h = absurd h
@@ -255,7 +272,8 @@ firsts_told (p ∷ ps) ((q ∷ qs) ∷ rows) m = (m.0, firsts_told ps rows m.1)
 rests_told : (rows : List (List PeerState)) → map (drop 1) (told_rows rows) ≡ told_rows (map (drop 1) rows)
 rests_told [] = refl
 rests_told ([] ∷ rows) = ap (λ (l : List (List PeerValue)). [] ∷ l) (rests_told rows)
-rests_told ((p ∷ ps) ∷ rows) = ap (λ (l : List (List PeerValue)). map (λ (q : PeerState). peer_of q) ps ∷ l) (rests_told rows)
+rests_told ((p ∷ ps) ∷ rows) = ap (λ (l : List (List PeerValue)). map (λ (q : PeerState). peer_of q) ps ∷ l)
+    (rests_told rows)
 
 all_told : (k : ℕ) (rows : List (List PeerState)) → AllMatch PeersMet k rows → AllMatch Met k (told_rows rows)
 all_told zero rows m = m
@@ -281,10 +299,12 @@ is_account w es r a ps n e size =
       legal = subst (λ (k : ℕ). IsLegal r.machine.site k r.entries) size e.left.replica.legal;
       peers = sites_told ps ∙ c.numbers ∙ ap (λ (k : ℕ). others k r.machine.site) size;
       welcome = subst (λ (k : ℕ). TakesWelcome r.machine.site k (start r.machine.site k) r.entries) size c.welcome;
-      hears = all_under (λ (p : PeerState). Hears r.entries (peer_of p)) (Hears r.entries) (λ (p : PeerState). peer_of p) ps
+      hears = all_under (λ (p : PeerState). Hears r.entries (peer_of p)) (Hears r.entries)
+          (λ (p : PeerState). peer_of p) ps
           (λ p h. h) c.hears;
       tells = subst (λ (m : Machine). AllByRecursion (Tells m.sent) (map (λ (p : PeerState). peer_of p) ps)) (sym is)
-          (all_under (λ (p : PeerState). Serves r.machine.sent p) (Tells r.machine.sent) (λ (p : PeerState). peer_of p) ps
+          (all_under (λ (p : PeerState). Serves r.machine.sent p) (Tells r.machine.sent)
+          (λ (p : PeerState). peer_of p) ps
           (λ p h. h.tells) c.serves);
     }
 
@@ -342,10 +362,26 @@ account_at es (w ∷ ws) [] gs rows h place a e = absurd h
 account_at es (w ∷ ws) (r ∷ rs) [] rows h place a e = absurd h
 account_at es (w ∷ ws) (r ∷ rs) (x ∷ gs) [] h place a e = absurd h
 account_at es (w ∷ ws) (r ∷ rs) (x ∷ gs) (ps ∷ rows) h zero a e =
-    record { worker = w; replica = r; answers = x; peers = ps; found = refl; ended = h.0; is = sym (some_same (account r ps) a e) }
+    record {
+      worker = w;
+      replica = r;
+      answers = x;
+      peers = ps;
+      found = refl;
+      ended = h.0;
+      is = sym (some_same (account r ps) a e);
+    }
 account_at es (w ∷ ws) (r ∷ rs) (x ∷ gs) (ps ∷ rows) h (suc place) a e =
     let k = account_at es ws rs gs rows h.1 place a e in
-    record { worker = k.worker; replica = k.replica; answers = k.answers; peers = k.peers; found = k.found; ended = k.ended; is = k.is }
+    record {
+      worker = k.worker;
+      replica = k.replica;
+      answers = k.answers;
+      peers = k.peers;
+      found = k.found;
+      ended = k.ended;
+      is = k.is;
+    }
 
 module _ (es : List EditorValue) (ws : List WorkerValue) (rs : List ReplicaValue) (gs : List (List (List Answer)))
     (rows : List (List PeerState)) (room : AreOfOneRoom ws es) (h : AllEnded es ws rs gs rows) where
@@ -365,8 +401,10 @@ module _ (es : List EditorValue) (ws : List WorkerValue) (rs : List ReplicaValue
   settled m =
       let n : length (accounts rs rows) ≡ length ws = (lengths es ws rs gs rows h).2 in
       let met : AllMatch Met (length (accounts rs rows)) (rows_of (accounts rs rows)) =
-      subst (λ (v : List (List PeerValue)). AllMatch Met (length (accounts rs rows)) v) (sym (peers_are es ws rs gs rows h))
-      (subst (λ (k : ℕ). AllMatch Met k (told_rows rows)) ((lengths es ws rs gs rows h).1 ∙ sym n) (all_told (length rows) rows m)) in
+      subst (λ (v : List (List PeerValue)). AllMatch Met (length (accounts rs rows)) v)
+      (sym (peers_are es ws rs gs rows h))
+      (subst (λ (k : ℕ). AllMatch Met k (told_rows rows)) ((lengths es ws rs gs rows h).1 ∙ sym n)
+      (all_told (length rows) rows m)) in
       record {
         some = subst (λ (k : ℕ). 0 < k) (sym n) room.some;
         few = subst (λ (k : ℕ). k ≤ MAX_SITE) (sym n) room.few;
@@ -375,7 +413,8 @@ module _ (es : List EditorValue) (ws : List WorkerValue) (rs : List ReplicaValue
       }
 
   pub closed : AllMatch PeersMet (length rows) rows → IsConsistent (map (λ (r : ReplicaValue). r.entries) rs)
-  closed m = subst (λ (f : Family). IsConsistent f) (family_is es ws rs gs rows h) (consistent (accounts rs rows) (settled m))
+  closed m = subst (λ (f : Family). IsConsistent f) (family_is es ws rs gs rows h)
+      (consistent (accounts rs rows) (settled m))
 
   pub closed_sites : AreSites rs
   closed_sites place few =

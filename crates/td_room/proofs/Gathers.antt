@@ -1,5 +1,7 @@
 -- The answers of all sites, put in the order of the editors.
-use Rattle.std.proofs.Common.{◌≡◌, ◌≢◌, ◌<◌, ◌≤◌, ◌+◌, ◌-◌, ◌++◌, ℕ, zero, suc, List, [], ◌∷◌, Bool, true, false, cond, nat_eq, length, map, drop, take, set, get_or, refl, sym, ap, ◌∙◌, subst, append_assoc, append-nil, arith}
+use Rattle.std.proofs.Common.{◌≡◌, ◌≢◌, ◌<◌, ◌≤◌, ◌+◌, ◌-◌, ◌++◌, ℕ, zero, suc, List, [], ◌∷◌, Bool}
+use Rattle.std.proofs.Common.{true, false, cond, nat_eq, length, map, drop, take, set, get_or, refl, sym}
+use Rattle.std.proofs.Common.{ap, ◌∙◌, subst, append_assoc, append-nil, arith}
 use Rattle.std.proofs.lemmas.Bool.Decides.{nat_tests}
 use Rattle.std.specs.List.{AllByRecursion, AllZip}
 use Rattle.td_line.specs.declared.answer.Answer.{Answer}
@@ -26,7 +28,8 @@ elsewhere (suc k) zero (b ∷ bs) n = refl
 elsewhere (suc k) (suc p) (b ∷ bs) n = elsewhere k p bs (λ e. n (ap suc e))
 
 -- where answers are put for the first of some editors, they are the first that are left
-record Taken (S : EditorValue → List Answer → Type 0) (e : EditorValue) (es : List EditorValue) (k : ℕ) (bs : Sites) : Type 0 where
+record Taken (S : EditorValue → List Answer → Type 0) (e : EditorValue) (es : List EditorValue) (k : ℕ)
+    (bs : Sites) : Type 0 where
   has : HasFirst k bs
   first : S e (first_at k bs)
   rest : AllZip S es (get_or (without_first k bs) k [])
@@ -98,7 +101,8 @@ module _ (R : ℕ → EditorValue → List Answer → Type 0) where
           let m = test_other e.home (q + 1) k in
           let apart : q ≢ p = λ g. m (h ∙ ap (λ (x : ℕ). x + 1) (sym g)) in
           subst (λ (b : List (List Answer)). AllZip (R q) (editors_of (q + 1) es) b) (sym (elsewhere p q bs apart))
-          (subst (λ (b : Bool). AllZip (R q) (cond b (e ∷ editors_of (q + 1) es) (editors_of (q + 1) es)) (get_or bs q [])) k
+          (subst (λ (b : Bool). AllZip (R q) (cond b (e ∷ editors_of (q + 1) es) (editors_of (q + 1) es))
+          (get_or bs q [])) k
           (f.zips q l))
 
   back_next : (p : ℕ) (e : EditorValue) (es : List EditorValue) (bs : Sites) → e.home ≡ p + 1

@@ -1,5 +1,6 @@
 -- A site and a peer, step by step.
-use Rattle.std.proofs.Common.{◌≡◌, ◌<◌, ◌≤◌, ◌+◌, ◌++◌, ℕ, List, [], ◌∷◌, Option, Some, None, refl, sym, ap, ◌∙◌, subst, append-nil}
+use Rattle.std.proofs.Common.{◌≡◌, ◌<◌, ◌≤◌, ◌+◌, ◌++◌, ℕ, List, [], ◌∷◌, Option, Some}
+use Rattle.std.proofs.Common.{None, refl, sym, ap, ◌∙◌, subst, append-nil}
 use Rattle.std.specs.Option.{option_to_list}
 use Rattle.td_op.specs.declared.entry.Entry.{Entry}
 use Rattle.td_op.specs.declared.input.Input.{Input}
@@ -92,7 +93,8 @@ heard_then s t u p q r a b =
       locals = locals_then s t u a.locals b.locals;
     }
 
-pub heard_packet : (s : SiteValue) (p q : PeerState) → LaterPeer p q → q ≡ record p { inbox = q.inbox; waiting = q.waiting }
+pub heard_packet : (s : SiteValue) (p q : PeerState) → LaterPeer p q → q
+    ≡ record p { inbox = q.inbox; waiting = q.waiting }
     → ((entries : History) → Hears entries (peer_of p) → Hears entries (peer_of q)) → Heard s p s q
 heard_packet s p q later kept hears =
     record {
@@ -108,7 +110,8 @@ heard_packet s p q later kept hears =
 -- the message that waited is taken
 pub heard_take : (s t : SiteValue) (p q : PeerState) (m : Message) → IsReplica s.replica → LaterSite s t
     → t.replica ≡ after_step (Take m) s.replica → q ≡ record p { waiting = None }
-    → p.own ≡ s.replica.machine.site → p.waiting ≡ Some m → sender m ≡ p.site → known_of p.own m ≤ made s.replica.machine
+    → p.own ≡ s.replica.machine.site → p.waiting ≡ Some m → sender m ≡ p.site
+    → known_of p.own m ≤ made s.replica.machine
     → Heard s p t q
 heard_take s t p q m i later replica is own waits from known =
     subst (λ (x : PeerState). Heard s p t x) (sym is) there
@@ -125,18 +128,24 @@ heard_take s t p q m i later replica is own waits from known =
           hears = λ h.
               let now : takes_from p.site t.replica.entries ≡ takes_from p.site s.replica.entries ++ m ∷ [] =
               step_takes s t (Take m) i later replica p.site
-              ∙ takes_own p.site s.replica.entries (record { input = Take m; reply = (step s.replica.machine (Take m)).reply }) m refl from in
+              ∙ takes_own p.site s.replica.entries (record {
+                input = Take m;
+                reply = (step s.replica.machine (Take m)).reply;
+              }) m refl from in
               let done : ArePackets (takes_from p.site s.replica.entries ++ m ∷ []) (packets p.inbox.taken) =
-              subst (λ (o : Option Message). ArePackets (takes_from p.site s.replica.entries ++ option_to_list o) (packets p.inbox.taken)) waits h in
+              subst (λ (o : Option Message). ArePackets (takes_from p.site s.replica.entries ++ option_to_list o)
+              (packets p.inbox.taken)) waits h in
               subst (λ (l : List Message). ArePackets l (packets p.inbox.taken))
               (sym (append-nil (takes_from p.site t.replica.entries) ∙ now)) done;
           others = λ number other.
               step_takes s t (Take m) i later replica number
-              ∙ takes_other number s.replica.entries (record { input = Take m; reply = (step s.replica.machine (Take m)).reply }) m refl
+              ∙ takes_other number s.replica.entries (record
+              { input = Take m; reply = (step s.replica.machine (Take m)).reply }) m refl
               (λ f. other (sym f ∙ from));
           welcome = λ some within other.
               step_welcome s t (Take m) i later replica
-              (λ n same. subst (λ (x : Message). IsWelcome s.replica.machine.site s.replica.machine.size s.replica.machine x) (one m n same)
+              (λ n same. subst (λ (x : Message). IsWelcome s.replica.machine.site s.replica.machine.size
+              s.replica.machine x) (one m n same)
               (record {
                 some = subst (λ (k : ℕ). 0 < k) (sym from) some;
                 within = subst (λ (k : ℕ). k ≤ s.replica.machine.size) (sym from) within;

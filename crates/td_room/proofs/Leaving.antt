@@ -49,14 +49,17 @@ left w editors t u answers readers c one only two nexts i still answered counted
       site = later.site;
       size = later.size;
       replica = i;
-      connected = connected_on t u w.peers (nexts_went t u two nexts) (connected_on w.site t w.peers (locals_went w.site t one only) c);
+      connected = connected_on t u w.peers (nexts_went t u two nexts)
+          (connected_on w.site t w.peers (locals_went w.site t one only) c);
       still = still;
       grown = later.entries;
-      answered = zip_on (IsAnswered t.replica) (IsAnswered u.replica) editors answers (answered_on t.replica u.replica two.entries) answered;
+      answered = zip_on (IsAnswered t.replica) (IsAnswered u.replica) editors answers
+          (answered_on t.replica u.replica two.entries) answered;
       only = λ k. counted k ∙ sym (nexts_locals t u nexts k);
       looks = record {
         publishes = whole;
-        goes_on = prefix_then w.site.writer.publishes u.writer.publishes whole later.publishes (again u.writer.shown 1 ∷ [], refl);
+        goes_on = prefix_then w.site.writer.publishes u.writer.publishes whole later.publishes
+            (again u.writer.shown 1 ∷ [], refl);
         looks_true = ends_true u.replica u.writer.publishes u.writer.shown ends true;
         seen = of_editors (λ (r : ReaderValue). IsPrefix r.seen whole) editors readers same seen;
       };
@@ -99,12 +102,14 @@ ended w v editors r answers peers later given l same =
         only = l.only;
         looks = record {
           publishes = l.looks.publishes;
-          goes_on = prefix_then w.site.writer.publishes v.site.writer.publishes l.looks.publishes later.site.publishes l.looks.goes_on;
+          goes_on = prefix_then w.site.writer.publishes v.site.writer.publishes l.looks.publishes later.site.publishes
+              l.looks.goes_on;
           looks_true = l.looks.looks_true;
           seen = l.looks.seen;
         };
       };
       later = subst (λ (ps : List PeerState). AllZip LaterPeer w.peers ps) (sym same) later.peers;
       done = peers_done w v r w.peers v.peers later.site l.grown l.site l.size given
-          (subst (λ (ps : List PeerState). AllByRecursion (λ (q : PeerState). Hears r.entries (peer_of q)) ps) same l.connected.hears);
+          (subst (λ (ps : List PeerState). AllByRecursion (λ (q : PeerState). Hears r.entries (peer_of q)) ps) same
+          l.connected.hears);
     }

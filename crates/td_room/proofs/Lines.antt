@@ -1,5 +1,6 @@
 -- Lines end one after another.
-use Rattle.std.proofs.Common.{◌≡◌, ◌<◌, ◌+◌, ◌++◌, ℕ, List, [], ◌∷◌, length, map, refl, sym, ap, ◌∙◌, subst, append-nil, append_assoc, arith, remove, get_or}
+use Rattle.std.proofs.Common.{◌≡◌, ◌<◌, ◌+◌, ◌++◌, ℕ, List, [], ◌∷◌, length, map, refl, sym, ap, ◌∙◌}
+use Rattle.std.proofs.Common.{subst, append-nil, append_assoc, arith, remove, get_or}
 use Rattle.std.specs.List.{AllByRecursion, AllZip}
 use mathlib.Core.List.{IsPrefix}
 use Rattle.logbook.specs.Pages.{Book}
@@ -24,7 +25,8 @@ pub only_self : (h : History) → OnlyLocals h h
 only_self h = record { more = []; added = sym (append-nil h); local = tt }
 
 both : (xs ys : History) → AllByRecursion (λ (e : Entry). local_in e.input ≡ 1) xs
-    → AllByRecursion (λ (e : Entry). local_in e.input ≡ 1) ys → AllByRecursion (λ (e : Entry). local_in e.input ≡ 1) (xs ++ ys)
+    → AllByRecursion (λ (e : Entry). local_in e.input ≡ 1) ys
+    → AllByRecursion (λ (e : Entry). local_in e.input ≡ 1) (xs ++ ys)
 both [] ys h k = k
 both (x ∷ xs) ys h k = (h.0, both xs ys h.1 k)
 
@@ -72,7 +74,8 @@ lines_first editors s lines answers readers h j e f =
       watching = f;
     }
 
-all_snoc : (k : ℕ) (all : List (List Answer)) (a : List Answer) → all_at k (all ++ a ∷ []) ≡ all_at k all + answers_at k a
+all_snoc : (k : ℕ) (all : List (List Answer)) (a : List Answer) → all_at k (all ++ a ∷ [])
+    ≡ all_at k all + answers_at k a
 all_snoc k [] a = omega arith
 all_snoc k (x ∷ all) a = omega (arith, all_snoc k all a)
 
@@ -81,32 +84,44 @@ map_snoc : (es : List EditorValue) (e : EditorValue)
 map_snoc [] e = refl
 map_snoc (x ∷ es) e = ap (λ (l : List ReaderValue). x.reader ∷ l) (map_snoc es e)
 
-joined_on : (views other : Book) → other ≡ views → (l : LineValue) (e : EditorValue) → Joined views l e → Joined other l e
+joined_on : (views other : Book) → other ≡ views → (l : LineValue) (e : EditorValue) → Joined views l e
+    → Joined other l e
 joined_on views other same l e j = subst (λ (v : Book). Joined v l e) (sym same) j
 
 pub lines_next : (editors : List EditorValue) (s t : SiteValue) (lines left : List LineValue) (es fs : List EditorValue)
-    (answers more : List (List Answer)) (readers watching : List ReaderValue) → LinesEnd editors s lines es answers readers
-    → EndedLine s t lines left es fs answers more readers watching → LaterSite s t → LinesEnd editors t left fs more watching
+    (answers more : List (List Answer)) (readers watching : List ReaderValue)
+    → LinesEnd editors s lines es answers readers
+    → EndedLine s t lines left es fs answers more readers watching → LaterSite s t
+    → LinesEnd editors t left fs more watching
 lines_next editors s t lines left es fs answers more readers watching v o later =
-    let served = (subst (λ (w : List LineValue). AllByRecursion (λ (l : LineValue). HasServed s.replica.entries l) w) o.first_line v.served).1 in
-    let joined = (subst (λ (w : List LineValue × List EditorValue). AllZip (Joined s.writer.views) w.0 w.1) (λ i. (o.first_line i, o.first_editor i)) v.joined).1 in
+    let served = (subst (λ (w : List LineValue). AllByRecursion (λ (l : LineValue). HasServed s.replica.entries l) w)
+    o.first_line v.served).1 in
+    let joined = (subst (λ (w : List LineValue × List EditorValue). AllZip (Joined s.writer.views) w.0 w.1)
+    (λ i. (o.first_line i, o.first_editor i)) v.joined).1 in
     record {
-      served = all_map (λ (l : LineValue). HasServed s.replica.entries l) (λ (l : LineValue). HasServed t.replica.entries l) left
+      served = all_map (λ (l : LineValue). HasServed s.replica.entries l)
+          (λ (l : LineValue). HasServed t.replica.entries l) left
           (λ l. served_on s.replica.entries t.replica.entries l later.entries) served;
       counted = λ k.
           let c1 : given_at k lines ≡ answers_at k o.line.given + given_at k left = ap (given_at k) o.first_line in
-          let c2 : all_at k more ≡ all_at k answers + answers_at k o.answers = ap (all_at k) o.next_answers ∙ all_snoc k answers o.answers in
+          let c2 : all_at k more ≡ all_at k answers + answers_at k o.answers = ap (all_at k) o.next_answers
+          ∙ all_snoc k answers o.answers in
           let c3 = v.counted k in
           let c4 = o.counts k in
           omega arith;
-      joined = zip_on (Joined s.writer.views) (Joined t.writer.views) left fs (joined_on s.writer.views t.writer.views later.views) joined;
+      joined = zip_on (Joined s.writer.views) (Joined t.writer.views) left fs
+          (joined_on s.writer.views t.writer.views later.views) joined;
       done = v.done ++ o.editor ∷ [];
-      splits = v.splits ∙ ap (λ (w : List EditorValue). v.done ++ w) o.first_editor ∙ sym (append_assoc v.done (o.editor ∷ []) fs);
-      answered = subst (λ (w : List (List Answer)). AllZip (IsAnswered t.replica) (v.done ++ o.editor ∷ []) w) (sym o.next_answers)
+      splits = v.splits ∙ ap (λ (w : List EditorValue). v.done ++ w) o.first_editor
+          ∙ sym (append_assoc v.done (o.editor ∷ []) fs);
+      answered = subst (λ (w : List (List Answer)). AllZip (IsAnswered t.replica) (v.done ++ o.editor ∷ []) w)
+          (sym o.next_answers)
           (zip_snoc (IsAnswered t.replica) v.done answers o.editor o.answers
-          (zip_on (IsAnswered s.replica) (IsAnswered t.replica) v.done answers (answered_on s.replica t.replica later.entries) v.answered)
+          (zip_on (IsAnswered s.replica) (IsAnswered t.replica) v.done answers
+          (answered_on s.replica t.replica later.entries) v.answered)
           o.answered);
-      watching = o.next_reader ∙ ap (λ (w : List ReaderValue). w ++ o.editor.reader ∷ []) v.watching ∙ sym (map_snoc v.done o.editor);
+      watching = o.next_reader ∙ ap (λ (w : List ReaderValue). w ++ o.editor.reader ∷ []) v.watching
+          ∙ sym (map_snoc v.done o.editor);
     }
 
 none_left : (views : Book) (es : List EditorValue) → AllZip (Joined views) [] es → es ≡ []
@@ -117,7 +132,8 @@ nothing : (lines : List LineValue) → length lines ≡ 0 → lines ≡ []
 nothing [] e = refl
 nothing (l ∷ lines) e = absurd (omega (arith, e))
 
-pub record LinesEnded (editors : List EditorValue) (s : SiteValue) (answers : List (List Answer)) (readers : List ReaderValue)
+pub record LinesEnded (editors : List EditorValue) (s : SiteValue) (answers : List (List Answer))
+    (readers : List ReaderValue)
     : Type 0 where
   pub answered : AllZip (IsAnswered s.replica) editors answers
   pub counted : (k : ℕ) → all_at k answers ≡ local_at s.replica.entries k
@@ -128,7 +144,8 @@ pub lines_last : (editors : List EditorValue) (s : SiteValue) (lines : List Line
     → LinesEnd editors s lines es answers readers → LinesEnded editors s answers readers
 lines_last editors s lines es answers readers none v =
     let n = nothing lines none in
-    let m = none_left s.writer.views es (subst (λ (w : List LineValue). AllZip (Joined s.writer.views) w es) n v.joined) in
+    let m = none_left s.writer.views es (subst (λ (w : List LineValue). AllZip (Joined s.writer.views) w es) n
+    v.joined) in
     let all : editors ≡ v.done = v.splits ∙ ap (λ (w : List EditorValue). v.done ++ w) m ∙ append-nil v.done in
     record {
       answered = subst (λ (w : List EditorValue). AllZip (IsAnswered s.replica) w answers) (sym all) v.answered;
@@ -145,12 +162,14 @@ some_editor views [] es z h = absurd (omega (arith, h))
 some_editor views (l ∷ lines) [] z h = absurd z
 some_editor views (l ∷ lines) (e ∷ es) z h = omega arith
 
-pub first_out : {A : Type 0} (xs ys : List A) (x : A) → 0 < length xs → x ≡ get_or xs 0 x → ys ≡ remove xs 0 → xs ≡ x ∷ ys
+pub first_out : {A : Type 0} (xs ys : List A) (x : A) → 0 < length xs → x ≡ get_or xs 0 x → ys ≡ remove xs 0 → xs
+    ≡ x ∷ ys
 first_out [] ys x h e r = absurd (omega (arith, h))
 first_out (z ∷ zs) ys x h e r = λ i. sym e i ∷ sym r i
 
 -- the first of the lines and its editor
-pub first_joined : (views : Book) (lines left : List LineValue) (es fs : List EditorValue) (l : LineValue) (e : EditorValue)
+pub first_joined : (views : Book) (lines left : List LineValue) (es fs : List EditorValue) (l : LineValue)
+    (e : EditorValue)
     → lines ≡ l ∷ left → es ≡ e ∷ fs → AllZip (Joined views) lines es → Joined views l e
 first_joined views lines left es fs l e p q z =
     (subst (λ (w : List LineValue × List EditorValue). AllZip (Joined views) w.0 w.1) (λ i. (p i, q i)) z).0

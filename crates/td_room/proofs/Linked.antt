@@ -9,7 +9,8 @@ use Rattle.td_peer.proofs.Later.{linked_later}
 abbrev pub LaterRows : List (List PeerState) → List (List PeerState) → Type 0
 LaterRows rows after = AllZip (λ (ps qs : List PeerState). AllZip LaterPeer ps qs) rows after
 
-firsts_later : (ps qs : List PeerState) (rows after : List (List PeerState)) → AllZip LaterPeer ps qs → LaterRows rows after
+firsts_later : (ps qs : List PeerState) (rows after : List (List PeerState)) → AllZip LaterPeer ps qs
+    → LaterRows rows after
     → MatchesFirsts Linked ps rows → MatchesFirsts Linked qs after
 firsts_later [] [] [] [] a r m = m
 firsts_later [] [] [] (s ∷ after) a r m = absurd r
@@ -23,7 +24,8 @@ firsts_later (p ∷ ps) (q ∷ qs) ((x ∷ xs) ∷ rows) ([] ∷ after) a r m = 
 firsts_later (p ∷ ps) (q ∷ qs) ((x ∷ xs) ∷ rows) ((y ∷ ys) ∷ after) a r m =
     (linked_later p x q y a.0 r.0.0 m.0, firsts_later ps qs rows after a.1 r.1 m.1)
 
-rests_later : (rows after : List (List PeerState)) → LaterRows rows after → LaterRows (map (drop 1) rows) (map (drop 1) after)
+rests_later : (rows after : List (List PeerState)) → LaterRows rows after
+    → LaterRows (map (drop 1) rows) (map (drop 1) after)
 rests_later [] [] r = r
 rests_later [] (y ∷ after) r = absurd r
 rests_later (x ∷ rows) [] r = absurd r

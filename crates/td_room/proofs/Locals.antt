@@ -1,5 +1,6 @@
 -- Histories that go on: what is recorded stays recorded, and requests alone change nothing of what was taken.
-use Rattle.std.proofs.Common.{◌≡◌, ◌+◌, ◌++◌, ℕ, zero, suc, List, [], ◌∷◌, Some, slice_get, refl, sym, ap, ◌∙◌, subst, append-nil, append_assoc}
+use Rattle.std.proofs.Common.{◌≡◌, ◌+◌, ◌++◌, ℕ, zero, suc, List, [], ◌∷◌, Some, slice_get, refl}
+use Rattle.std.proofs.Common.{sym, ap, ◌∙◌, subst, append-nil, append_assoc}
 use Rattle.std.specs.List.{AllByRecursion}
 use mathlib.Core.List.{IsPrefix}
 use Rattle.td_op.specs.declared.entry.Entry.{Entry}
@@ -37,7 +38,8 @@ local_more entries e none (suc k) = at entries k
 abbrev TakesNone : Entry → Type 0
 TakesNone e = (message : Message) → e.input ≡ Take message → ⊥
 
-taken_none : (number : ℕ) (input : Input) → ((message : Message) → input ≡ Take message → ⊥) → taken_in number input ≡ []
+taken_none : (number : ℕ) (input : Input) → ((message : Message) → input ≡ Take message → ⊥) → taken_in number input
+    ≡ []
 taken_none number (Local request) none = refl
 taken_none number (Take message) none = absurd (none message refl)
 taken_none number Next none = refl
@@ -46,7 +48,8 @@ takes_more : (number : ℕ) (old more : History) → AllByRecursion TakesNone mo
     → takes_from number (old ++ more) ≡ takes_from number old
 takes_more number [] [] h = refl
 takes_more number [] (e ∷ more) h =
-    ap (λ (ms : List Message). ms ++ takes_from number more) (taken_none number e.input h.0) ∙ takes_more number [] more h.1
+    ap (λ (ms : List Message). ms ++ takes_from number more) (taken_none number e.input h.0)
+    ∙ takes_more number [] more h.1
 takes_more number (e ∷ old) more h =
     ap (λ (ms : List Message). taken_in number e.input ++ ms) (takes_more number old more h)
 
@@ -81,7 +84,8 @@ no_take Next message e f = absurd (cc f)
 pub locals_went : (s t : SiteValue) → LaterSite s t → OnlyLocals s.replica.entries t.replica.entries → Went s t
 locals_went s t later only =
     went s t only.more later (sym only.added)
-    (all_map (λ (e : Entry). local_in e.input ≡ 1) TakesNone only.more (λ e one message f. no_take e.input message one f) only.local)
+    (all_map (λ (e : Entry). local_in e.input ≡ 1) TakesNone only.more
+    (λ e one message f. no_take e.input message one f) only.local)
 
 -- ---- by what waited alone
 
@@ -105,7 +109,8 @@ nexts_locals s t only k =
 
 -- ---- what is recorded
 
-entry_stays : (entries more : History) (k : ℕ) (e : Entry) → entry_at entries k ≡ Some e → entry_at (entries ++ more) k ≡ Some e
+entry_stays : (entries more : History) (k : ℕ) (e : Entry) → entry_at entries k ≡ Some e
+    → entry_at (entries ++ more) k ≡ Some e
 entry_stays entries more zero e f = f
 entry_stays entries more (suc k) e f = at entries k f
   where
@@ -131,6 +136,7 @@ pub recorded_on : (entries next : History) (last : ℕ) (asks : List Ask) (answe
 recorded_on entries next last asks answers p h =
     subst (λ (w : History). AreRecorded w last asks answers) p.1 (recorded_more entries p.0 last asks answers h)
 
-pub served_on : (entries next : History) (l : LineValue) → IsPrefix entries next → HasServed entries l → HasServed next l
+pub served_on : (entries next : History) (l : LineValue) → IsPrefix entries next → HasServed entries l
+    → HasServed next l
 served_on entries next l p h =
     record { done = h.done; taken = h.taken; recorded = recorded_on entries next 0 h.done l.given p h.recorded }

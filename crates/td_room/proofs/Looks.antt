@@ -1,5 +1,6 @@
 -- The last looks.
-use Rattle.std.proofs.Common.{◌≡◌, ◌++◌, ◌-◌, ℕ, zero, suc, List, [], ◌∷◌, length, map, drop, refl, sym, ◌∙◌, subst, inl, get_or, arith}
+use Rattle.std.proofs.Common.{◌≡◌, ◌++◌, ◌-◌, ℕ, zero, suc, List, [], ◌∷◌, length, map, drop}
+use Rattle.std.proofs.Common.{refl, sym, ◌∙◌, subst, inl, get_or, arith}
 use Rattle.std.specs.List.{AllByRecursion, AllZip}
 use mathlib.Core.List.{IsPrefix}
 use Rattle.logbook.specs.Pages.{Book}
@@ -30,12 +31,14 @@ pub first_views : (views : Book) (left next : List ReaderValue) (r : ReaderValue
 first_views views left next r e h =
     (subst (λ (xs : List ReaderValue). AllByRecursion (λ (x : ReaderValue). x.views ≡ views) xs) e h).0
 
-pub seeing_next : (told : List Publish) (views : Book) (all left next : List ReaderValue) (r : ReaderValue) → left ≡ r ∷ next
+pub seeing_next : (told : List Publish) (views : Book) (all left next : List ReaderValue) (r : ReaderValue) → left
+    ≡ r ∷ next
     → SeenFrom told r → Seeing told views all left → Seeing told views all next
 seeing_next told views all left next r e s h =
     record {
       views_left =
-          (subst (λ (xs : List ReaderValue). AllByRecursion (λ (x : ReaderValue). x.views ≡ views) xs) e h.views_left).1;
+          (subst (λ (xs : List ReaderValue). AllByRecursion (λ (x : ReaderValue). x.views ≡ views) xs) e
+          h.views_left).1;
       back = λ k. h.back (subst (λ (xs : List ReaderValue). AllByRecursion (SeenFrom told) xs) (sym e) (s, k));
     }
 
@@ -58,7 +61,8 @@ pub seen_within : (views : Book) (log : List Publish) (shown : Publish) (r : Rea
     → SeenFrom (log ++ again shown 1 ∷ []) r → IsPrefix r.seen (log ++ again shown 1 ∷ [])
 seen_within views log shown r s =
     prefix_then r.seen s.last (log ++ again shown 1 ∷ []) s.seen
-    (told_within views log shown 1 (record { views = views; list = log ++ again shown 1 ∷ [] }) s.last (inl refl) s.goes_on s.legal)
+    (told_within views log shown 1 (record { views = views; list = log ++ again shown 1 ∷ [] }) s.last (inl refl)
+    s.goes_on s.legal)
 
 pub all_within : (views : Book) (log : List Publish) (shown : Publish) (told : List Publish) (rs : List ReaderValue)
     → told ≡ log ++ again shown 1 ∷ [] → AllByRecursion (SeenFrom told) rs
@@ -109,7 +113,8 @@ pub ends_true : (r : ReplicaValue) (log : List Publish) (shown : Publish) → En
     → AllByRecursion (IsTrueOf r) log → AllByRecursion (IsTrueOf r) (log ++ again shown 1 ∷ [])
 ends_true r log shown ends h =
     let last : IsTrueOf r shown =
-    (subst (λ (l : List Publish). AllByRecursion (IsTrueOf r) l) ends (all_dropped (IsTrueOf r) (length log - 1) log h)).0 in
+    (subst (λ (l : List Publish). AllByRecursion (IsTrueOf r) l) ends
+    (all_dropped (IsTrueOf r) (length log - 1) log h)).0 in
     all_put_last (IsTrueOf r) log (again shown 1) h (record { within = last.within; atoms = last.atoms })
 
 pub joined_watch : (views other : Book) (lines : List LineValue) (editors : List EditorValue) → other ≡ views

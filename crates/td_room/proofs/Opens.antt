@@ -1,5 +1,7 @@
 -- How a room is opened.
-use Rattle.std.proofs.Common.{◌≡◌, ◌≢◌, ◌<◌, ◌≤◌, ◌+◌, ◌++◌, ℕ, zero, suc, List, [], ◌∷◌, Bool, true, false, cond, nat_eq, length, map, take, drop, replicate, remove, set, get_or, slice_get, count_by, All, Some, refl, sym, ap, ◌∙◌, subst, append_assoc, append-nil, arith}
+use Rattle.std.proofs.Common.{◌≡◌, ◌≢◌, ◌<◌, ◌≤◌, ◌+◌, ◌++◌, ℕ, zero, suc, List, [], ◌∷◌, Bool, true, false, cond}
+use Rattle.std.proofs.Common.{nat_eq, length, map, take, drop, replicate, remove, set, get_or, slice_get, count_by}
+use Rattle.std.proofs.Common.{All, Some, refl, sym, ap, ◌∙◌, subst, append_assoc, append-nil, arith}
 use Rattle.std.proofs.lemmas.Bool.Decides.{nat_tests}
 use Rattle.std.specs.List.{AllByRecursion, AllZip}
 use Rattle.std.specs.Option.{option_to_list}
@@ -24,7 +26,8 @@ use Rattle.td_peer.specs.Opening.{IsFresh, IsFreshRow, AreFreshRows}
 use Rattle.td_peer.proofs.Later.{fresh_serves, fresh_hears}
 use Rattle.td_room.specs.Workers.{WorkerValue, IsConnected, IsServing, IsWorker, given_at}
 use Rattle.td_room.specs.Rooms.{IsAtHome, Joined, editors_of}
-use Rattle.td_room.specs.Opening.{numbers_of, AreNewWorkers, IsOpened, AreOpened, IsRoom, IsOpen, AreOpen, AreFreshFrom, OpenedNext}
+use Rattle.td_room.specs.Opening.{numbers_of, AreNewWorkers, IsOpened, AreOpened, IsRoom}
+use Rattle.td_room.specs.Opening.{IsOpen, AreOpen, AreFreshFrom, OpenedNext}
 use Rattle.td_room.proofs.Walks.{all_map, zip_snoc}
 
 -- ---- a new worker
@@ -42,7 +45,8 @@ new_connected size site lost r ps e f =
       owns = all_map (λ (p : PeerState). IsFresh site p.site PLACES lost p) (λ (p : PeerState). p.own ≡ site) ps
           (λ p h. ap (λ (x : PeerState). x.own) h.nothing) f.fresh;
       welcome = tt;
-      hears = all_map (λ (p : PeerState). IsFresh site p.site PLACES lost p) (λ (p : PeerState). Hears [] (peer_of p)) ps
+      hears = all_map (λ (p : PeerState). IsFresh site p.site PLACES lost p) (λ (p : PeerState). Hears [] (peer_of p))
+          ps
           (λ p h. fresh_hears site p.site PLACES lost p h) f.fresh;
       serves = all_map (λ (p : PeerState). IsFresh site p.site PLACES lost p) (λ (p : PeerState). Serves [] p) ps
           (λ p h. fresh_serves site p.site PLACES lost p [] h) f.fresh;
@@ -65,7 +69,8 @@ new_worker s lines ps lost e none f =
 
 -- ---- one line more
 
-all_last : {X : Type 0} (P : X → Type 0) (xs : List X) (x : X) → AllByRecursion P xs → P x → AllByRecursion P (xs ++ x ∷ [])
+all_last : {X : Type 0} (P : X → Type 0) (xs : List X) (x : X) → AllByRecursion P xs → P x
+    → AllByRecursion P (xs ++ x ∷ [])
 all_last P [] x h p = (p, h)
 all_last P (y ∷ xs) x h p = (h.0, all_last P xs x h.1 p)
 
@@ -160,7 +165,8 @@ count_own site home left e =
 -- ---- a site to which the next editor does not belong, and the one to which it does
 
 pub open_other : (done left : List ℕ) (size : ℕ) (lost : Loss) (es : List EditorValue) (site home : ℕ) (w : WorkerValue)
-    (rs : List ReaderValue) (e : EditorValue) → home ≢ site → e.home ≡ home → IsOpen done (home ∷ left) size lost es site w rs
+    (rs : List ReaderValue) (e : EditorValue) → home ≢ site → e.home ≡ home
+    → IsOpen done (home ∷ left) size lost es site w rs
     → IsOpen (done ++ home ∷ []) left size lost (es ++ e ∷ []) site w rs
 open_other done left size lost es site home w rs e n h o =
     record {
@@ -169,12 +175,14 @@ open_other done left size lost es site home w rs e n h o =
         publishes = o.new.publishes;
         late = o.new.late;
         peers = o.new.peers;
-        lines = subst (λ (ns : List ℕ). AllZip (λ (number : ℕ) (l : LineValue). IsNewLine number w.site.writer.views l) ns w.lines)
+        lines = subst (λ (ns : List ℕ). AllZip (λ (number : ℕ) (l : LineValue). IsNewLine number w.site.writer.views
+            l) ns w.lines)
             (sym (numbers_other site 1 home done n)) o.new.lines;
       };
       joined = subst (λ (xs : List EditorValue). AllZip (Joined w.site.writer.views) w.lines xs)
           (sym (editors_other site es e (λ g. n (sym h ∙ g)))) o.joined;
-      readers_are = o.readers_are ∙ ap (λ (k : ℕ). replicate k (new_reader w.site.writer.views (start ∷ []))) (count_other site home left n);
+      readers_are = o.readers_are ∙ ap (λ (k : ℕ). replicate k (new_reader w.site.writer.views (start ∷ [])))
+          (count_other site home left n);
     }
 
 pub open_own : (done left : List ℕ) (size : ℕ) (lost : Loss) (es : List EditorValue) (site home : ℕ) (w v : WorkerValue)
@@ -213,9 +221,11 @@ open_own done left size lost es site home w v rs rest r l e number same h is spl
             publishes = o.new.publishes;
             late = o.new.late;
             peers = o.new.peers;
-            lines = subst (λ (ns : List ℕ). AllZip (λ (k : ℕ) (x : LineValue). IsNewLine k w.site.writer.views x) ns (w.lines ++ l ∷ []))
+            lines = subst (λ (ns : List ℕ). AllZip (λ (k : ℕ) (x : LineValue). IsNewLine k w.site.writer.views x) ns
+                (w.lines ++ l ∷ []))
                 (sym (numbers_own site 1 home done same))
-                (zip_snoc (λ (k : ℕ) (x : LineValue). IsNewLine k w.site.writer.views x) (numbers_of site 1 done) w.lines (1 + length done) l
+                (zip_snoc (λ (k : ℕ) (x : LineValue). IsNewLine k w.site.writer.views x) (numbers_of site 1 done)
+                w.lines (1 + length done) l
                 o.new.lines (subst (λ (y : ℕ × Book). IsNewLine y.0 y.1 l) (λ i. (number_is i, views i)) line));
           };
           joined = subst (λ (xs : List EditorValue). AllZip (Joined w.site.writer.views) (w.lines ++ l ∷ []) xs)
@@ -227,9 +237,11 @@ open_own done left size lost es site home w v rs rest r l e number same h is spl
 
 -- ---- all sites
 
-all_other : (done left : List ℕ) (size : ℕ) (lost : Loss) (es : List EditorValue) (site home : ℕ) (ws : List WorkerValue)
+all_other : (done left : List ℕ) (size : ℕ) (lost : Loss) (es : List EditorValue) (site home : ℕ)
+    (ws : List WorkerValue)
     (rss : List (List ReaderValue)) (e : EditorValue) → home < site → e.home ≡ home
-    → AreOpen done (home ∷ left) size lost es site ws rss → AreOpen (done ++ home ∷ []) left size lost (es ++ e ∷ []) site ws rss
+    → AreOpen done (home ∷ left) size lost es site ws rss
+    → AreOpen (done ++ home ∷ []) left size lost (es ++ e ∷ []) site ws rss
 all_other done left size lost es site home [] [] e n h o = tt
 all_other done left size lost es site home [] (rs ∷ rss) e n h o = absurd o
 all_other done left size lost es site home (w ∷ ws) [] e n h o = absurd o
@@ -238,49 +250,62 @@ all_other done left size lost es site home (w ∷ ws) (rs ∷ rss) e n h o = (
   all_other done left size lost es (suc site) home ws rss e (omega (arith, n)) h o.1,
 )
 
-pub opens : (done left : List ℕ) (size : ℕ) (lost : Loss) (es : List EditorValue) (site home p : ℕ) (ws : List WorkerValue)
+pub opens : (done left : List ℕ) (size : ℕ) (lost : Loss) (es : List EditorValue) (site home p : ℕ)
+    (ws : List WorkerValue)
     (rss : List (List ReaderValue)) (w v : WorkerValue) (rs rest : List ReaderValue) (r : ReaderValue) (l : LineValue)
     (e : EditorValue) (number : ℕ) → home ≡ site + p → p < length ws → w ≡ get_or ws p w → rs ≡ get_or rss p rs
     → e.home ≡ home → v ≡ record w { lines = w.lines ++ l ∷ [] } → rs ≡ r ∷ rest → number ≡ length done + 1
     → IsNewLine number r.views l → Belongs l e → e.reader ≡ r → AreOpen done (home ∷ left) size lost es site ws rss
     → AreOpen (done ++ home ∷ []) left size lost (es ++ e ∷ []) site (set ws p v) (set rss p rest)
-opens done left size lost es site home p [] rss w v rs rest r l e number at few wis rsis h is split numbered line belongs reader o =
+opens done left size lost es site home p [] rss w v rs rest r l e number at few wis rsis h is split numbered line
+    belongs reader o =
     absurd (omega (arith, few))
-opens done left size lost es site home p (x ∷ ws) [] w v rs rest r l e number at few wis rsis h is split numbered line belongs reader o =
+opens done left size lost es site home p (x ∷ ws) [] w v rs rest r l e number at few wis rsis h is split numbered line
+    belongs reader o =
     absurd o
-opens done left size lost es site home zero (x ∷ ws) (xs ∷ rss) w v rs rest r l e number at few wis rsis h is split numbered line belongs reader o =
+opens done left size lost es site home zero (x ∷ ws) (xs ∷ rss) w v rs rest r l e number at few wis rsis h is split
+    numbered line belongs reader o =
     let same : home ≡ site = omega (arith, at) in (
       open_own done left size lost es site home x v xs rest r l e number same h
-          (is ∙ ap (λ (y : WorkerValue). record y { lines = y.lines ++ l ∷ [] }) wis) (sym rsis ∙ split) numbered line belongs reader o.0,
+          (is ∙ ap (λ (y : WorkerValue). record y { lines = y.lines ++ l ∷ [] }) wis) (sym rsis ∙ split) numbered line
+          belongs reader o.0,
       all_other done left size lost es (suc site) home ws rss e (omega (arith, same)) h o.1,
     )
-opens done left size lost es site home (suc p) (x ∷ ws) (xs ∷ rss) w v rs rest r l e number at few wis rsis h is split numbered line belongs reader o = (
-  open_other done left size lost es site home x xs e (λ f. absurd (omega (arith, at, f))) h o.0,
-  opens done left size lost es (suc site) home p ws rss w v rs rest r l e number (omega (arith, at)) (omega (arith, few)) wis rsis h is split
-      numbered line belongs reader o.1,
-)
+opens done left size lost es site home (suc p) (x ∷ ws) (xs ∷ rss) w v rs rest r l e number at few wis rsis h is split
+    numbered line belongs reader o = (
+      open_other done left size lost es site home x xs e (λ f. absurd (omega (arith, at, f))) h o.0,
+      opens done left size lost es (suc site) home p ws rss w v rs rest r l e number (omega (arith, at))
+          (omega (arith, few)) wis rsis h is split
+          numbered line belongs reader o.1,
+    )
 
 -- what is there for the next editor
 pub record There (home : ℕ) (ws : List WorkerValue) (rss : List (List ReaderValue)) (p : ℕ) : Type 0 where
   pub place : p < length rss
   pub some : (rs : List ReaderValue) → rs ≡ get_or rss p rs → 0 < length rs
-  pub first : (w : WorkerValue) (rs rest : List ReaderValue) (r : ReaderValue) → w ≡ get_or ws p w → rs ≡ get_or rss p rs
+  pub first : (w : WorkerValue) (rs rest : List ReaderValue) (r : ReaderValue) → w ≡ get_or ws p w → rs
+      ≡ get_or rss p rs
       → rs ≡ r ∷ rest → r ≡ new_reader w.site.writer.views (start ∷ [])
 
-pub there : (done left : List ℕ) (size : ℕ) (lost : Loss) (es : List EditorValue) (site home p : ℕ) (ws : List WorkerValue)
-    (rss : List (List ReaderValue)) → home ≡ site + p → p < length ws → AreOpen done (home ∷ left) size lost es site ws rss
+pub there : (done left : List ℕ) (size : ℕ) (lost : Loss) (es : List EditorValue) (site home p : ℕ)
+    (ws : List WorkerValue)
+    (rss : List (List ReaderValue)) → home ≡ site + p → p < length ws
+    → AreOpen done (home ∷ left) size lost es site ws rss
     → There home ws rss p
 there done left size lost es site home p [] rss at few o = absurd (omega (arith, few))
 there done left size lost es site home p (x ∷ ws) [] at few o = absurd o
 there done left size lost es site home zero (x ∷ ws) (xs ∷ rss) at few o =
     let same : home ≡ site = omega (arith, at) in
-    let is : xs ≡ new_reader x.site.writer.views (start ∷ []) ∷ replicate (count site left) (new_reader x.site.writer.views (start ∷ [])) =
-    o.0.readers_are ∙ ap (λ (k : ℕ). replicate k (new_reader x.site.writer.views (start ∷ []))) (count_own site home left same) in
+    let is : xs ≡ new_reader x.site.writer.views (start ∷ []) ∷ replicate (count site left)
+    (new_reader x.site.writer.views (start ∷ [])) =
+    o.0.readers_are ∙ ap (λ (k : ℕ). replicate k (new_reader x.site.writer.views (start ∷ [])))
+    (count_own site home left same) in
     record {
       place = omega arith;
       some = λ rs e. subst (λ (ys : List ReaderValue). 0 < length ys) (sym (e ∙ is)) (omega arith);
       first = λ w rs rest r e f g.
-          heads r (new_reader x.site.writer.views (start ∷ [])) rest (replicate (count site left) (new_reader x.site.writer.views (start ∷ []))) (sym g ∙ f ∙ is)
+          heads r (new_reader x.site.writer.views (start ∷ [])) rest
+          (replicate (count site left) (new_reader x.site.writer.views (start ∷ []))) (sym g ∙ f ∙ is)
           ∙ ap (λ (y : WorkerValue). new_reader y.site.writer.views (start ∷ [])) (sym e);
     }
   where
@@ -329,10 +354,12 @@ pub record Sites (homes : List ℕ) (size : ℕ) (all left : List (List PeerStat
   pub opens_all : (lost : Loss) → AreFreshFrom size lost 1 all
       → AreFreshFrom size lost (length ws + 1) left × AreOpen [] homes size lost [] 1 ws rss
 
-pub sites_first : (homes : List ℕ) (size : ℕ) (all : List (List PeerState)) (ws : List WorkerValue) (rss : List (List ReaderValue))
+pub sites_first : (homes : List ℕ) (size : ℕ) (all : List (List PeerState)) (ws : List WorkerValue)
+    (rss : List (List ReaderValue))
     → ws ≡ [] → rss ≡ [] → length all ≡ size → Sites homes size all all ws rss
 sites_first homes size all ws rss e f n =
-    subst (λ (x : List WorkerValue × List (List ReaderValue)). Sites homes size all all x.0 x.1) (λ i. (sym e i, sym f i))
+    subst (λ (x : List WorkerValue × List (List ReaderValue)). Sites homes size all all x.0 x.1)
+    (λ i. (sym e i, sym f i))
     (record {
       peers = refl;
       many = zero_front (length all) ∙ n;
@@ -365,7 +392,8 @@ sites_next homes size all left next ws vs rss qss row e s o =
             subst (λ (x : List WorkerValue × List (List ReaderValue)). AreOpen [] homes size lost [] 1 x.0 x.1)
                 (λ i. (sym o.last i, sym o.theirs i))
                 (open_last homes size lost 1 ws rss o.worker o.its h.1
-                (subst (λ (k : ℕ). IsOpen [] homes size lost [] k o.worker o.its) (turned (length ws)) (o.opened lost rows.0))),
+                (subst (λ (k : ℕ). IsOpen [] homes size lost [] k o.worker o.its) (turned (length ws))
+                (o.opened lost rows.0))),
           );
     }
   where
@@ -374,7 +402,8 @@ sites_next homes size all left next ws vs rss qss row e s o =
 
 pub sites_last : (homes : List ℕ) (size : ℕ) (all left : List (List PeerState)) (ws : List WorkerValue)
     (rss : List (List ReaderValue)) → length left ≡ 0 → Sites homes size all left ws rss
-    → (map (λ (w : WorkerValue). w.peers) ws ≡ all) × ((lost : Loss) → AreFreshFrom size lost 1 all → AreOpen [] homes size lost [] 1 ws rss)
+    → (map (λ (w : WorkerValue). w.peers) ws ≡ all)
+    × ((lost : Loss) → AreFreshFrom size lost 1 all → AreOpen [] homes size lost [] 1 ws rss)
 sites_last homes size all [] ws rss none s =
     (sym (append-nil (map (λ (w : WorkerValue). w.peers) ws)) ∙ s.peers, λ lost fresh. (s.opens_all lost fresh).1)
 sites_last homes size all (row ∷ left) ws rss none s = absurd (omega (arith, none))
@@ -413,7 +442,8 @@ all_new homes size lost es site (w ∷ ws) [] o = absurd o
 all_new homes size lost es site (w ∷ ws) (rs ∷ rss) o = (o.0.new, all_new homes size lost es (suc site) ws rss o.1)
 
 at_home : (homes : List ℕ) (size n : ℕ) (lost : Loss) (es : List EditorValue) (site : ℕ) (ws : List WorkerValue)
-    (rss : List (List ReaderValue)) → AreOpen homes [] size lost es site ws rss → size ≡ n → (place : ℕ) (w : WorkerValue)
+    (rss : List (List ReaderValue)) → AreOpen homes [] size lost es site ws rss → size ≡ n
+    → (place : ℕ) (w : WorkerValue)
     → slice_get ws place ≡ Some w → IsAtHome es n (site + place) w
 at_home homes size n lost es site [] rss o same place w e = absurd (cc e)
 at_home homes size n lost es site (x ∷ ws) [] o same place w e = absurd o
@@ -432,7 +462,8 @@ at_home homes size n lost es site (x ∷ ws) (rs ∷ rss) o same zero w e =
     zero_end : (a : ℕ) → a + 0 ≡ a
     zero_end a = omega arith
 at_home homes size n lost es site (x ∷ ws) (rs ∷ rss) o same (suc place) w e =
-    subst (λ (k : ℕ). IsAtHome es n k w) (one_up site place) (at_home homes size n lost es (suc site) ws rss o.1 same place w e)
+    subst (λ (k : ℕ). IsAtHome es n k w) (one_up site place)
+    (at_home homes size n lost es (suc site) ws rss o.1 same place w e)
   where
     one_up : (a b : ℕ) → suc a + b ≡ a + suc b
     one_up a b = omega arith
@@ -466,7 +497,8 @@ room_is n homes calls lost rows ws es rss some few fresh linked peers within the
         sites = λ place w e.
             subst (λ (k : ℕ). IsAtHome es (length ws) k w) (turned place)
             (at_home homes n (length ws) lost es 1 ws rss there (sym many) place w e);
-        linked = subst (λ (x : ℕ × List (List PeerState)). AllMatch Linked x.0 x.1) (λ i. (sym many i, sym peers i)) linked;
+        linked = subst (λ (x : ℕ × List (List PeerState)). AllMatch Linked x.0 x.1) (λ i. (sym many i, sym peers i))
+            linked;
         homes = subst (λ (k : ℕ). AllByRecursion (λ (e : EditorValue). (0 < e.home) × (e.home ≤ k)) es) (sym many)
             (homes_within n homes calls es within opened);
       };
@@ -480,15 +512,19 @@ room_is n homes calls lost rows ws es rss some few fresh linked peers within the
 
 -- ---- one site, one editor
 
-pub open_new : (homes : List ℕ) (size : ℕ) (lost : Loss) (site : ℕ) (w : WorkerValue) (rs all : List ReaderValue) (s : SiteValue)
+pub open_new : (homes : List ℕ) (size : ℕ) (lost : Loss) (site : ℕ) (w : WorkerValue) (rs all : List ReaderValue)
+    (s : SiteValue)
     (r : ReplicaValue) (writer : WriterValue) (row ps : List PeerState) (number : ℕ)
     → w ≡ record { site = s; lines = []; peers = ps } → s ≡ record { replica = r; writer = writer; late = false }
     → r ≡ new_replica site size → writer.publishes ≡ start ∷ [] → ps ≡ row → IsFreshRow size site lost row
-    → rs ≡ remove all 0 → all ≡ replicate (number + 1) (new_reader writer.views (start ∷ [])) → number ≡ count site homes
+    → rs ≡ remove all 0 → all ≡ replicate (number + 1) (new_reader writer.views (start ∷ [])) → number
+    ≡ count site homes
     → IsOpen [] homes size lost [] site w rs
-open_new homes size lost site w rs all s r writer row ps number is site_is new published same fresh left readers counted =
+open_new homes size lost site w rs all s r writer row ps number is site_is new published same fresh left readers
+    counted =
     subst (λ (x : WorkerValue). IsOpen [] homes size lost [] site x rs) (sym is)
-    (subst (λ (x : SiteValue). IsOpen [] homes size lost [] site (record { site = x; lines = []; peers = ps }) rs) (sym site_is)
+    (subst (λ (x : SiteValue). IsOpen [] homes size lost [] site (record { site = x; lines = []; peers = ps }) rs)
+    (sym site_is)
     (record {
       new = record {
         replica = new;
@@ -596,7 +632,8 @@ pub as_many_workers : (ws vs : List WorkerValue)
 as_many_workers ws vs e =
     sym (map_length ws) ∙ ap (λ (l : List (List PeerState)). length l) e ∙ map_length vs
 
-pub workers_of_rows : (n : ℕ) (lost : Loss) (rows : List (List PeerState)) (ws : List WorkerValue) → AreFreshRows n lost rows
+pub workers_of_rows : (n : ℕ) (lost : Loss) (rows : List (List PeerState)) (ws : List WorkerValue)
+    → AreFreshRows n lost rows
     → map (λ (w : WorkerValue). w.peers) ws ≡ rows → length ws ≡ n
 workers_of_rows n lost rows ws f e =
     sym (map_length ws) ∙ ap (λ (l : List (List PeerState)). length l) e ∙ f.all

@@ -1,5 +1,6 @@
 -- The peers of a worker, one of which is heard or told.
-use Rattle.std.proofs.Common.{◌≡◌, ◌≢◌, ◌<◌, ◌≤◌, ◌+◌, ◌++◌, ℕ, zero, suc, List, [], ◌∷◌, true, not, nat_eq, length, map, set, get_or, refl, sym, ap, ◌∙◌, subst, inl, inr, arith}
+use Rattle.std.proofs.Common.{◌≡◌, ◌≢◌, ◌<◌, ◌≤◌, ◌+◌, ◌++◌, ℕ, zero, suc, List, [], ◌∷◌, true, not, nat_eq}
+use Rattle.std.proofs.Common.{length, map, set, get_or, refl, sym, ap, ◌∙◌, subst, inl, inr, arith}
 use Rattle.std.specs.List.{AllByRecursion, range_with_len}
 use Rattle.std.proofs.lemmas.Bool.Decides.{nat_tests}
 use Rattle.td_base.specs.Lists.{In, Successive}
@@ -70,7 +71,8 @@ pub apart_of : (size site : ℕ) (ps : List PeerState) → map (λ (p : PeerStat
 apart_of size site ps e =
     map_successive (λ (a b : ℕ). a ≢ b) (λ (p : PeerState). p.site) ps
     (subst (λ (ns : List ℕ). Successive (λ (a b : ℕ). a ≢ b) ns) (sym e)
-    (successive_filter (λ (a b : ℕ). a ≢ b) (λ (k : ℕ). not (nat_eq k site)) (range_with_len 1 size) (numbers_apart 1 size)))
+    (successive_filter (λ (a b : ℕ). a ≢ b) (λ (k : ℕ). not (nat_eq k site)) (range_with_len 1 size)
+    (numbers_apart 1 size)))
 
 numbers_within : (k n s : ℕ) → In s (range_with_len k n) → (k ≤ s) × (s < k + n)
 numbers_within k zero s i = absurd i
@@ -108,7 +110,8 @@ another_at r ps i p c l e =
 
 -- ---- one peer is heard
 
-serves_kept : (sent : List Message) (p q : PeerState) → q ≡ record p { inbox = q.inbox; waiting = q.waiting } → Serves sent p
+serves_kept : (sent : List Message) (p q : PeerState) → q ≡ record p { inbox = q.inbox; waiting = q.waiting }
+    → Serves sent p
     → Serves sent q
 serves_kept sent p q e s =
     subst (λ (x : PeerState). Serves sent x) (sym e)
@@ -124,13 +127,18 @@ heard_connected s t ps i p q v l e c =
     let a = apart_of s.replica.machine.size s.replica.machine.site ps c.numbers in
     let k = another_at s.replica ps i p c l e in
     record {
-      numbers = numbers_set ps i p q l e v.peer.site ∙ c.numbers ∙ (λ j. others (sym v.later.size j) (sym v.later.site j));
-      owns = all_set (λ (x : PeerState). x.own ≡ s.replica.machine.site) (λ (x : PeerState). x.own ≡ t.replica.machine.site)
+      numbers = numbers_set ps i p q l e v.peer.site ∙ c.numbers
+          ∙ (λ j. others (sym v.later.size j) (sym v.later.site j));
+      owns = all_set (λ (x : PeerState). x.own ≡ s.replica.machine.site)
+          (λ (x : PeerState). x.own ≡ t.replica.machine.site)
           ps i p q l e a (λ x n o. o ∙ sym v.later.site) (λ o. v.peer.own ∙ o ∙ sym v.later.site) c.owns;
       welcome = v.welcome k.some k.within k.other c.welcome;
-      hears = all_set (λ (x : PeerState). Hears s.replica.entries (peer_of x)) (λ (x : PeerState). Hears t.replica.entries (peer_of x))
-          ps i p q l e a (λ x n h. hears_on s.replica.entries t.replica.entries x (v.others x.site n) h) v.hears c.hears;
-      serves = all_set (λ (x : PeerState). Serves s.replica.machine.sent x) (λ (x : PeerState). Serves t.replica.machine.sent x)
+      hears = all_set (λ (x : PeerState). Hears s.replica.entries (peer_of x))
+          (λ (x : PeerState). Hears t.replica.entries (peer_of x))
+          ps i p q l e a (λ x n h. hears_on s.replica.entries t.replica.entries x (v.others x.site n) h) v.hears
+          c.hears;
+      serves = all_set (λ (x : PeerState). Serves s.replica.machine.sent x)
+          (λ (x : PeerState). Serves t.replica.machine.sent x)
           ps i p q l e a (λ x n h. grown x h) (λ h. grown q (serves_kept s.replica.machine.sent p q v.kept h)) c.serves;
     }
   where
@@ -140,7 +148,8 @@ heard_connected s t ps i p q v l e c =
 
 -- ---- one peer is told
 
-pub told_connected : (r : ReplicaValue) (ps : List PeerState) (i : ℕ) (p q : PeerState) → i < length ps → p ≡ get_or ps i p
+pub told_connected : (r : ReplicaValue) (ps : List PeerState) (i : ℕ) (p q : PeerState) → i < length ps → p
+    ≡ get_or ps i p
     → LaterPeer p q → q.inbox ≡ p.inbox → q.waiting ≡ p.waiting → Serves r.machine.sent q → IsConnected r ps
     → IsConnected r (set ps i q)
 told_connected r ps i p q l e later inbox waiting serves c =
@@ -160,4 +169,8 @@ told_connected r ps i p q l e later inbox waiting serves c =
     same : Hears r.entries (peer_of p) → Hears r.entries (peer_of q)
     same h =
         subst (λ (v : List Message × List (List ℕ)). ArePackets v.0 v.1)
-        (λ j. (takes_from (sym later.site j) r.entries ++ option_to_list (sym waiting j), packets (ap (λ x. x.taken) (sym inbox) j))) h
+        (λ j. (
+          takes_from (sym later.site j) r.entries
+              ++ option_to_list (sym waiting j),
+          packets (ap (λ x. x.taken) (sym inbox) j),
+        )) h

@@ -1,5 +1,6 @@
 -- What holds of the lines beside a site stays so while the site goes on.
-use Rattle.std.proofs.Common.{◌≡◌, ◌<◌, ◌+◌, ℕ, zero, suc, List, [], ◌∷◌, length, set, get_or, Some, refl, sym, ap, ◌∙◌, arith}
+use Rattle.std.proofs.Common.{◌≡◌, ◌<◌, ◌+◌, ℕ, zero, suc, List, [], ◌∷◌, length, set}
+use Rattle.std.proofs.Common.{get_or, Some, refl, sym, ap, ◌∙◌, arith}
 use Rattle.logbook.specs.Pages.{Book}
 use Rattle.td_site.specs.Sites.{SiteValue}
 use Rattle.td_site.specs.Later.{LaterSite}
@@ -45,9 +46,11 @@ pub serving_on : (s t : SiteValue) (lines : List LineValue) → LaterSite s t �
     → IsServing t lines
 serving_on s t lines later none h =
     record {
-      served = all_map (λ (l : LineValue). HasServed s.replica.entries l) (λ (l : LineValue). HasServed t.replica.entries l)
+      served = all_map (λ (l : LineValue). HasServed s.replica.entries l)
+          (λ (l : LineValue). HasServed t.replica.entries l)
           lines (λ l. served_on s.replica.entries t.replica.entries l later.entries) h.served;
-      views = all_map (λ (l : LineValue). l.answers.mark ≡ Some s.writer.views) (λ (l : LineValue). l.answers.mark ≡ Some t.writer.views)
+      views = all_map (λ (l : LineValue). l.answers.mark ≡ Some s.writer.views)
+          (λ (l : LineValue). l.answers.mark ≡ Some t.writer.views)
           lines (λ l e. e ∙ ap (λ (v : Book). Some v) (sym later.views)) h.views;
       counted = λ k. h.counted k ∙ sym (none k);
     }
@@ -60,7 +63,8 @@ given_set k (x ∷ ls) zero l m h e =
 given_set k (x ∷ ls) (suc i) l m h e = let q = given_set k ls i l m (omega (arith, h)) e in omega arith
 
 -- one of the lines is served
-pub serving_set : (s t : SiteValue) (lines : List LineValue) (i : ℕ) (l m : LineValue) → Served s l t m → i < length lines
+pub serving_set : (s t : SiteValue) (lines : List LineValue) (i : ℕ) (l m : LineValue) → Served s l t m
+    → i < length lines
     → l ≡ get_or lines i l → IsServing s lines → IsServing t (set lines i m)
 serving_set s t lines i l m v h e is =
     let was : HasServed s.replica.entries l =
@@ -69,9 +73,11 @@ serving_set s t lines i l m v h e is =
     all_get (λ (x : LineValue). x.answers.mark ≡ Some s.writer.views) lines i l is.views h e in
     let same : Some s.writer.views ≡ Some t.writer.views = ap (λ (b : Book). Some b) (sym v.site.views) in
     record {
-      served = all_put (λ (x : LineValue). HasServed s.replica.entries x) (λ (x : LineValue). HasServed t.replica.entries x)
+      served = all_put (λ (x : LineValue). HasServed s.replica.entries x)
+          (λ (x : LineValue). HasServed t.replica.entries x)
           lines i m (λ x. served_on s.replica.entries t.replica.entries x v.site.entries) (v.served was) is.served;
-      views = all_put (λ (x : LineValue). x.answers.mark ≡ Some s.writer.views) (λ (x : LineValue). x.answers.mark ≡ Some t.writer.views)
+      views = all_put (λ (x : LineValue). x.answers.mark ≡ Some s.writer.views)
+          (λ (x : LineValue). x.answers.mark ≡ Some t.writer.views)
           lines i m (λ x f. f ∙ same) (v.line.mark ∙ mark ∙ same) is.views;
       counted = λ k.
           let a = given_set k lines i l m h e in

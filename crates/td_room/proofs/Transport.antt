@@ -1,5 +1,6 @@
 -- Workers and editors of one room, later.
-use Rattle.std.proofs.Common.{◌≡◌, ◌<◌, ◌≤◌, ◌+◌, ℕ, zero, suc, List, [], ◌∷◌, Bool, true, false, cond, nat_eq, length, map, slice_get, Some, refl, sym, ap, ◌∙◌, subst}
+use Rattle.std.proofs.Common.{◌≡◌, ◌<◌, ◌≤◌, ◌+◌, ℕ, zero, suc, List, [], ◌∷◌, Bool, true, false, cond}
+use Rattle.std.proofs.Common.{nat_eq, length, map, slice_get, Some, refl, sym, ap, ◌∙◌, subst}
 use Rattle.std.specs.List.{AllByRecursion, AllZip}
 use Rattle.logbook.specs.Pages.{Book}
 use Rattle.td_base.specs.declared.site.TheConstants.{MAX_SITE}
@@ -29,7 +30,8 @@ record Was (ws : List WorkerValue) (place : ℕ) (v : WorkerValue) : Type 0 wher
   found : slice_get ws place ≡ Some worker
   later : LaterWorker worker v
 
-was : (ws vs : List WorkerValue) → AllZip LaterWorker ws vs → (place : ℕ) (v : WorkerValue) → slice_get vs place ≡ Some v
+was : (ws vs : List WorkerValue) → AllZip LaterWorker ws vs → (place : ℕ) (v : WorkerValue) → slice_get vs place
+    ≡ Some v
     → Was ws place v
 was [] [] h place v e = absurd (cc e)
 was [] (x ∷ vs) h place v e = absurd h
@@ -50,7 +52,8 @@ editors_later site [] [] h = tt
 editors_later site [] (f ∷ fs) h = absurd h
 editors_later site (e ∷ es) [] h = absurd h
 editors_later site (e ∷ es) (f ∷ fs) h =
-    each (nat_eq e.home site) (nat_eq f.home site) (ap (λ (k : ℕ). nat_eq k site) h.0.home) (editors_later site es fs h.1)
+    each (nat_eq e.home site) (nat_eq f.home site) (ap (λ (k : ℕ). nat_eq k site) h.0.home)
+    (editors_later site es fs h.1)
   where
     each : (b c : Bool) → c ≡ b → AllZip LaterEditor (editors_of site es) (editors_of site fs)
         → AllZip LaterEditor (cond b (e ∷ editors_of site es) (editors_of site es))
@@ -91,7 +94,8 @@ joined_later old new (l ∷ ls) (m ∷ ms) (e ∷ es) (f ∷ fs) same a b j = (
 
 -- ---- the room
 
-pub room_later : (ws vs : List WorkerValue) (es fs : List EditorValue) → AllZip LaterWorker ws vs → AllZip LaterEditor es fs
+pub room_later : (ws vs : List WorkerValue) (es fs : List EditorValue) → AllZip LaterWorker ws vs
+    → AllZip LaterEditor es fs
     → AreOfOneRoom ws es → AreOfOneRoom vs fs
 room_later ws vs es fs h k r =
     let n = as_many ws vs h in

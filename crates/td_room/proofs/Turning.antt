@@ -1,5 +1,6 @@
 -- What a turn does for each peer.
-use Rattle.std.proofs.Common.{◌≡◌, ◌<◌, ◌≤◌, ◌+◌, ◌++◌, ℕ, List, [], ◌∷◌, Result, Ok, Err, OnOk, Option, Some, None, MatchOption, ◌⊎◌, length, take, refl, sym, ap, ◌∙◌, subst, arith, length-append}
+use Rattle.std.proofs.Common.{◌≡◌, ◌<◌, ◌≤◌, ◌+◌, ◌++◌, ℕ, List, [], ◌∷◌, Result, Ok, Err, OnOk, Option, Some, None}
+use Rattle.std.proofs.Common.{MatchOption, ◌⊎◌, length, take, refl, sym, ap, ◌∙◌, subst, arith, length-append}
 use Rattle.std.specs.List.{AllZip}
 use mathlib.Core.List.{IsPrefix}
 use Rattle.td_op.specs.declared.message.Message.{Message}
@@ -15,7 +16,8 @@ use Rattle.td_peer.specs.Peers.{PeerState}
 use Rattle.td_peer.specs.declared.parcel.Parcel.{Parcel}
 use Rattle.td_peer.specs.Serving.{LaterPeer, TakesNext, TookOrEmpty, SentOrNothing, SentAtMostOne}
 use Rattle.td_link.specs.Ends.{TxValue, RxValue}
-use Rattle.td_room.specs.Turns.{NotMadeThen, HeardPeer, ToldPeer, GivenPeer, Exchanged, IsCaughtUp, TurnedLine, TurnedWorker}
+use Rattle.td_room.specs.Turns.{NotMadeThen, HeardPeer, ToldPeer, GivenPeer, Exchanged}
+use Rattle.td_room.specs.Turns.{IsCaughtUp, TurnedLine, TurnedWorker}
 use Rattle.td_room.specs.Workers.{WorkerValue}
 use Rattle.td_line.specs.Lines.{LineValue}
 use Rattle.td_site.proofs.Lists.{take_more, take_all}
@@ -26,7 +28,8 @@ longer xs ys p =
     let a = ap length p.1 in let b = length-append xs p.0 in omega arith
 
 -- what was not made at the end of what is known was not made then
-pub not_made_now : (r s : ReplicaValue) (known : ℕ) → IsPrefix r.entries s.entries → IsReplica s → made s.machine < known
+pub not_made_now : (r s : ReplicaValue) (known : ℕ) → IsPrefix r.entries s.entries → IsReplica s
+    → made s.machine < known
     → NotMadeThen r s known
 not_made_now r s known grown i h =
     let e : machine_then s.machine.site s.machine.size s.entries (length s.entries) ≡ s.machine =
@@ -64,7 +67,8 @@ heard_on s t u later p q h =
     record {
       heard = record {
         done = λ m e.
-            not_made_on s.replica t.replica u.replica (known_of q.own m) later.entries later.site later.size (h.heard.done m e);
+            not_made_on s.replica t.replica u.replica (known_of q.own m) later.entries later.site later.size
+            (h.heard.done m e);
         took = h.heard.took;
         one = h.heard.one;
       };
@@ -123,7 +127,8 @@ exchanged s t p h q a b =
     record {
       heard = record {
         done = λ m e.
-            subst (λ (k : ℕ). NotMadeThen s.replica t.replica (known_of k m)) (sym b.own) (a.heard.done m (sym b.waiting ∙ e));
+            subst (λ (k : ℕ). NotMadeThen s.replica t.replica (known_of k m)) (sym b.own)
+            (a.heard.done m (sym b.waiting ∙ e));
         took = λ e none.
             a.heard.took (ap (λ x. x.taken) (sym b.inbox) ∙ e) (sym b.waiting ∙ none);
         one = subst (λ (x : RxValue Parcel ℕ). length x.taken ≤ length p.inbox.taken + 1) (sym b.inbox) a.heard.one;
@@ -134,14 +139,16 @@ exchanged s t p h q a b =
       most = subst (λ (o : TxValue Parcel ℕ). SentAtMostOne o q.outbox) a.outbox b.most;
     }
 
-pub all_exchanged : (s t : SiteValue) (ps hs qs : List PeerState) → AllZip (HeardPeer s t) ps hs → AllZip (ToldPeer t) hs qs
+pub all_exchanged : (s t : SiteValue) (ps hs qs : List PeerState) → AllZip (HeardPeer s t) ps hs
+    → AllZip (ToldPeer t) hs qs
     → AllZip (Exchanged s t) ps qs
 all_exchanged s t ps hs qs a b = zip_then (HeardPeer s t) (ToldPeer t) (Exchanged s t) ps hs qs (exchanged s t) a b
 
 -- ---- a packet that was taken makes a message wait
 
 -- from p to q a packet was looked for, and then only what waits has changed
-pub took_or_empty : (p q r : PeerState) → (p.waiting ≡ None → TakesNext p q) → ((m : Message) → p.waiting ≡ Some m → r.waiting ≡ Some m)
+pub took_or_empty : (p q r : PeerState) → (p.waiting ≡ None → TakesNext p q)
+    → ((m : Message) → p.waiting ≡ Some m → r.waiting ≡ Some m)
     → r.inbox ≡ q.inbox → TookOrEmpty p r
 took_or_empty p q r next waits same e n = at p.waiting refl
   where
@@ -153,7 +160,8 @@ took_or_empty p q r next waits same e n = at p.waiting refl
         let x = ap length f in let y = length-append xs (a ∷ []) in absurd (omega arith)
 
     found : (o : Option Message) → MatchOption o ((q.inbox ≡ p.inbox) × WasEmpty p.inbox.taken)
-        (λ m. (parcel : Parcel) × SpellsIn m parcel.packet × (q.inbox ≡ record p.inbox { taken = p.inbox.taken ++ parcel ∷ [] }))
+        (λ m. (parcel : Parcel) × SpellsIn m parcel.packet
+        × (q.inbox ≡ record p.inbox { taken = p.inbox.taken ++ parcel ∷ [] }))
         → WasEmpty p.inbox.taken
     found None t = t.1
     found (Some m) t =
@@ -201,7 +209,8 @@ turned w v u z later peers lines same caught_up heard lines' site told shown =
       peers = subst (λ (s : SiteValue). AllZip (Exchanged w.site s) w.peers z.peers) (sym site)
           (all_exchanged w.site u.site w.peers u.peers z.peers
           (subst (λ (ps : List PeerState). AllZip (HeardPeer w.site u.site) ps u.peers) peers
-          (zip_on (HeardPeer v.site u.site) (HeardPeer w.site u.site) v.peers u.peers (heard_from w.site v.site u.site later) heard))
+          (zip_on (HeardPeer v.site u.site) (HeardPeer w.site u.site) v.peers u.peers
+          (heard_from w.site v.site u.site later) heard))
           (subst (λ (s : SiteValue). AllZip (ToldPeer s) u.peers z.peers) site told));
       caught_up = subst (λ (s : SiteValue). IsCaughtUp s) (sym site) caught_up;
       shown = shown;
@@ -216,17 +225,21 @@ took_at_most_one o p q r same next waits last =
     (λ i. (sym last i, same i)) few
   where
     found : (w : Option Message) → MatchOption w ((q.inbox ≡ p.inbox) × WasEmpty p.inbox.taken)
-        (λ m. (parcel : Parcel) × SpellsIn m parcel.packet × (q.inbox ≡ record p.inbox { taken = p.inbox.taken ++ parcel ∷ [] }))
+        (λ m. (parcel : Parcel) × SpellsIn m parcel.packet
+        × (q.inbox ≡ record p.inbox { taken = p.inbox.taken ++ parcel ∷ [] }))
         → length q.inbox.taken ≤ length p.inbox.taken + 1
     found None t =
-        let e : length q.inbox.taken ≡ length p.inbox.taken = ap (λ (x : RxValue Parcel ℕ). length x.taken) t.0 in omega arith
+        let e : length q.inbox.taken ≡ length p.inbox.taken = ap (λ (x : RxValue Parcel ℕ). length x.taken) t.0 in
+        omega arith
     found (Some m) t =
-        let e : length q.inbox.taken ≡ length (p.inbox.taken ++ t.0 ∷ []) = ap (λ (x : RxValue Parcel ℕ). length x.taken) t.2 in
+        let e : length q.inbox.taken ≡ length (p.inbox.taken ++ t.0 ∷ []) =
+        ap (λ (x : RxValue Parcel ℕ). length x.taken) t.2 in
         let f = length-append p.inbox.taken (t.0 ∷ []) in
         omega arith
 
     at : (w : Option Message) → p.waiting ≡ w → length q.inbox.taken ≤ length p.inbox.taken + 1
     at None f = found q.waiting (next f)
     at (Some m) f =
-        let e : length q.inbox.taken ≡ length p.inbox.taken = ap (λ (x : PeerState). length x.inbox.taken) (waits m f) in
+        let e : length q.inbox.taken ≡ length p.inbox.taken =
+        ap (λ (x : PeerState). length x.inbox.taken) (waits m f) in
         omega arith

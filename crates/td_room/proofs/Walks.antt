@@ -1,5 +1,6 @@
 -- Lists that are gone through.
-use Rattle.std.proofs.Common.{◌≡◌, ◌<◌, ◌≤◌, ◌+◌, ◌++◌, ℕ, zero, suc, List, [], ◌∷◌, length, set, get_or, refl, ap, ◌∙◌, subst, arith}
+use Rattle.std.proofs.Common.{◌≡◌, ◌<◌, ◌≤◌, ◌+◌, ◌++◌, ℕ, zero, suc, List, [], ◌∷◌, length}
+use Rattle.std.proofs.Common.{set, get_or, refl, ap, ◌∙◌, subst, arith}
 use Rattle.std.specs.List.{AllByRecursion, AllZip}
 use Rattle.td_room.specs.Walk.{SoFar}
 
@@ -11,7 +12,8 @@ so_far_length R (suc i) [] (y ∷ new) h = absurd h
 so_far_length R (suc i) (x ∷ old) [] h = absurd h
 so_far_length R (suc i) (x ∷ old) (y ∷ new) h = ap suc (so_far_length R i old new h.1)
 
-next : {X : Type 0} (R : X → X → Type 0) (i : ℕ) (old new : List X) (p q : X) → i < length new → p ≡ get_or new i p → R p q
+next : {X : Type 0} (R : X → X → Type 0) (i : ℕ) (old new : List X) (p q : X) → i < length new → p ≡ get_or new i p
+    → R p q
     → SoFar R i old new → SoFar R (suc i) old (set new i q)
 next R zero [] [] p q l e r h = absurd (omega (arith, l))
 next R zero [] (y ∷ new) p q l e r h = absurd (cc h)

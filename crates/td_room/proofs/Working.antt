@@ -50,7 +50,8 @@ went_later s t ls ps w = record { site = w; lines = lines_self ls; peers = peers
 
 -- ---- a line
 
-pub served_worker : (s t : SiteValue) (ls : List LineValue) (ps : List PeerState) (i : ℕ) (l m : LineValue) → Served s l t m
+pub served_worker : (s t : SiteValue) (ls : List LineValue) (ps : List PeerState) (i : ℕ) (l m : LineValue)
+    → Served s l t m
     → i < length ls → l ≡ get_or ls i l → IsWorker (worker s ls ps) → IsWorker (worker t (set ls i m) ps)
 served_worker s t ls ps i l m v h e w =
     record {
@@ -58,14 +59,16 @@ served_worker s t ls ps i l m v h e w =
       serving = serving_set s t ls i l m v h e w.serving;
     }
 
-pub served_later : (s t : SiteValue) (ls : List LineValue) (ps : List PeerState) (i : ℕ) (l m : LineValue) → Served s l t m
+pub served_later : (s t : SiteValue) (ls : List LineValue) (ps : List PeerState) (i : ℕ) (l m : LineValue)
+    → Served s l t m
     → l ≡ get_or ls i l → LaterWorker (worker s ls ps) (worker t (set ls i m) ps)
 served_later s t ls ps i l m v e =
     record { site = v.site; lines = zip_set LaterLine ls i l m line_self e v.line; peers = peers_self ps }
 
 -- ---- a peer
 
-pub heard_worker : (s t : SiteValue) (ls : List LineValue) (ps : List PeerState) (i : ℕ) (p q : PeerState) → Heard s p t q
+pub heard_worker : (s t : SiteValue) (ls : List LineValue) (ps : List PeerState) (i : ℕ) (p q : PeerState)
+    → Heard s p t q
     → i < length ps → p ≡ get_or ps i p → IsWorker (worker s ls ps) → IsWorker (worker t ls (set ps i q))
 heard_worker s t ls ps i p q v l e w =
     record {

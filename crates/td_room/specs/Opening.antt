@@ -1,5 +1,6 @@
 -- What a room is at the beginning.
-use Rattle.std.specs.Prelude.{◌≡◌, ◌<◌, ◌+◌, ◌==◌, ℕ, suc, List, [], ◌∷◌, ◌++◌, length, replicate, count_by, false, if◌then◌else◌}
+use Rattle.std.specs.Prelude.{◌≡◌, ◌<◌, ◌+◌, ◌==◌, ℕ, suc, List, [], ◌∷◌, ◌++◌, length}
+use Rattle.std.specs.Prelude.{replicate, count_by, false, if◌then◌else◌}
 use Rattle.std.specs.List.{AllZip}
 use Rattle.td_view.specs.Publishes.{start}
 use Rattle.td_view.specs.Values.{ReaderValue, new_reader}
@@ -24,7 +25,8 @@ pub record IsNewWorker (homes : List ℕ) (size : ℕ) (lost : Loss) (site : ℕ
   pub publishes : w.site.writer.publishes ≡ start ∷ []
   pub late : w.site.late ≡ false
   pub peers : IsFreshRow size site lost w.peers
-  pub lines : AllZip (λ (number : ℕ) (l : LineValue). IsNewLine number w.site.writer.views l) (numbers_of site 1 homes) w.lines
+  pub lines : AllZip (λ (number : ℕ) (l : LineValue). IsNewLine number w.site.writer.views l)
+      (numbers_of site 1 homes) w.lines
 
 -- those of the sites from this one on
 abbrev pub AreNewWorkers : List ℕ → ℕ → Loss → ℕ → List WorkerValue → Type 0
@@ -48,7 +50,8 @@ AreOpened (home ∷ homes) [] (e ∷ editors) = ⊥
 AreOpened (home ∷ homes) (count ∷ calls) (e ∷ editors) = IsOpened home count e × AreOpened homes calls editors
 
 -- a room of so many sites in which nothing was done yet
-pub record IsRoom (size : ℕ) (homes calls : List ℕ) (lost : Loss) (workers : List WorkerValue) (editors : List EditorValue)
+pub record IsRoom (size : ℕ) (homes calls : List ℕ) (lost : Loss) (workers : List WorkerValue)
+    (editors : List EditorValue)
     : Type 0 where
   pub room : AreOfOneRoom workers editors
   pub size_is : length workers ≡ size
@@ -58,14 +61,16 @@ pub record IsRoom (size : ℕ) (homes calls : List ℕ) (lost : Loss) (workers :
 -- ---- while it is opened
 
 -- the worker has a line for each editor so far whose home it is, and there is a reader for each one to come
-pub record IsOpen (done left : List ℕ) (size : ℕ) (lost : Loss) (editors : List EditorValue) (site : ℕ) (w : WorkerValue)
+pub record IsOpen (done left : List ℕ) (size : ℕ) (lost : Loss) (editors : List EditorValue) (site : ℕ)
+    (w : WorkerValue)
     (readers : List ReaderValue) : Type 0 where
   pub new : IsNewWorker done size lost site w
   pub joined : AllZip (Joined w.site.writer.views) w.lines (editors_of site editors)
   pub readers_are : readers
       ≡ replicate (count_by (λ (home : ℕ). home == site) left) (new_reader w.site.writer.views (start ∷ []))
 
-abbrev pub AreOpen : List ℕ → List ℕ → ℕ → Loss → List EditorValue → ℕ → List WorkerValue → List (List ReaderValue) → Type 0
+abbrev pub AreOpen : List ℕ → List ℕ → ℕ → Loss → List EditorValue → ℕ → List WorkerValue → List (List ReaderValue)
+    → Type 0
 AreOpen done left size lost editors site [] [] = Unit {0}
 AreOpen done left size lost editors site [] (rs ∷ readers) = ⊥
 AreOpen done left size lost editors site (w ∷ workers) [] = ⊥

@@ -16,8 +16,8 @@ use td_op::Input;
 use td_peer::Peer;
 use td_site::Site;
 
-// Gives the replica the message that waits, as soon as that may be; then takes at most one packet, and gives the replica
-// what it says. After each, what waited in the replica for it.
+// Gives the replica the message that waits, as soon as that may be; then takes at most one packet, and gives the
+// replica what it says. After each, what waited in the replica for it.
 pub(crate) fn hear<D: Doc, R: Wait>(
     rt: &R,
     site: &mut Site<D>,

@@ -35,7 +35,8 @@ use Rattle.td_run.specs.declared.words.Language.TheVariants.{Play, Live, Trace}
 use Rattle.td_run.specs.Answer.{IsInLanguage, IsOutput, IsPlayed, IsRefused, IsWhole, PutsFront, fault_line}
 use Rattle.td_run.specs.Answer.{first_fault_in, most_bytes, usage_line}
 use Rattle.td_run.specs.Answered.{IsAnswered}
-use Rattle.td_run.specs.Answering.{IsAnswerTo, IsEnded, IsEndedOnTheWay, IsPlayedInto, IsPlayedOr, IsPut, IsReadFor, IsReads}
+use Rattle.td_run.specs.Answering.{IsAnswerTo, IsEnded, IsEndedOnTheWay, IsPlayedInto}
+use Rattle.td_run.specs.Answering.{IsPlayedOr, IsPut, IsReadFor, IsReads}
 use Rattle.td_run.specs.Answering.{IsWholeOf}
 use Rattle.td_run.specs.Outputs.{IsSummary}
 use Rattle.td_run.specs.VerdictLine.{verdict_line}

@@ -8,7 +8,8 @@ use Rattle.td_gen.specs.Generator.{generated}
 use Rattle.td_gen.proofs.Commands.{generated_are}
 use Rattle.td_script.specs.Script.{AreCommands, IsCommand}
 use Rattle.td_script.specs.declared.command.Command.{Command}
-use Rattle.td_script.specs.declared.command.Command.TheVariants.{Sites, Ins, Paste, Del, Flat, Cancel, Give, GiveAll, Settle, Show, Tree, Count}
+use Rattle.td_script.specs.declared.command.Command.TheVariants.{Sites, Ins, Paste, Del, Flat, Cancel, Give}
+use Rattle.td_script.specs.declared.command.Command.TheVariants.{GiveAll, Settle, Show, Tree, Count}
 use Rattle.td_script.specs.declared.command.Place.TheVariants.{Whole, Beside}
 use Rattle.td_run.specs.Sites.{MayStand}
 

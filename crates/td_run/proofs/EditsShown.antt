@@ -1,5 +1,7 @@
 -- What edits do to the atoms that a site shows.
-use Rattle.std.proofs.Common.{◌≡◌, ◌<◌, ◌≤◌, ◌+◌, ◌++◌, ◌⊎◌, length-append, ℕ, zero, suc, List, [], ◌∷◌, Bool, true, false, Option, Some, None, length, map, take, drop, refl, sym, ap, ◌∙◌, subst, ⊎_elim, inl, inr, nat_lt, if◌then◌else◌, arith}
+use Rattle.std.proofs.Common.{◌≡◌, ◌<◌, ◌≤◌, ◌+◌, ◌++◌, ◌⊎◌, length-append, ℕ, zero, suc, List, [], ◌∷◌, Bool}
+use Rattle.std.proofs.Common.{true, false, Option, Some, None, length, map, take, drop, refl, sym, ap, ◌∙◌}
+use Rattle.std.proofs.Common.{subst, ⊎_elim, inl, inr, nat_lt, if◌then◌else◌, arith}
 use Rattle.std.specs.Prelude.{All, slice_get}
 use Rattle.std.specs.List.{flat_map}
 use Rattle.std.specs.Option.{option_map}
@@ -28,7 +30,8 @@ use Rattle.td_op.specs.Input.{IsRequest}
 use Rattle.td_machine.specs.Machine.{Machine, made, next_dot, undecided}
 use Rattle.td_machine.specs.Hold.{held_row, held_slot}
 use Rattle.td_machine.specs.Making.{make}
-use Rattle.td_machine.specs.Request.{Attempt, Refuse, aim_step, attempt_step, delete_aim, insert_aim, insert_aim_at, is_past_limit, len, live_aim, perform}
+use Rattle.td_machine.specs.Request.{Attempt, Refuse, aim_step, attempt_step, delete_aim, insert_aim}
+use Rattle.td_machine.specs.Request.{insert_aim_at, is_past_limit, len, live_aim, perform}
 use Rattle.td_machine.specs.Step.{step}
 use Rattle.td_machine.specs.Taking.{Stepped, stepped}
 use Rattle.td_replica.specs.Replica.{ReplicaValue}
@@ -49,12 +52,14 @@ use Rattle.td_script.proofs.RunLemmas.{atoms_of_runs, runs_are_runs}
 abbrev Makes : Machine → Stepped → Machine → Type 0
 Makes m s done = ((is_made s.reply ≡ true) × (s.machine ≡ done)) ⊎ ((is_made s.reply ≡ false) × (s.machine ≡ m))
 
-attempt_makes : (held : Option DotValue) (a : Attempt) (m : Machine) → Makes m (attempt_step held a m) (perform a.body m)
+attempt_makes : (held : Option DotValue) (a : Attempt) (m : Machine)
+    → Makes m (attempt_step held a m) (perform a.body m)
 attempt_makes (Some by) a m = inr (refl, refl)
 attempt_makes None a m = at (is_past_limit a.room m)
   where
     at : (b : Bool)
-        → Makes m (if b then stepped (Limit (made m) (undecided m)) m else stepped (Made (next_dot m)) (perform a.body m))
+        → Makes m (if b then stepped (Limit (made m) (undecided m)) m else stepped (Made (next_dot m))
+        (perform a.body m))
         (perform a.body m)
     at true = inr (refl, refl)
     at false = inl (refl, refl)
@@ -69,7 +74,8 @@ shows : (m : Machine) (s : Stepped) (done : Machine) (least : ℕ) (after : List
     → least ≤ length (live_atoms m.doc) → live_atoms done.doc ≡ after → Shows m s least after
 shows m s done least after makes within is =
     ⊎_elim
-    (λ (p : (is_made s.reply ≡ true) × (s.machine ≡ done)). inl (p.0, within, ap (λ (x : Machine). live_atoms x.doc) p.1 ∙ is))
+    (λ (p : (is_made s.reply ≡ true) × (s.machine ≡ done)). inl
+    (p.0, within, ap (λ (x : Machine). live_atoms x.doc) p.1 ∙ is))
     (λ (p : (is_made s.reply ≡ false) × (s.machine ≡ m)). inr (p.0, ap (λ (x : Machine). live_atoms x.doc) p.1))
     makes
 
@@ -131,18 +137,25 @@ module _ (w : WorldValue) (site : ℕ) (i : IsWorld w) (some : 0 < site) (within
   pub asked_world : (request : Request) → IsRequest request → IsWorld (moved (ask site request) w)
   asked_world request valid =
       world_moved w i (ask site request)
-      (record { some = some; within = within; valid = valid; came = λ message e. absurd (local_is_no_take request message e) })
+      (record {
+        some = some;
+        within = within;
+        valid = valid;
+        came = λ message e. absurd (local_is_no_take request message e);
+      })
     where
       local_is_no_take : (request : Request) (message : Message) → ◌≡◌ {A = Input} (Local request) (Take message) → ⊥
       local_is_no_take request message e = cc
 
   pub asked_within : (request : Request) → site ≤ size (moved (ask site request) w)
-  asked_within request = let same : size (moved (ask site request) w) ≡ size w = size_moved w (ask site request) in omega (arith, within, same)
+  asked_within request = let same : size (moved (ask site request) w) ≡ size w = size_moved w (ask site request) in
+      omega (arith, within, same)
 
   -- and the site shows there what its machine shows
   asked_shows : (request : Request)
       → shown_at (moved (ask site request) w) site ≡ live_atoms (step (machine_of w site) (Local request)).machine.doc
-  asked_shows request = ap (λ (r : ReplicaValue). live_atoms r.machine.doc) (moved_here w (ask site request) some within)
+  asked_shows request = ap (λ (r : ReplicaValue). live_atoms r.machine.doc)
+      (moved_here w (ask site request) some within)
 
 -- ---- requests one after another
 
@@ -178,7 +191,8 @@ behind_it L Lv La run rest index n d long within first others =
     back = drop index L
 
     place : index + n ≡ length (front ++ run) + 0
-    place = let size : length front ≡ index = length-take-le index L within in let whole = length-append front run in omega (arith, size, whole, long)
+    place = let size : length front ≡ index = length-take-le index L within in let whole = length-append front run in
+        omega (arith, size, whole, long)
 
     split : Lv ≡ (front ++ run) ++ back
     split = first ∙ sym (append_assoc front run back)
@@ -193,15 +207,18 @@ behind_it L Lv La run rest index n d long within first others =
     both = ap (λ (k : ℕ). take (k + d) (run ++ rest)) (sym long) ∙ take-append-add run rest d
 
 -- one request, and then others
-module _ (w : WorldValue) (site index : ℕ) (i : IsWorld w) (some : 0 < site) (within : site ≤ size w) (request : Request)
+module _ (w : WorldValue) (site index : ℕ) (i : IsWorld w) (some : 0 < site) (within : site ≤ size w)
+    (request : Request)
     (run rest : List (List ℕ)) (others : Asked)
-    (is : (step (machine_of w site) (Local request)) ≡ aim_step (insert_aim_at run index (machine_of w site)) (machine_of w site))
+    (is : (step (machine_of w site) (Local request))
+    ≡ aim_step (insert_aim_at run index (machine_of w site)) (machine_of w site))
     (next : IsTyped site (index + length run) rest (moved (ask site request) w) others) where
   typed_on : IsTyped site index (run ++ rest) w
       (goes_on (reply_to (ask site request) w) (moved (ask site request) w) (length run) others)
   typed_on =
       ⊎_elim done not_done
-      (subst (λ (s : Stepped). Shows m s index (take index (live_atoms m.doc) ++ (run ++ drop index (live_atoms m.doc)))) (sym is)
+      (subst (λ (s : Stepped). Shows m s index (take index (live_atoms m.doc)
+      ++ (run ++ drop index (live_atoms m.doc)))) (sym is)
       (put_shows run index m (ruled w site i some within)))
     where
       m : Machine
@@ -218,7 +235,8 @@ module _ (w : WorldValue) (site index : ℕ) (i : IsWorld w) (some : 0 < site) (
           → IsTyped site index (run ++ rest) w (goes_on (reply_to (ask site request) w) v (length run) others)
       done p =
           subst (IsTyped site index (run ++ rest) w) (sym (made_on s.reply v (length run) others p.0))
-          (behind_it (shown_at w site) (shown_at v site) (shown_at others.world site) run rest index (length run) others.done
+          (behind_it (shown_at w site) (shown_at v site) (shown_at others.world site) run rest index (length run)
+          others.done
           refl p.1 (asked_shows w site i some within request ∙ p.2) next)
 
       not_done : (is_made s.reply ≡ false) × (live_atoms s.machine.doc ≡ live_atoms m.doc)
@@ -237,11 +255,13 @@ inserts_are_typed w site index (atom ∷ atoms) i some within each =
     let valid : IsAtom atom = All-head IsAtom atom atoms each in
     typed_on w site index i some within request (atom ∷ []) atoms
     (ask_all site (inserts (index + 1) atoms) (moved (ask site request) w)) refl
-    (inserts_are_typed (moved (ask site request) w) site (index + 1) atoms (asked_world w site i some within request valid)
+    (inserts_are_typed (moved (ask site request) w) site (index + 1) atoms
+    (asked_world w site i some within request valid)
     some (asked_within w site i some within request) (All-tail IsAtom atom atoms each))
 
 runs_are_typed : (w : WorldValue) (site index : ℕ) (runs : List (List (List ℕ))) → IsWorld w → 0 < site → site ≤ size w
-    → All IsRun runs → IsTyped site index (flat_map (λ (run : List (List ℕ)). run) runs) w (ask_all site (pastes index runs) w)
+    → All IsRun runs → IsTyped site index (flat_map (λ (run : List (List ℕ)). run) runs) w
+    (ask_all site (pastes index runs) w)
 runs_are_typed w site index [] i some within each =
     nothing_typed site index [] w (record { world = w; done = 0; refused = None }) refl refl
 runs_are_typed w site index (run ∷ runs) i some within each =
@@ -256,7 +276,8 @@ runs_are_typed w site index (run ∷ runs) i some within each =
 pub pastes_are_typed : (w : WorldValue) (site index : ℕ) (atoms : List (List ℕ)) → IsWorld w → 0 < site → site ≤ size w
     → All IsAtom atoms → IsTyped site index atoms w (ask_all site (pastes index (runs_of atoms)) w)
 pastes_are_typed w site index atoms i some within each =
-    subst (λ (all : List (List ℕ)). IsTyped site index all w (ask_all site (pastes index (runs_of atoms)) w)) (atoms_of_runs atoms)
+    subst (λ (all : List (List ℕ)). IsTyped site index all w (ask_all site (pastes index (runs_of atoms)) w))
+    (atoms_of_runs atoms)
     (runs_are_typed w site index (runs_of atoms) i some within (runs_are_runs atoms each))
 
 -- ---- deletes
@@ -325,5 +346,6 @@ deletes_cut w site index zero i some within =
     nothing_cut site index w (record { world = w; done = 0; refused = None }) refl refl
 deletes_cut w site index (suc count) i some within =
     cut_on w site index i some within (ask_all site (deletes index count) (moved (ask site (Delete index)) w))
-    (deletes_cut (moved (ask site (Delete index)) w) site index count (asked_world w site i some within (Delete index) tt)
+    (deletes_cut (moved (ask site (Delete index)) w) site index count
+    (asked_world w site i some within (Delete index) tt)
     some (asked_within w site i some within (Delete index)))

@@ -1,5 +1,6 @@
 -- Events one after another.
-use Rattle.std.proofs.Common.{◌≡◌, ◌<◌, ◌≤◌, ◌+◌, ◌-◌, ◌++◌, ◌∷◌, ℕ, suc, zero, List, [], take, drop, length, ap, sym, ◌∙◌, arith}
+use Rattle.std.proofs.Common.{◌≡◌, ◌<◌, ◌≤◌, ◌+◌, ◌-◌, ◌++◌, ◌∷◌, ℕ, suc, zero, List, []}
+use Rattle.std.proofs.Common.{take, drop, length, ap, sym, ◌∙◌, arith}
 use Rattle.std.specs.List.{flat_map, slice_get}
 use Rattle.std.proofs.lemmas.List.{append-nil, append_assoc, length-drop, take_all}
 use Rattle.td_op.specs.declared.message.Message.{Message}
@@ -53,7 +54,8 @@ all_events sent before number past =
     (let rest : length (drop before sent) ≡ length sent - before = length-drop before sent in omega arith))
 
 -- a line is printed, and then the events since a moment
-pub line_then_events : (p q r : Printed) (world : WorldValue) (line : List ℕ) (before : ℕ) → before ≡ length p.world.sent
+pub line_then_events : (p q r : Printed) (world : WorldValue) (line : List ℕ) (before : ℕ) → before
+    ≡ length p.world.sent
     → q ≡ with_line line (record { world = world; text = p.text })
     → r ≡ with_line (flat_map event_line (drop before q.world.sent)) q
     → r ≡ and_then p (line_and_events p.world world line)

@@ -1,5 +1,6 @@
 -- Edits one after another.
-use Rattle.std.proofs.Common.{◌≡◌, ◌<◌, ◌+◌, ◌-◌, ◌∷◌, List, length, ℕ, suc, Bool, true, Some, ap, sym, ◌∙◌, arith, if◌then◌else◌}
+use Rattle.std.proofs.Common.{◌≡◌, ◌<◌, ◌+◌, ◌-◌, ◌∷◌, List, length, ℕ, suc, Bool, true}
+use Rattle.std.proofs.Common.{Some, ap, sym, ◌∙◌, arith, if◌then◌else◌}
 use Rattle.td_op.specs.declared.reply.Reply.{Reply}
 use Rattle.td_op.specs.declared.request.Request.TheVariants.{Delete, Paste}
 use Rattle.td_world.specs.World.{WorldValue, reply_to, moved}
@@ -34,7 +35,8 @@ next_delete site index count done w less =
     ap (λ (k : ℕ). ask_all site (deletes index k) w) more
 
 -- after the next of the runs that are left
-pub pasted : (site index done len next : ℕ) (run : List (List ℕ)) (rest left : List (List (List ℕ))) (w v : WorldValue) (all : Asked)
+pub pasted : (site index done len next : ℕ) (run : List (List ℕ)) (rest left : List (List (List ℕ)))
+    (w v : WorldValue) (all : Asked)
     → left ≡ run ∷ rest → is_made (reply_to (ask site (Paste index run)) w) ≡ true
     → v ≡ moved (ask site (Paste index run)) w → len ≡ length run → next ≡ index + len
     → all ≡ done_before done (ask_all site (pastes index left) w)

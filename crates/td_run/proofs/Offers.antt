@@ -1,5 +1,6 @@
 -- Messages that are offered to a site, one after another.
-use Rattle.std.proofs.Common.{◌≡◌, ◌<◌, ◌+◌, ℕ, zero, suc, List, [], ◌∷◌, Bool, true, false, drop, Option, Some, None, ap, sym, refl, ◌∙◌, if◌then◌else◌, arith}
+use Rattle.std.proofs.Common.{◌≡◌, ◌<◌, ◌+◌, ℕ, zero, suc, List, [], ◌∷◌, Bool, true, false, drop}
+use Rattle.std.proofs.Common.{Option, Some, None, ap, sym, refl, ◌∙◌, if◌then◌else◌, arith}
 use Rattle.std.specs.Prelude.{◌&&◌, not}
 use Rattle.std.specs.List.{slice_get}
 use Rattle.std.proofs.lemmas.List.{append-nil, append_assoc}
@@ -10,7 +11,8 @@ use Rattle.td_replica.specs.declared.given.Given.{Given}
 use Rattle.td_report.specs.Given.{give_line}
 use Rattle.td_world.specs.World.{WorldValue, Move, machine_of, moved_all}
 use Rattle.td_op.specs.Message.{is_for}
-use Rattle.td_world.specs.Calls.{give_moves, is_known, is_wanted, offered, offered_by, offer_moves, offer_moves_of, took, wanted_answer, wanted_moves}
+use Rattle.td_world.specs.Calls.{give_moves, is_known, is_wanted, offered, offered_by, offer_moves}
+use Rattle.td_world.specs.Calls.{offer_moves_of, took, wanted_answer, wanted_moves}
 use Rattle.td_world.specs.Parts.{ArePassed}
 use Rattle.td_run.specs.Printing.{Printed, and_then, give_each, give_wanted, line_and_events, only_line}
 
@@ -43,7 +45,8 @@ given_is site number m given w there offers =
 nothing_printed : (site number : ℕ) (m : Message) (w : WorldValue) → is_wanted site m w ≡ false
     → give_wanted site number m w ≡ only_line w []
 nothing_printed site number m w e =
-    ap (λ (b : Bool). if b then line_and_events w (moved_all (wanted_moves site m w) w) (give_line site number (took site m w))
+    ap (λ (b : Bool). if b then line_and_events w (moved_all (wanted_moves site m w) w)
+    (give_line site number (took site m w))
     else only_line w []) e
 
 nothing_moved : (site : ℕ) (m : Message) (w : WorldValue) → is_wanted site m w ≡ false → wanted_moves site m w ≡ []

@@ -1,5 +1,6 @@
 -- In every world each command of a script leads on to a world. So a script has an output.
-use Rattle.std.proofs.Common.{◌≡◌, ◌<◌, ◌≤◌, ◌+◌, ◌*◌, ◌++◌, ◌⊎◌, ℕ, zero, suc, List, [], ◌∷◌, Bool, true, false, Option, Some, None, length, refl, sym, ap, subst, ◌∙◌, inl, inr, if◌then◌else◌, arith}
+use Rattle.std.proofs.Common.{◌≡◌, ◌<◌, ◌≤◌, ◌+◌, ◌*◌, ◌++◌, ◌⊎◌, ℕ, zero, suc, List, [], ◌∷◌, Bool, true, false}
+use Rattle.std.proofs.Common.{Option, Some, None, length, refl, sym, ap, subst, ◌∙◌, inl, inr, if◌then◌else◌, arith}
 use Rattle.std.specs.Prelude.{All}
 use Rattle.std.proofs.lemmas.List.{append-nil, append_assoc, length-map}
 use Rattle.std.proofs.lemmas.List.Elements.{All-cons, All-head, All-nil, All-tail, All-weaker}
@@ -21,13 +22,16 @@ use Rattle.td_report.specs.Tree.{show_line, tree_lines}
 use Rattle.td_script.specs.Runs.{runs_of}
 use Rattle.td_script.specs.Script.{AreCommands, IsCommand, IsDotOf}
 use Rattle.td_script.specs.declared.command.Command.{Command}
-use Rattle.td_script.specs.declared.command.Command.TheVariants.{Sites, Ins, Paste, Del, Flat, Cancel, Give, GiveAll, Settle, Show, Tree, Count}
+use Rattle.td_script.specs.declared.command.Command.TheVariants.{Sites, Ins, Paste, Del, Flat, Cancel, Give}
+use Rattle.td_script.specs.declared.command.Command.TheVariants.{GiveAll, Settle, Show, Tree, Count}
 use Rattle.td_script.specs.declared.command.Place.{Place}
 use Rattle.td_script.specs.declared.command.Place.TheVariants.{Whole, Beside}
 use Rattle.td_script.specs.declared.script.Script.{Script}
 use Rattle.td_script.proofs.RunLemmas.{runs_are_runs}
-use Rattle.td_world.specs.World.{IsWorld, WorldValue, family_of, is_for, machine_of, moved, moved_all, new_world, reply_to, size}
-use Rattle.td_world.specs.Calls.{ask, count_given, found_moves, give_moves, is_ready, next, nexts, passes, take, wanted_moves}
+use Rattle.td_world.specs.World.{IsWorld, WorldValue, family_of, is_for, machine_of, moved}
+use Rattle.td_world.specs.World.{moved_all, new_world, reply_to, size}
+use Rattle.td_world.specs.Calls.{ask, count_given, found_moves, give_moves, is_ready}
+use Rattle.td_world.specs.Calls.{next, nexts, passes, take, wanted_moves}
 use Rattle.td_world.specs.Calls.{IsSettled}
 use Rattle.td_world.proofs.Beginnings.{new_is_world}
 use Rattle.td_world.proofs.Due.{due_passes, due_wanted, sent_valid, world_due}
@@ -102,7 +106,8 @@ proposal_is_asked (Beside index bit) = tt
 
 -- ---- messages that are given
 
-nexts_lead : (k site : ℕ) (w : WorldValue) → IsWorld w → 0 < site → site ≤ size w → IsWorld (moved_all (nexts k site w) w)
+nexts_lead : (k site : ℕ) (w : WorldValue) → IsWorld w → 0 < site → site ≤ size w
+    → IsWorld (moved_all (nexts k site w) w)
 nexts_lead zero site w i some within = i
 nexts_lead (suc k) site w i some within =
     at (is_ready (machine_of w site)) (nexts_lead k site v here some low)
@@ -233,7 +238,8 @@ goes_on_from old (Flat site (Beside index bit)) i is = record {
   new = and_then old (flat site (Beside index bit) old.world);
   own = refl;
   taken = refl;
-  world = asked_world old.world site i is.0.0 is.0.1 (proposal (Beside index bit)) (proposal_is_asked (Beside index bit));
+  world = asked_world old.world site i is.0.0 is.0.1 (proposal (Beside index bit))
+      (proposal_is_asked (Beside index bit));
 }
 goes_on_from old (Cancel site p) i is = record {
   new = and_then old (cancel site p old.world);
@@ -382,7 +388,8 @@ output_is script end own taken i =
       text = refl;
     }
 
-pub has_output : (script : Script) → AreCommands script.sites script.commands → (bytes : List ℕ) × IsOutputOf script bytes
+pub has_output : (script : Script) → AreCommands script.sites script.commands → (bytes : List ℕ)
+    × IsOutputOf script bytes
 has_output script are = at script.commands refl are
   where
     n : ℕ

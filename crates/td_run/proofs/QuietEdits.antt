@@ -1,5 +1,6 @@
 -- Edits send operations that are no decisions, so no event is told of them.
-use Rattle.std.proofs.Common.{◌≡◌, ◌+◌, ◌++◌, ℕ, zero, suc, List, [], ◌∷◌, Bool, true, false, Option, Some, None, length, drop, refl, sym, ap, ◌∙◌, nat_lt, if◌then◌else◌, arith}
+use Rattle.std.proofs.Common.{◌≡◌, ◌+◌, ◌++◌, ℕ, zero, suc, List, [], ◌∷◌, Bool, true, false, Option, Some, None}
+use Rattle.std.proofs.Common.{length, drop, refl, sym, ap, ◌∙◌, nat_lt, if◌then◌else◌, arith}
 use Rattle.std.specs.List.{flat_map}
 use Rattle.std.proofs.Math.Seq.{drop-append_seam}
 use Rattle.std.proofs.lemmas.Grind.{flat_map-append}
@@ -17,7 +18,8 @@ use Rattle.td_op.specs.declared.reply.Reply.TheVariants.{Held, Limit, Made, Posi
 use Rattle.td_machine.specs.Hold.{held_row, held_slot}
 use Rattle.td_machine.specs.Machine.{Machine, made, next_dot, next_op, undecided}
 use Rattle.td_machine.specs.Making.{make}
-use Rattle.td_machine.specs.Request.{Attempt, Refuse, aim_step, attempt_step, delete_aim, insert_aim, insert_aim_at, is_past_limit, len, live_aim, perform}
+use Rattle.td_machine.specs.Request.{Attempt, Refuse, aim_step, attempt_step, delete_aim, insert_aim}
+use Rattle.td_machine.specs.Request.{insert_aim_at, is_past_limit, len, live_aim, perform}
 use Rattle.td_machine.specs.Step.{step}
 use Rattle.td_machine.specs.Taking.{Stepped, stepped}
 use Rattle.td_report.specs.Replies.{body_event, event_line}
@@ -47,7 +49,8 @@ attempted (Some by) a m quiet = refused (Held by) m
 attempted None a m quiet = at (is_past_limit a.room m)
   where
     at : (b : Bool)
-        → IsQuiet m (if b then stepped (Limit (made m) (undecided m)) m else stepped (Made (next_dot m)) (perform a.body m))
+        → IsQuiet m (if b then stepped (Limit (made m) (undecided m)) m else stepped (Made (next_dot m))
+        (perform a.body m))
     at true = refused (Limit (made m) (undecided m)) m
     at false = quiet
 
@@ -85,9 +88,11 @@ record SendsQuietly (w : WorldValue) (a : Asked) : Type 0 where
   quiet : flat_map event_line more ≡ []
 
 -- one request, and then others
-goes_on_quietly : (w v : WorldValue) (first : List Message) (n : ℕ) (reply : Reply) (others : Asked) → v.sent ≡ w.sent ++ first
+goes_on_quietly : (w v : WorldValue) (first : List Message) (n : ℕ) (reply : Reply) (others : Asked) → v.sent ≡ w.sent
+    ++ first
     → flat_map event_line first ≡ [] → SendsQuietly v others
-    → (b : Bool) → SendsQuietly w (if b then done_before n others else record { world = v; done = 0; refused = Some reply })
+    → (b : Bool) → SendsQuietly w (if b then done_before n others else record
+    { world = v; done = 0; refused = Some reply })
 goes_on_quietly w v first n reply others sent quiet s true = record {
   more = first ++ s.more;
   sent = s.sent ∙ ap (λ (messages : List Message). messages ++ s.more) sent ∙ append_assoc w.sent first s.more;
@@ -99,7 +104,8 @@ asked_quietly : (site : ℕ) (edits : List Edit) (w : WorldValue) → AreQuiet e
 asked_quietly site [] w quiet = record { more = []; sent = sym (append-nil w.sent); quiet = refl }
 asked_quietly site (edit ∷ edits) w quiet =
     let move = ask site edit.request in
-    goes_on_quietly w (moved move w) (sent_by move w) edit.atoms (reply_to move w) (ask_all site edits (moved move w)) refl
+    goes_on_quietly w (moved move w) (sent_by move w) edit.atoms (reply_to move w) (ask_all site edits (moved move w))
+    refl
     (quiet.0 (machine_of w site)) (asked_quietly site edits (moved move w) quiet.1) (is_made (reply_to move w))
 
 no_events : (w : WorldValue) (a : Asked) → SendsQuietly w a → events w a.world ≡ []
@@ -122,7 +128,8 @@ deletes_quiet index (suc count) = (λ m. cut index m, deletes_quiet index count)
 pub no_events_of_inserts : (site index : ℕ) (atoms : List (List ℕ)) (w : WorldValue)
     → events w (ask_all site (inserts index atoms) w).world ≡ []
 no_events_of_inserts site index atoms w =
-    no_events w (ask_all site (inserts index atoms) w) (asked_quietly site (inserts index atoms) w (inserts_quiet index atoms))
+    no_events w (ask_all site (inserts index atoms) w)
+    (asked_quietly site (inserts index atoms) w (inserts_quiet index atoms))
 
 pub no_events_of_pastes : (site index : ℕ) (atoms : List (List ℕ)) (w : WorldValue)
     → events w (ask_all site (pastes index (runs_of atoms)) w).world ≡ []
@@ -133,7 +140,8 @@ no_events_of_pastes site index atoms w =
 pub no_events_of_deletes : (site index count : ℕ) (w : WorldValue)
     → events w (ask_all site (deletes index count) w).world ≡ []
 no_events_of_deletes site index count w =
-    no_events w (ask_all site (deletes index count) w) (asked_quietly site (deletes index count) w (deletes_quiet index count))
+    no_events w (ask_all site (deletes index count) w)
+    (asked_quietly site (deletes index count) w (deletes_quiet index count))
 
 -- where no event is told, the line is all that is printed
 pub told_quietly : (p q : Printed) (world : WorldValue) (line : List ℕ) → events p.world world ≡ []

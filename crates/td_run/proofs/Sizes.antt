@@ -3,7 +3,8 @@ use Rattle.std.proofs.Common.{◌≡◌, ℕ, suc, List, [], ◌∷◌, Bool, tr
 use Rattle.td_op.specs.declared.message.Message.{Message}
 use Rattle.td_op.specs.declared.reply.Reply.{Reply}
 use Rattle.td_script.specs.declared.command.Command.{Command}
-use Rattle.td_script.specs.declared.command.Command.TheVariants.{Sites, Ins, Paste, Del, Flat, Cancel, Give, GiveAll, Settle, Show, Tree, Count}
+use Rattle.td_script.specs.declared.command.Command.TheVariants.{Sites, Ins, Paste, Del, Flat, Cancel, Give}
+use Rattle.td_script.specs.declared.command.Command.TheVariants.{GiveAll, Settle, Show, Tree, Count}
 use Rattle.td_op.specs.declared.request.Request.TheVariants.{Cancel as GiveUp}
 use Rattle.td_world.specs.World.{WorldValue, moved, moved_all, reply_to, size}
 use Rattle.td_world.specs.Calls.{ask, numbered_moves, passes, wanted_moves}
@@ -20,7 +21,8 @@ gone_on : (reply : Reply) (v : WorldValue) (count : ℕ) (others : Asked) → si
 gone_on reply v count others same = at (is_made reply)
   where
     at : (b : Bool)
-        → size (if b then done_before count others else record { world = v; done = 0; refused = Some reply }).world ≡ size v
+        → size (if b then done_before count others else record { world = v; done = 0; refused = Some reply }).world
+        ≡ size v
     at true = same
     at false = refl
 

@@ -1,5 +1,6 @@
 -- A script that is being played: what was printed so far, of which a front was put and the rest is held.
-use Rattle.std.proofs.Common.{◌≡◌, ◌<◌, ◌≤◌, ◌+◌, ◌++◌, ℕ, List, [], ◌∷◌, Option, length, drop, take, get_or, refl, sym, ap, subst, ◌∙◌, inl, inr, arith}
+use Rattle.std.proofs.Common.{◌≡◌, ◌<◌, ◌≤◌, ◌+◌, ◌++◌, ℕ, List, [], ◌∷◌, Option, length, drop, take}
+use Rattle.std.proofs.Common.{get_or, refl, sym, ap, subst, ◌∙◌, inl, inr, arith}
 use Rattle.std.specs.Prelude.{All}
 use Rattle.std.specs.Io.KnownBytes.{Appends}
 use Rattle.std.proofs.KnownBytes.{Appends-nil, Appends-trans}
@@ -14,7 +15,8 @@ use Rattle.td_world.specs.World.{IsWorld, size}
 use Rattle.td_run.specs.Answer.{PutsFront}
 use Rattle.td_run.specs.Outputs.{IsOutputOf, PutsOut}
 use Rattle.td_run.specs.Printing.{Printed, Prints, PrintsAll, behind, only_line, own_text, taken_text}
-use Rattle.td_run.proofs.Onward.{GoOn, MayCome, all_grow, commands_come, comes_on, go_on, has_output, output_is, prints_behind, start_of}
+use Rattle.td_run.proofs.Onward.{GoOn, MayCome, all_grow, commands_come, comes_on, go_on}
+use Rattle.td_run.proofs.Onward.{has_output, output_is, prints_behind, start_of}
 use Rattle.td_run.proofs.Played.{Leads, leads_on, leads_to}
 use Rattle.td_run.proofs.Sizes.{size_stays}
 use Rattle.td_run.proofs.Unique.{same_step}

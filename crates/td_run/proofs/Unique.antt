@@ -3,12 +3,14 @@ use Rattle.std.proofs.Common.{◌≡◌, ℕ, List, [], ◌∷◌, ◌++◌, sym
 use Rattle.td_doc.specs.Document.{live_atoms}
 use Rattle.td_gen.specs.Generator.{generated}
 use Rattle.td_script.specs.declared.command.Command.{Command}
-use Rattle.td_script.specs.declared.command.Command.TheVariants.{Sites, Ins, Paste, Del, Flat, Cancel, Give, GiveAll, Settle, Show, Tree, Count}
+use Rattle.td_script.specs.declared.command.Command.TheVariants.{Sites, Ins, Paste, Del, Flat, Cancel, Give}
+use Rattle.td_script.specs.declared.command.Command.TheVariants.{GiveAll, Settle, Show, Tree, Count}
 use Rattle.td_script.specs.declared.script.Script.{Script}
 use Rattle.td_report.specs.Given.{settle_line}
 use Rattle.td_world.specs.World.{WorldValue, new_world, machine_of}
 use Rattle.td_world.proofs.Causes.{settled_one}
-use Rattle.td_run.specs.Printing.{Printed, Shown, and_then, only_line, events, own_text, IsSettling, Settles, Prints, PrintsAll, PrintsScript}
+use Rattle.td_run.specs.Printing.{Printed, Shown, and_then, only_line, events, own_text}
+use Rattle.td_run.specs.Printing.{IsSettling, Settles, Prints, PrintsAll, PrintsScript}
 use Rattle.td_run.specs.Outputs.{IsOutputOf, IsSummary, summary}
 
 same_printed : (p q : Printed) → p.world ≡ q.world → p.text ≡ q.text → p ≡ q
@@ -22,9 +24,11 @@ same_settling w p q s t =
     same_printed p q world (s.2 ∙ ((λ i. events w (world i) ++ settle_line (given i)) ∙ sym t.2))
 
 same_settles : (old p q : Printed) → Settles old p → Settles old q → p ≡ q
-same_settles old p q s t = s.2 ∙ (ap (λ (r : Printed). and_then old r) (same_settling old.world s.0 t.0 s.1 t.1) ∙ sym t.2)
+same_settles old p q s t = s.2 ∙ (ap (λ (r : Printed). and_then old r) (same_settling old.world s.0 t.0 s.1 t.1)
+    ∙ sym t.2)
 
-pub same_step : (shown : Shown) (old : Printed) (c : Command) (p q : Printed) → Prints shown old c p → Prints shown old c q → p ≡ q
+pub same_step : (shown : Shown) (old : Printed) (c : Command) (p q : Printed) → Prints shown old c p
+    → Prints shown old c q → p ≡ q
 same_step shown old (Sites n) p q a b = a ∙ sym b
 same_step shown old (Ins site index atoms) p q a b = a ∙ sym b
 same_step shown old (Paste site index atoms) p q a b = a ∙ sym b
@@ -38,7 +42,8 @@ same_step shown old (Show site) p q a b = a ∙ sym b
 same_step shown old (Tree site) p q a b = a ∙ sym b
 same_step shown old (Count site) p q a b = a ∙ sym b
 
-same_all : (shown : Shown) (old : Printed) (cs : List Command) (p q : Printed) → PrintsAll shown old cs p → PrintsAll shown old cs q → p ≡ q
+same_all : (shown : Shown) (old : Printed) (cs : List Command) (p q : Printed) → PrintsAll shown old cs p
+    → PrintsAll shown old cs q → p ≡ q
 same_all shown old [] p q a b = a ∙ sym b
 same_all shown old (c ∷ cs) p q a b =
     let next : a.0 ≡ b.0 = same_step shown old c a.0 b.0 a.1 b.1 in
@@ -48,7 +53,8 @@ one_end : (script : Script) (p q : Printed) → PrintsScript own_text script p �
 one_end script p q a b = same_all own_text (only_line (new_world script.sites) []) script.commands p q a b
 
 pub one_output : (script : Script) (a b : List ℕ) → IsOutputOf script a → IsOutputOf script b → a ≡ b
-one_output script a b s t = s.text ∙ (ap (λ (p : Printed). p.text) (one_end script s.end t.end s.played.own t.played.own) ∙ sym t.text)
+one_output script a b s t = s.text ∙ (ap (λ (p : Printed). p.text)
+    (one_end script s.end t.end s.played.own t.played.own) ∙ sym t.text)
 
 pub one_summary : (size number : ℕ) (a b : List ℕ) → IsSummary size number a → IsSummary size number b → a ≡ b
 one_summary size number a b s t =

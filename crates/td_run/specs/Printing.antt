@@ -9,7 +9,8 @@ use Rattle.td_op.specs.declared.request.Request.TheVariants.{Propose, ProposeAt,
 use Rattle.td_order.specs.Show.{show}
 use Rattle.td_path.specs.declared.slot.Slot.TheVariants.{Root}
 use Rattle.td_script.specs.declared.command.Command.{Command}
-use Rattle.td_script.specs.declared.command.Command.TheVariants.{Sites, Ins, Paste, Del, Flat, Cancel, Give, GiveAll, Settle, Show, Tree, Count}
+use Rattle.td_script.specs.declared.command.Command.TheVariants.{Sites, Ins, Paste, Del, Flat, Cancel, Give}
+use Rattle.td_script.specs.declared.command.Command.TheVariants.{GiveAll, Settle, Show, Tree, Count}
 use Rattle.td_script.specs.declared.command.Place.{Place}
 use Rattle.td_script.specs.declared.command.Place.TheVariants.{Whole, Beside}
 use Rattle.td_script.specs.declared.script.Script.{Script}

@@ -2,7 +2,8 @@
 use Rattle.std.specs.Prelude.{◌≤◌, ⊤, ℕ, All}
 use Rattle.td_base.specs.Atom.{IsAtom}
 use Rattle.td_script.specs.declared.command.Command.{Command}
-use Rattle.td_script.specs.declared.command.Command.TheVariants.{Sites, Ins, Paste, Del, Flat, Cancel, Give, GiveAll, Settle, Show, Tree, Count}
+use Rattle.td_script.specs.declared.command.Command.TheVariants.{Sites, Ins, Paste, Del, Flat, Cancel, Give}
+use Rattle.td_script.specs.declared.command.Command.TheVariants.{GiveAll, Settle, Show, Tree, Count}
 
 -- the site that it names is one of so many, and what it pastes is atoms
 abbrev pub MayStand : ℕ → Command → Type 0

@@ -1,5 +1,6 @@
 -- How an `AtomList` keeps its atoms.
-use Rattle.std.proofs.Common.{◌≡◌, ◌<◌, ◌≤◌, ◌+◌, ◌^◌, ◌++◌, ◌∷◌, [], ℕ, suc, List, length, map, take, drop, replicate, sum, refl, sym, ap, subst, ◌∙◌, arith, length-append, length-drop}
+use Rattle.std.proofs.Common.{◌≡◌, ◌<◌, ◌≤◌, ◌+◌, ◌^◌, ◌++◌, ◌∷◌, [], ℕ, suc, List, length, map, take, drop}
+use Rattle.std.proofs.Common.{replicate, sum, refl, sym, ap, subst, ◌∙◌, arith, length-append, length-drop}
 use Rattle.std.specs.List.{All, concat}
 use Rattle.std.specs.Str.{IsAscii}
 use Rattle.std.proofs.lemmas.List.{map_push, length-replicate}
@@ -18,7 +19,8 @@ count_pieces [] bytes = refl
 count_pieces (len ∷ lens) bytes = ap suc (count_pieces lens (drop len bytes))
 
 -- what keeps these atoms
-pub parts_of : (atoms : List (List ℕ)) (lens bytes : List ℕ) → All IsAtom atoms → length lens < 2 ^ 32 → lens ≡ map length atoms → bytes ≡ concat atoms
+pub parts_of : (atoms : List (List ℕ)) (lens bytes : List ℕ) → All IsAtom atoms → length lens < 2 ^ 32 → lens
+    ≡ map length atoms → bytes ≡ concat atoms
     → IsAtomListParts lens bytes × (pieces lens bytes ≡ atoms)
 parts_of atoms lens bytes each few lens_are bytes_are =
     let again : pieces lens bytes ≡ atoms = (λ i. pieces (lens_are i) (bytes_are i)) ∙ pieces_again atoms in
@@ -27,14 +29,17 @@ parts_of atoms lens bytes each few lens_are bytes_are =
 
 -- one atom more
 pub with_atom : (lens bytes atom : List ℕ) → IsAtomListParts lens bytes → IsAtom atom → length lens + 1 < 2 ^ 32
-    → IsAtomListParts (lens ++ length atom ∷ []) (bytes ++ atom) × (pieces (lens ++ length atom ∷ []) (bytes ++ atom) ≡ pieces lens bytes ++ atom ∷ [])
+    → IsAtomListParts (lens ++ length atom ∷ []) (bytes ++ atom)
+    × (pieces (lens ++ length atom ∷ []) (bytes ++ atom) ≡ pieces lens bytes ++ atom ∷ [])
 with_atom lens bytes atom parts is few =
     let atoms : List (List ℕ) = pieces lens bytes in
     let each = All-append IsAtom atoms (atom ∷ []) parts.each (All-cons IsAtom atom [] is (All-nil IsAtom)) in
     let lengths : map length (atoms ++ atom ∷ []) ≡ lens ++ length atom ∷ [] =
     map_push length atoms atom ∙ ap (λ (ls : List ℕ). ls ++ length atom ∷ []) (piece_lengths lens bytes parts.whole) in
-    let all : concat (atoms ++ atom ∷ []) ≡ bytes ++ atom = concat_push atoms atom ∙ ap (λ (bs : List ℕ). bs ++ atom) (piece_bytes lens bytes parts.whole) in
-    parts_of (atoms ++ atom ∷ []) _ _ each (omega (arith, few, length-append lens (length atom ∷ []))) (sym lengths) (sym all)
+    let all : concat (atoms ++ atom ∷ []) ≡ bytes ++ atom = concat_push atoms atom
+    ∙ ap (λ (bs : List ℕ). bs ++ atom) (piece_bytes lens bytes parts.whole) in
+    parts_of (atoms ++ atom ∷ []) _ _ each (omega (arith, few, length-append lens (length atom ∷ []))) (sym lengths)
+    (sym all)
 
 -- how the letters of a text are kept
 letters_lengths : (text : List ℕ) → replicate (length text) 1 ≡ map length (letters text)

@@ -38,10 +38,11 @@ lacks_lf line h = λ i d inside e.
     (list_any_at is_ascii_control line i d inside (subst (λ (b : ℕ). is_ascii_control b ≡ true) (sym e) refl))
 
 -- what was judged of a line
-pub data IsJudged {C : Type 0} (line_of : C → List ℕ) (Stands : C → Type 0) (line : List ℕ) (o : Option C) : Type 0 where
-  says_nothing : IsLine line → is_skipped line ≡ true → o ≡ None → IsJudged line_of Stands line o
-  says : IsLine line → is_skipped line ≡ false → (c : C) → o ≡ Some c → line ≡ line_of c → Stands c
-      → IsJudged line_of Stands line o
+pub data IsJudged {C : Type 0} (line_of : C → List ℕ) (Stands : C → Type 0) (line : List ℕ) (o : Option C) : Type 0
+  where
+    says_nothing : IsLine line → is_skipped line ≡ true → o ≡ None → IsJudged line_of Stands line o
+    says : IsLine line → is_skipped line ≡ false → (c : C) → o ≡ Some c → line ≡ line_of c → Stands c
+        → IsJudged line_of Stands line o
 
 said_back : {C : Type 0} (r : Result C Kind) (o : Option C) → said r ≡ Ok o → (c : C) × (r ≡ Ok c) × (o ≡ Some c)
 said_back (Ok c) o e = (c, refl, sym (ok_same (Some c) o e))
@@ -171,7 +172,8 @@ module _ {B C : Type 0} (judge : B → List ℕ → Result (Option C) Kind) (aft
   ReadsBack number lines = (before : B) (cs : List C) → IsGood before
       → judged_each judge after number lines before ≡ Ok cs → AreLinesOf after line_of CanStand before lines cs
 
-  silent_back : (line : List ℕ) (lines : List (List ℕ)) (before : B) (cs : List C) → IsJudged line_of (CanStand before) line None
+  silent_back : (line : List ℕ) (lines : List (List ℕ)) (before : B) (cs : List C)
+      → IsJudged line_of (CanStand before) line None
       → AreLinesOf after line_of CanStand before lines cs → AreLinesOf after line_of CanStand before (line ∷ lines) cs
   silent_back line lines before cs (says_nothing is skipped same) others = record {
     each = All-cons IsLine line lines is others.each;
@@ -236,7 +238,8 @@ module _ {B C : Type 0} (judge : B → List ℕ → Result (Option C) Kind) (aft
         more = h.more;
       })
   go_there number line lines before [] good h false e ih =
-      absurd (no_commands line (filter (λ line. not (is_skipped line)) lines) (sym (filter_spoken line lines e) ∙ h.spelled))
+      absurd (no_commands line (filter (λ line. not (is_skipped line)) lines)
+      (sym (filter_spoken line lines e) ∙ h.spelled))
   go_there number line lines before (c ∷ cs) good h false e ih =
       let same = first_same line (line_of c) (filter (λ line. not (is_skipped line)) lines) (map line_of cs)
       (sym (filter_spoken line lines e) ∙ h.spelled) in
@@ -324,7 +327,8 @@ module _ {B C : Type 0} (judge : B → List ℕ → Result (Option C) Kind) (aft
   pub stands_here : (before : B) (line : List ℕ) (c : C) → IsGood before → judge before line ≡ Ok (Some c)
       → CanStand before c
   stands_here before line c good e =
-      stands_there judge after line_of IsGood CanStand language line before c (language.back before line (Some c) good e)
+      stands_there judge after line_of IsGood CanStand language line before c
+      (language.back before line (Some c) good e)
 
   pub one_more : (bytes rest line behind : List ℕ) (cs : List C) (before : B) (number : ℕ) (c : C)
       → IsRead bytes rest cs before number → lines_of rest ≡ line ∷ lines_of behind

@@ -219,7 +219,8 @@ pub judged_back : (size : ℕ) (before : Before) (line : List ℕ) (o : Option C
 judged_back size before line o few e =
     judged_line_back line_of (CanStand size before) (command_of size before)
     (λ line c u lacks e.
-    let is = named_command_back size before line (cut_word line).0 (cut_word line).1 c (word_named (cut_word line).0) few u
+    let is = named_command_back size before line (cut_word line).0 (cut_word line).1 c (word_named (cut_word line).0)
+    few u
     lacks (cut_back line).whole refl e in (is.whole, is.stands_there)) line o e
 
 named_command_there : (size : ℕ) (before : Before) (line : List ℕ) (c : Command) → IsLine line → is_skipped line ≡ false

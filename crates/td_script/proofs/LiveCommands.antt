@@ -1,11 +1,13 @@
 -- What the commands of a live script come to, one behind the other.
-use Rattle.std.proofs.Common.{◌≡◌, ◌≢◌, ◌<◌, ◌≤◌, ◌+◌, ◌-◌, ⊎_elim, ℕ, zero, suc, Bool, true, false, cond, eqb, ltb, ◌&&◌, ◌||◌}
+use Rattle.std.proofs.Common.{◌≡◌, ◌≢◌, ◌<◌, ◌≤◌, ◌+◌, ◌-◌, ⊎_elim, ℕ, zero, suc, Bool}
+use Rattle.std.proofs.Common.{true, false, cond, eqb, ltb, ◌&&◌, ◌||◌}
 use Rattle.std.proofs.Common.{List, [], ◌∷◌, ◌++◌, length, set, map, All, sum_by, Option, Some, None, refl, sym}
 use Rattle.std.proofs.Common.{ap, subst, ◌∙◌, append-nil, length-append, zero-add, arith}
 use Rattle.std.specs.Int.{IsInRange}
 use Rattle.std.specs.List.{flat_map, range_with_len}
 use Rattle.std.specs.Prelude.{slice_get}
-use Rattle.std.proofs.lemmas.Bool.{ne_eqb, eq-eqb, ltb-false, le-ltb, cond-true, cond-false, or_parts, or_from, cases_eq}
+use Rattle.std.proofs.lemmas.Bool.{ne_eqb, eq-eqb, ltb-false, le-ltb, cond-true}
+use Rattle.std.proofs.lemmas.Bool.{cond-false, or_parts, or_from, cases_eq}
 use Rattle.std.proofs.lemmas.Grind.{flat_map-append}
 use Rattle.std.proofs.lemmas.List.Elements.{All-nil, All-cons, All-head, All-tail, All-push}
 use Rattle.std.proofs.lemmas.List.FromFn.{get_or-map-range_with_len, map-range_with_len_more}
@@ -35,7 +37,8 @@ more_of : {X Y : Type 0} (f : X → List Y) (front : List X) (c : X)
 more_of f front c = flat_map-append f front (c ∷ [])
 
 -- which is nothing more
-stays : {X Y : Type 0} (f : X → List Y) (front : List X) (c : X) → f c ≡ [] → flat_map f (front ++ c ∷ []) ≡ flat_map f front
+stays : {X Y : Type 0} (f : X → List Y) (front : List X) (c : X) → f c ≡ [] → flat_map f (front ++ c ∷ [])
+    ≡ flat_map f front
 stays {Y = Y} f front c e = more_of f front c ∙ ap (λ (ys : List Y). flat_map f front ++ (ys ++ [])) e
     ∙ append-nil (flat_map f front)
 
@@ -86,7 +89,8 @@ declared_push : (editors : ℕ) (front : List LiveCommand) (c : LiveCommand) →
 declared_push editors [] c h is =
     let none : editors + 0 ≡ editors = omega arith in (subst (λ (n : ℕ). IsDeclared n c) none is, tt)
 declared_push editors (first ∷ front) c h is =
-    let whole : editors + length (homes_in (first ∷ front)) ≡ editors + length (home_of_command first) + length (homes_in front) =
+    let whole : editors + length (homes_in (first ∷ front))
+    ≡ editors + length (home_of_command first) + length (homes_in front) =
     ap (λ (n : ℕ). editors + n) (length-append (home_of_command first) (homes_in front)) ∙ (omega arith) in (
       h.0,
       declared_push (editors + length (home_of_command first)) front c h.1
@@ -104,7 +108,8 @@ declared_at : (editors : ℕ) (front : List LiveCommand) (c : LiveCommand) (back
 declared_at editors [] c back h =
     let none : editors ≡ editors + 0 = omega arith in subst (λ (n : ℕ). IsDeclared n c) none h.0
 declared_at editors (first ∷ front) c back h =
-    let whole : editors + length (homes_in (first ∷ front)) ≡ editors + length (home_of_command first) + length (homes_in front) =
+    let whole : editors + length (homes_in (first ∷ front))
+    ≡ editors + length (home_of_command first) + length (homes_in front) =
     ap (λ (n : ℕ). editors + n) (length-append (home_of_command first) (homes_in front)) ∙ (omega arith) in
     subst (λ (n : ℕ). IsDeclared n c) (sym whole)
     (declared_at (editors + length (home_of_command first)) front c back h.1)
@@ -175,7 +180,8 @@ lines_with_editor : (n site : ℕ) (front : List LiveCommand) → AreDeclared 0 
     ≡ lines_of_all n front ++ [] ∷ []
 lines_with_editor n site front declared e =
     let cs : List LiveCommand = front ++ Editor site ∷ [] in
-    let count : length (homes_in cs) ≡ n + 1 = length_more home_of_command front (Editor site) ∙ ap (λ (m : ℕ). m + 1) e in
+    let count : length (homes_in cs) ≡ n + 1 = length_more home_of_command front (Editor site)
+    ∙ ap (λ (m : ℕ). m + 1) e in
     let last_is : 1 + n ≡ n + 1 = omega arith in
     let none : lines_at (n + 1) cs ≡ [] =
     stays (line_at (n + 1)) front (Editor site) refl
@@ -434,14 +440,34 @@ room_back : (sites : ℕ) (front : List LiveCommand) (c : LiveCommand) → AreLi
 room_back sites front (Sites n) others h = absurd h.fits
 room_back sites front (Turns turns) others h =
     let none : length (turns_in front) ≡ 0 = ap length (first_none (turns_in front) h.place) in
-    record { turns = omega arith; losses = omega (arith, others.losses); editors = omega (arith, others.editors); declared = tt }
+    record {
+      turns = omega arith;
+      losses = omega (arith, others.losses);
+      editors = omega (arith, others.editors);
+      declared = tt;
+    }
 room_back sites front (Loss loss) others h =
     let none : length (losses_in front) ≡ 0 = ap length (first_none (losses_in front) h.place) in
-    record { turns = omega (arith, others.turns); losses = omega arith; editors = omega (arith, others.editors); declared = tt }
+    record {
+      turns = omega (arith, others.turns);
+      losses = omega arith;
+      editors = omega (arith, others.editors);
+      declared = tt;
+    }
 room_back sites front (Editor site) others h =
-    record { turns = omega (arith, others.turns); losses = omega (arith, others.losses); editors = omega (arith, h.place); declared = tt }
+    record {
+      turns = omega (arith, others.turns);
+      losses = omega (arith, others.losses);
+      editors = omega (arith, h.place);
+      declared = tt;
+    }
 room_back sites front (Line editor line) others h =
-    record { turns = omega (arith, others.turns); losses = omega (arith, others.losses); editors = omega (arith, others.editors); declared = h.place }
+    record {
+      turns = omega (arith, others.turns);
+      losses = omega (arith, others.losses);
+      editors = omega (arith, others.editors);
+      declared = h.place;
+    }
 
 -- commands and one more
 pub others_push : (sites : ℕ) (front : List LiveCommand) (c : LiveCommand) → AreLiveOthers sites front

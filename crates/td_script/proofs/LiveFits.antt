@@ -26,7 +26,8 @@ homes_fit : (sites : ℕ) (cs : List LiveCommand) → All (IsLiveCommand sites) 
     → AllByRecursion (IsSiteOf sites) (homes_in cs)
 homes_fit sites [] all = tt
 homes_fit sites (c ∷ cs) all =
-    all_append (IsSiteOf sites) (home_of_command c) (homes_in cs) (home_fits sites c (All-head (IsLiveCommand sites) c cs all))
+    all_append (IsSiteOf sites) (home_of_command c) (homes_in cs)
+    (home_fits sites c (All-head (IsLiveCommand sites) c cs all))
     (homes_fit sites cs (All-tail (IsLiveCommand sites) c cs all))
 
 commands_fit : (sites : ℕ) (cs : List LiveCommand) → AreLiveCommands sites cs

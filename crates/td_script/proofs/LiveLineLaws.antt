@@ -1,12 +1,13 @@
--- What is judged of a line of a live script: a command where the line is the line of a command that can stand there, and
--- only there.
+-- What is judged of a line of a live script: a command where the line is the line of a command that can stand there,
+-- and only there.
 use Rattle.std.proofs.Common.{◌≡◌, ◌≢◌, ◌<◌, ◌≤◌, ◌^◌, ℕ, Bool, true, false, cond, eqb, ltb, List, []}
 use Rattle.std.proofs.Common.{◌++◌, length, codes, Option, Some, None, Result, Ok, Err, refl, sym, ap, subst, ◌∙◌}
 use Rattle.std.proofs.Common.{append-nil, bytes_eq, IsUtf8, arith}
 use Rattle.std.specs.Int.{is_in_range, IsInRange}
 use Rattle.std.specs.List.{list_all}
 use Rattle.std.specs.Prelude.{is_some, nat_le}
-use Rattle.std.proofs.lemmas.Bool.{eqb-false, ne_eqb, ltb-false, le-ltb, leb-true, leb-false, le-leb, lt-leb, cond-false}
+use Rattle.std.proofs.lemmas.Bool.{eqb-false, ne_eqb, ltb-false, le-ltb, leb-true}
+use Rattle.std.proofs.lemmas.Bool.{leb-false, le-leb, lt-leb, cond-false}
 use Rattle.std.proofs.lemmas.Slice.Eq.{bytes_eq-Decides}
 use Rattle.td_base.proofs.Searches.{find_In}
 use Rattle.td_base.specs.declared.site.TheConstants.{MAX_SITE}
@@ -93,7 +94,8 @@ spelling_utf8 First.Editor = ascii_by_test (codes "editor") refl
 spelling_utf8 (First.AtEditor word) =
     ascii_by_test (live_spelling (First.AtEditor word)) (editor_spelling_ascii word)
 
-editor_word_named : (word : EditorWord) → live_word_named (live_spelling (First.AtEditor word)) ≡ Some (First.AtEditor word)
+editor_word_named : (word : EditorWord) → live_word_named (live_spelling (First.AtEditor word))
+    ≡ Some (First.AtEditor word)
 editor_word_named At.Ins = refl
 editor_word_named At.Paste = refl
 editor_word_named At.Del = refl
@@ -166,7 +168,8 @@ record SaysLive (size : ℕ) (before : LiveBefore) (word : LiveWord) (rest : Lis
   placed : IsLivePlaced size before word c
 
 sites_command_back : (size : ℕ) (before : LiveBefore) (rest : List ℕ) (c : LiveCommand)
-    → live_command size before.sites (length before.homes) First.Sites rest ≡ Ok c → SaysLive size before First.Sites rest c
+    → live_command size before.sites (length before.homes) First.Sites rest ≡ Ok c
+    → SaysLive size before First.Sites rest c
 sites_command_back size before rest c e =
     let got = made_back (λ n. Sites n) (sites_at size rest) c e in
     let sites = sites_back size rest got.0 got.1 in
@@ -193,7 +196,8 @@ few_enough n true h e = absurd (some_is_not_none e)
 few_enough n false h e = leb-false MAX_EDITORS n h
 
 turns_command_back : (size : ℕ) (before : LiveBefore) (rest : List ℕ) (c : LiveCommand)
-    → live_command size before.sites (length before.homes) First.Turns rest ≡ Ok c → SaysLive size before First.Turns rest c
+    → live_command size before.sites (length before.homes) First.Turns rest ≡ Ok c
+    → SaysLive size before First.Turns rest c
 turns_command_back size before rest c e =
     let first = behind_back (by_word turns_of rest) _ c e in
     let turns = tested_at_back (λ turns. nat_le turns MAX_TURNS) Fault.Turns (λ n. n ≤ MAX_TURNS)
@@ -205,9 +209,11 @@ turns_command_back size before rest c e =
     })
 
 loss_command_back : (size : ℕ) (before : LiveBefore) (rest : List ℕ) (c : LiveCommand)
-    → live_command size before.sites (length before.homes) First.Loss rest ≡ Ok c → SaysLive size before First.Loss rest c
+    → live_command size before.sites (length before.homes) First.Loss rest ≡ Ok c
+    → SaysLive size before First.Loss rest c
 loss_command_back size before rest c e =
-    let got = made_back (λ asked. Loss (record { drop_each = asked.0; double_each = asked.1 })) (two_numbers rest) c e in
+    let got = made_back (λ asked. Loss (record { drop_each = asked.0; double_each = asked.1 })) (two_numbers rest) c e
+    in
     let asked = two_numbers_back rest got.0 got.1 in
     subst (SaysLive size before First.Loss rest) got.2 (record {
       whole = ap (λ (xs : List ℕ). codes "loss" ++ xs) asked.whole;
@@ -224,7 +230,8 @@ editor_command_back size before rest c e =
     subst (SaysLive size before First.Editor rest) end.0 (record {
       whole = ap (λ (xs : List ℕ). codes "editor" ++ xs) (site.whole ∙ ended (spaced first.value) first.rest end.1);
       placed = live_later site.fits
-          (λ none. few_enough (length before.homes) (nat_le MAX_EDITORS (length before.homes)) refl none) (λ sites. refl);
+          (λ none. few_enough (length before.homes) (nat_le MAX_EDITORS (length before.homes)) refl none)
+          (λ sites. refl);
     })
 
 line_command_back : (size : ℕ) (before : LiveBefore) (word : EditorWord) (rest : List ℕ) (c : LiveCommand)
@@ -384,7 +391,8 @@ editor_line_there size before editor (Asked.Cancel proposal) good h =
     (made_there _ _ proposal (proposal_there before.sites proposal good.sites h.fits))
 editor_line_there size before editor Asked.Look good h =
     subst (λ (xs : List ℕ). IsLiveLineOf size before (codes "look" ++ xs) (Line editor Asked.Look))
-    (append-nil (spaced editor)) (line_of size before At.Look editor [] (codes "look" ++ (spaced editor ++ [])) Asked.Look
+    (append-nil (spaced editor)) (line_of size before At.Look editor [] (codes "look" ++ (spaced editor ++ []))
+    Asked.Look
     refl good h tt refl)
 
 live_line_there : (size : ℕ) (before : LiveBefore) (c : LiveCommand) → IsLiveGood before → LiveFollows before c

@@ -220,7 +220,8 @@ limits_at size sites n others are declared few fits =
         turns = few.turns;
         losses = few.losses;
         editors = few.editors;
-        requests = λ wide. subst (λ (sum : ℕ). sum ≤ MAX_WIDE_REQUESTS) (sites_add_nothing n others) (fits.requests wide);
+        requests = λ wide. subst (λ (sum : ℕ). sum ≤ MAX_WIDE_REQUESTS) (sites_add_nothing n others)
+            (fits.requests wide);
         own = fits.each;
         all = subst (λ (sum : ℕ). sum ≤ MAX_ALL_CALLS) (sites_add_nothing n others) fits.all;
       },
@@ -254,7 +255,8 @@ no_live_fault bytes live h = ap fault_in (judged_of_spelled bytes live h)
 
 -- the commands that were read spell what they come to
 nothing_spelled : (bytes : List ℕ) → length bytes ≤ MAX_LIVE_SCRIPT
-    → AreLinesOf live_after live_line_of (λ before c. LiveCanStand (length bytes) before c) live_start (lines_of bytes) []
+    → AreLinesOf live_after live_line_of (λ before c. LiveCanStand (length bytes) before c) live_start
+    (lines_of bytes) []
     → SpellsLive bytes (live_of 0 [])
 nothing_spelled bytes short lines = record {
   of = [];
@@ -281,7 +283,8 @@ some_spelled bytes n others short lines fits are = record {
   few = record { turns = are.turns; losses = are.losses; editors = are.editors };
   fits = record {
     small = narrow_back (length bytes) n fits.narrow;
-    requests = λ wide. subst (λ (sum : ℕ). sum ≤ MAX_WIDE_REQUESTS) (sym (sites_add_nothing n others)) (are.requests wide);
+    requests = λ wide. subst (λ (sum : ℕ). sum ≤ MAX_WIDE_REQUESTS) (sym (sites_add_nothing n others))
+        (are.requests wide);
     each = are.own;
     all = subst (λ (sum : ℕ). sum ≤ MAX_ALL_CALLS) (sym (sites_add_nothing n others)) are.all;
   };
@@ -293,7 +296,8 @@ abbrev pub live_before : LiveBefore → Live
 live_before before = live_from before.sites before.turns before.loss before.homes before.lines
 
 lines_spelled : (bytes : List ℕ) (cs : List LiveCommand) → length bytes ≤ MAX_LIVE_SCRIPT
-    → AreLinesOf live_after live_line_of (λ before c. LiveCanStand (length bytes) before c) live_start (lines_of bytes) cs
+    → AreLinesOf live_after live_line_of (λ before c. LiveCanStand (length bytes) before c) live_start
+    (lines_of bytes) cs
     → SpellsLive bytes (live_before (after_all live_start cs))
 lines_spelled bytes [] short lines = nothing_spelled bytes short lines
 lines_spelled bytes (c ∷ cs) short lines =
@@ -315,7 +319,8 @@ spelled_of_live_lines bytes cs short e =
 -- bytes spell one live script at most
 pub live_unique : (bytes : List ℕ) (s t : Live) → SpellsLive bytes s → SpellsLive bytes t → s ≡ t
 live_unique bytes s t h k =
-    let same : h.of ≡ k.of = same_commands h.of k.of (sym (judged_of_spelled bytes s h) ∙ judged_of_spelled bytes t k) in
+    let same : h.of ≡ k.of = same_commands h.of k.of (sym (judged_of_spelled bytes s h) ∙ judged_of_spelled bytes t k)
+    in
     let sites : s.sites ≡ t.sites = same_sites s.sites t.sites k.of (subst (AreLiveCommands s.sites) same h.commands)
     k.commands in
     h.whole ∙ (λ i. live_of (sites i) (same i)) ∙ sym k.whole

@@ -13,14 +13,16 @@ use Rattle.td_script.specs.declared.live.editor_line.EditorLine.TheVariants.{Ins
 use Rattle.td_script.specs.declared.live.script.TheConstants.{MAX_EDITORS}
 use Rattle.td_script.specs.declared.script.TheConstants.{MAX_LINE}
 use Rattle.td_script.specs.Lines.{is_skipped, is_text_line}
-use Rattle.td_script.specs.LiveScript.{AreDeclared, AreLiveCommands, IsDeclared, IsEditorLine, IsLiveCommand, IsLiveScript}
+use Rattle.td_script.specs.LiveScript.{AreDeclared, AreLiveCommands, IsDeclared}
+use Rattle.td_script.specs.LiveScript.{IsEditorLine, IsLiveCommand, IsLiveScript}
 use Rattle.td_script.specs.LiveScript.{IsLiveWritable, SpellsLive, home_of_command, homes_in, live_of, live_spelled}
 use Rattle.td_script.specs.LiveSpelling.{line_of_editor, live_line_of}
 use Rattle.td_script.specs.Script.{IsLine, IsPlace, IsSiteOf}
 use Rattle.td_script.specs.Spelling.{spaced, spaced_bit, spaced_dot, spaced_place, spaced_text}
 use Rattle.td_script.proofs.JudgingLaws.{all_spoken, lines_of_written}
 use Rattle.td_script.proofs.LiveLineLaws.{live_spoken}
-use Rattle.td_script.proofs.WritingLaws.{IsClean, alone_clean, bit_clean, both, by_test, dot_clean, line_clean, spaced_clean}
+use Rattle.td_script.proofs.WritingLaws.{IsClean, alone_clean, bit_clean, both, by_test}
+use Rattle.td_script.proofs.WritingLaws.{dot_clean, line_clean, spaced_clean}
 use Rattle.td_script.proofs.WritingLaws.{text_clean, text_line}
 
 place_clean : (place : Place) → IsPlace place → IsClean (spaced_place place)

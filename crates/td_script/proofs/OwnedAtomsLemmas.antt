@@ -1,5 +1,6 @@
 -- The atoms that are left of a list which is walked.
-use Rattle.std.proofs.Common.{◌≡◌, ◌<◌, ◌≤◌, ◌+◌, ◌-◌, ◌∷◌, ℕ, List, length, map, sum, take, drop, get_or, arith, ap, sym, subst, ◌∙◌, length-drop, drop-drop}
+use Rattle.std.proofs.Common.{◌≡◌, ◌<◌, ◌≤◌, ◌+◌, ◌-◌, ◌∷◌, ℕ, List, length, map, sum, take, drop}
+use Rattle.std.proofs.Common.{get_or, arith, ap, sym, subst, ◌∙◌, length-drop, drop-drop}
 use Rattle.std.proofs.lemmas.List.{drop_more, take_all}
 use Rattle.td_base.specs.Atom.{IsAtom}
 use Rattle.td_base.specs.Run.{IsRun, pieces}
@@ -10,7 +11,8 @@ use Rattle.td_script.proofs.RunLemmas.{first_run_is}
 
 -- what a slice has from a place on
 pub from_place : (slice all : List ℕ) (k : ℕ) → slice ≡ all → take (length slice - k) (drop k slice) ≡ drop k all
-from_place slice all k same = take_all (length slice - k) (drop k slice) (omega (arith, length-drop k slice)) ∙ ap (drop k) same
+from_place slice all k same = take_all (length slice - k) (drop k slice) (omega (arith, length-drop k slice))
+    ∙ ap (drop k) same
 
 -- so many bytes are the next atom
 pub record IsNextAtom (lens bytes : List ℕ) (count len size : ℕ) : Type 0 where
@@ -20,12 +22,15 @@ pub record IsNextAtom (lens bytes : List ℕ) (count len size : ℕ) : Type 0 wh
   pub atoms : pieces (drop count lens) (drop len bytes)
       ≡ take size (drop len bytes) ∷ pieces (drop (count + 1) lens) (drop (len + size) bytes)
 
-pub next_atom_is : (lens bytes : List ℕ) (count len size : ℕ) → IsOwnedParts lens bytes count len → count < length lens → size ≡ get_or lens count size
+pub next_atom_is : (lens bytes : List ℕ) (count len size : ℕ) → IsOwnedParts lens bytes count len
+    → count < length lens → size ≡ get_or lens count size
     → IsNextAtom lens bytes count len size
 next_atom_is lens bytes count len size parts lt read =
     let others : List ℕ = drop (count + 1) lens in
-    let split : drop count lens ≡ size ∷ others = drop_more lens count size lt ∙ ap (λ (n : ℕ). n ∷ others) (sym read) in
-    let first = first_part size others (drop len bytes) (subst (λ (ls : List ℕ). IsAtomListParts ls (drop len bytes)) split parts.left) in
+    let split : drop count lens ≡ size ∷ others = drop_more lens count size lt
+    ∙ ap (λ (n : ℕ). n ∷ others) (sym read) in
+    let first = first_part size others (drop len bytes)
+    (subst (λ (ls : List ℕ). IsAtomListParts ls (drop len bytes)) split parts.left) in
     let behind : drop size (drop len bytes) ≡ drop (len + size) bytes = drop-drop size len bytes in
     record {
       within = first.within;
@@ -51,7 +56,8 @@ pub record IsNextRun (lens bytes : List ℕ) (count len more size : ℕ) : Type 
 
 pub next_run_is : (lens bytes : List ℕ) (count len more size : ℕ) → IsOwnedParts lens bytes count len
     → more ≤ length (drop count lens) → size ≡ sum (take more (drop count lens))
-    → ((atoms : List (List ℕ)) → map length atoms ≡ drop count lens → runs_of atoms ≡ take more atoms ∷ runs_of (drop more atoms))
+    → ((atoms : List (List ℕ)) → map length atoms ≡ drop count lens → runs_of atoms
+    ≡ take more atoms ∷ runs_of (drop more atoms))
     → IsNextRun lens bytes count len more size
 next_run_is lens bytes count len more size parts fits bytes_are first_is =
     let first = first_run_is (drop count lens) (drop len bytes) more size parts.left bytes_are first_is in
@@ -68,11 +74,13 @@ next_run_is lens bytes count len more size parts fits bytes_are first_is =
             (subst (IsAtomListParts (drop more (drop count lens))) behind first.left);
       };
       runs = first.runs
-          ∙ (λ i. pieces (take more (drop count lens)) (take size (drop len bytes)) ∷ runs_of (pieces (lens_behind i) (behind i)));
+          ∙ (λ i. pieces (take more (drop count lens)) (take size (drop len bytes)) ∷ runs_of
+          (pieces (lens_behind i) (behind i)));
     }
 
 -- the same, where the lengths that are left stand in a list of their own
-pub next_run_of : (lens bytes left : List ℕ) (count len more size : ℕ) → IsOwnedParts lens bytes count len → left ≡ drop count lens
+pub next_run_of : (lens bytes left : List ℕ) (count len more size : ℕ) → IsOwnedParts lens bytes count len → left
+    ≡ drop count lens
     → more ≤ length left → size ≡ sum (take more left)
     → ((atoms : List (List ℕ)) → map length atoms ≡ left → runs_of atoms ≡ take more atoms ∷ runs_of (drop more atoms))
     → IsNextRun lens bytes count len more size

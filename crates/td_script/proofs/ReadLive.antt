@@ -24,7 +24,8 @@ pub nothing_read : (bytes : List ℕ) → IsLiveReadTo bytes bytes live_start 0
 nothing_read bytes = record {
   commands = [];
   read = Each.nothing_read (live_judged (length bytes)) live_after live_line_of IsBefore
-      (λ before c. LiveCanStand (length bytes) before c) live_start (live_language (length bytes)) bytes (at_start refl);
+      (λ before c. LiveCanStand (length bytes) before c) live_start (live_language (length bytes)) bytes
+      (at_start refl);
   good = good_of_before live_start (at_start refl);
 }
 
@@ -34,7 +35,8 @@ pub nothing_more : (bytes rest line behind : List ℕ) (before : LiveBefore) (nu
 nothing_more bytes rest line behind before number h cut e = record {
   commands = h.commands;
   read = Each.nothing_more (live_judged (length bytes)) live_after live_line_of IsBefore
-      (λ before c. LiveCanStand (length bytes) before c) live_start (live_language (length bytes)) bytes rest line behind
+      (λ before c. LiveCanStand (length bytes) before c) live_start (live_language (length bytes)) bytes rest line
+      behind
       h.commands before number h.read cut e;
   good = h.good;
 }
@@ -44,7 +46,8 @@ pub stands_here : (bytes rest line : List ℕ) (before : LiveBefore) (number : �
     → LiveCanStand (length bytes) before c
 stands_here bytes rest line before number c h e =
     Each.stands_here (live_judged (length bytes)) live_after live_line_of IsBefore
-    (λ before c. LiveCanStand (length bytes) before c) live_start (live_language (length bytes)) before line c h.read.good e
+    (λ before c. LiveCanStand (length bytes) before c) live_start (live_language (length bytes)) before line c
+    h.read.good e
 
 pub one_more : (bytes rest line behind : List ℕ) (before : LiveBefore) (number : ℕ) (c : LiveCommand)
     → IsLiveReadTo bytes rest before number → lines_of rest ≡ line ∷ lines_of behind

@@ -25,7 +25,8 @@ pub nothing_more : (bytes rest line behind : List ℕ) (cs : List Command) (befo
     → judged (length bytes) before line ≡ Ok None → IsReadTo bytes behind cs before (number + 1)
 nothing_more bytes rest line behind cs before number h cut e =
     Each.nothing_more (judged (length bytes)) after line_of (λ before. before.sites ≤ MAX_SITE)
-    (λ before c. CanStand (length bytes) before c) start (language (length bytes)) bytes rest line behind cs before number
+    (λ before c. CanStand (length bytes) before c) start (language (length bytes)) bytes rest line behind cs before
+    number
     h cut e
 
 pub one_more : (bytes rest line behind : List ℕ) (cs : List Command) (before : Before) (number : ℕ) (c : Command)
@@ -34,7 +35,8 @@ pub one_more : (bytes rest line behind : List ℕ) (cs : List Command) (before :
     → IsReadTo bytes behind (cs ++ c ∷ []) (after before c) (number + 1)
 one_more bytes rest line behind cs before number c h cut e =
     Each.one_more (judged (length bytes)) after line_of (λ before. before.sites ≤ MAX_SITE)
-    (λ before c. CanStand (length bytes) before c) start (language (length bytes)) bytes rest line behind cs before number
+    (λ before c. CanStand (length bytes) before c) start (language (length bytes)) bytes rest line behind cs before
+    number
     c h cut e
 
 pub faulty_line : (bytes rest line behind : List ℕ) (cs : List Command) (before : Before) (number : ℕ) (kind : Kind)
@@ -43,7 +45,8 @@ pub faulty_line : (bytes rest line behind : List ℕ) (cs : List Command) (befor
     → judged_lines (length bytes) 1 (lines_of bytes) start ≡ Err (number + 1, kind)
 faulty_line bytes rest line behind cs before number kind h cut e =
     Each.faulty_line (judged (length bytes)) after line_of (λ before. before.sites ≤ MAX_SITE)
-    (λ before c. CanStand (length bytes) before c) start (language (length bytes)) bytes rest line behind cs before number
+    (λ before c. CanStand (length bytes) before c) start (language (length bytes)) bytes rest line behind cs before
+    number
     kind h cut e
 
 pub all_read : (bytes rest : List ℕ) (cs : List Command) (before : Before) (number : ℕ)

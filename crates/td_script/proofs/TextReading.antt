@@ -1,7 +1,9 @@
 -- How the last argument of a line is read where it is a text.
-use Rattle.std.proofs.Common.{◌≡◌, ◌≢◌, ◌<◌, ◌≤◌, ℕ, true, false, eqb, List, [], ◌∷◌, ◌++◌, length, All, Some, Ok, Err, refl, sym, ap, subst, ◌∙◌, arith}
+use Rattle.std.proofs.Common.{◌≡◌, ◌≢◌, ◌<◌, ◌≤◌, ℕ, true, false, eqb, List, [], ◌∷◌, ◌++◌, length}
+use Rattle.std.proofs.Common.{All, Some, Ok, Err, refl, sym, ap, subst, ◌∙◌, arith}
 use Rattle.std.specs.List.{list_all}
-use Rattle.std.proofs.lemmas.Bool.{eqb-true, cond-true, cond-false, false_from_ne_true, le-leb, lt-leb, and_left, and_right}
+use Rattle.std.proofs.lemmas.Bool.{eqb-true, cond-true, cond-false, false_from_ne_true}
+use Rattle.std.proofs.lemmas.Bool.{le-leb, lt-leb, and_left, and_right}
 use Rattle.std.proofs.lemmas.List.Sums.{list_all-from_AllPass}
 use Rattle.std.proofs.lemmas.List.Elements.{All-weaker}
 use Rattle.td_base.specs.Atom.{IsAtom}
@@ -30,32 +32,46 @@ opened_none (b ∷ bs) none =
     (false_from_ne_true (eqb b 34) (λ (e : eqb b 34 ≡ true). none bs (ap (λ (x : ℕ). x ∷ bs) (eqb-true b 34 e))))
 
 pub all_short : (clusters : Atoms) → All IsAtom clusters → list_all is_short clusters ≡ true
-all_short clusters each = list_all-from_AllPass is_short clusters (All-weaker IsAtom (λ c. is_short c ≡ true) (λ (c : List ℕ) (is : IsAtom c). le-leb (length c) MAX_ATOM_LEN is.short) clusters each)
+all_short clusters each = list_all-from_AllPass is_short clusters
+    (All-weaker IsAtom (λ c. is_short c ≡ true) (λ (c : List ℕ) (is : IsAtom c). le-leb (length c) MAX_ATOM_LEN
+    is.short) clusters each)
 
-not_all_short : (before : Atoms) (cluster : List ℕ) (rest : Atoms) → MAX_ATOM_LEN < length cluster → list_all is_short (before ++ cluster ∷ rest) ≡ false
-not_all_short [] cluster rest long = and_left (is_short cluster) (list_all is_short rest) (lt-leb (length cluster) MAX_ATOM_LEN long)
-not_all_short (first ∷ before) cluster rest long = and_right (is_short first) (list_all is_short (before ++ cluster ∷ rest)) (not_all_short before cluster rest long)
+not_all_short : (before : Atoms) (cluster : List ℕ) (rest : Atoms) → MAX_ATOM_LEN < length cluster
+    → list_all is_short (before ++ cluster ∷ rest) ≡ false
+not_all_short [] cluster rest long = and_left (is_short cluster) (list_all is_short rest)
+    (lt-leb (length cluster) MAX_ATOM_LEN long)
+not_all_short (first ∷ before) cluster rest long =
+    and_right (is_short first) (list_all is_short (before ++ cluster ∷ rest)) (not_all_short before cluster rest long)
 
 some_long : (clusters : Atoms) (index : ℕ) → IsFirstLong clusters index → list_all is_short clusters ≡ false
 some_long clusters index h = ap (list_all is_short) h.whole ∙ not_all_short h.before h.cluster h.behind h.long
 
 -- a text that was read up to its closing quote
-pub read_text : (rest all inner text left : List ℕ) → argument rest ≡ Ok all → all ≡ 34 ∷ inner → unquoted false inner ≡ Some (text, left) → text_at rest ≡ clusters_of (Some (text, left))
+pub read_text : (rest all inner text left : List ℕ) → argument rest ≡ Ok all → all ≡ 34 ∷ inner → unquoted false inner
+    ≡ Some (text, left) → text_at rest ≡ clusters_of (Some (text, left))
 read_text rest all inner text left begins opens reads =
     ap opened begins ∙ ap (λ (bs : List ℕ). opened (Ok bs)) opens ∙ ap clusters_of reads
 
-pub no_opening : (rest all : List ℕ) → argument rest ≡ Ok all → ((inner : List ℕ) → all ≢ 34 ∷ inner) → text_at rest ≡ Err Quote
+pub no_opening : (rest all : List ℕ) → argument rest ≡ Ok all → ((inner : List ℕ) → all ≢ 34 ∷ inner) → text_at rest
+    ≡ Err Quote
 no_opening rest all begins none = ap opened begins ∙ opened_none all none
 
-pub long_text : (rest text left : List ℕ) (index : ℕ) → text_at rest ≡ clusters_of (Some (text, left)) → IsFirstLong (graphemes true text) index → behind (text_at rest) last ≡ Err Atom
+pub long_text : (rest text left : List ℕ) (index : ℕ) → text_at rest ≡ clusters_of (Some (text, left))
+    → IsFirstLong (graphemes true text) index → behind (text_at rest) last ≡ Err Atom
 long_text rest text left index e long =
-    ap (λ (r : Reading Atoms). behind r last) (e ∙ cond-false {A = Reading Atoms} (list_all is_short (graphemes true text)) (Ok (graphemes true text, left)) (Err Atom) (some_long (graphemes true text) index long))
+    ap (λ (r : Reading Atoms). behind r last) (e ∙ cond-false {A = Reading Atoms}
+    (list_all is_short (graphemes true text)) (Ok (graphemes true text, left)) (Err Atom)
+    (some_long (graphemes true text) index long))
 
-pub short_text : (rest text left : List ℕ) → text_at rest ≡ clusters_of (Some (text, left)) → All IsAtom (graphemes true text) → text_at rest ≡ Ok (graphemes true text, left)
+pub short_text : (rest text left : List ℕ) → text_at rest ≡ clusters_of (Some (text, left))
+    → All IsAtom (graphemes true text) → text_at rest ≡ Ok (graphemes true text, left)
 short_text rest text left e each =
-    e ∙ cond-true {A = Reading Atoms} (list_all is_short (graphemes true text)) (Ok (graphemes true text, left)) (Err Atom) (all_short (graphemes true text) each)
+    e ∙ cond-true {A = Reading Atoms} (list_all is_short (graphemes true text)) (Ok (graphemes true text, left))
+    (Err Atom) (all_short (graphemes true text) each)
 
 -- a text whose clusters are atoms, and what is left behind it
-pub text_then_last : (rest text left : List ℕ) (atoms : Atoms) → text_at rest ≡ clusters_of (Some (text, left)) → atoms ≡ graphemes true text → All IsAtom atoms → behind (text_at rest) last ≡ last atoms left
+pub text_then_last : (rest text left : List ℕ) (atoms : Atoms) → text_at rest ≡ clusters_of (Some (text, left))
+    → atoms ≡ graphemes true text → All IsAtom atoms → behind (text_at rest) last ≡ last atoms left
 text_then_last rest text left atoms e same each =
-    ap (λ (r : Reading Atoms). behind r last) (short_text rest text left e (subst (All IsAtom) same each)) ∙ ap (λ (xs : Atoms). last xs left) (sym same)
+    ap (λ (r : Reading Atoms). behind r last) (short_text rest text left e (subst (All IsAtom) same each))
+    ∙ ap (λ (xs : Atoms). last xs left) (sym same)

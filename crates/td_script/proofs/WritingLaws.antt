@@ -98,7 +98,8 @@ atoms_utf8 [] h = IsUtf8-nil
 atoms_utf8 (atom ∷ atoms) h = IsUtf8-append atom (concat atoms) (All-head IsAtom atom atoms h).text
     (atoms_utf8 atoms (All-tail IsAtom atom atoms h))
 
-pub text_clean : (atoms : List (List ℕ)) → IsClusters atoms → All IsTextByte (concat atoms) → IsClean (spaced_text atoms)
+pub text_clean : (atoms : List (List ℕ)) → IsClusters atoms → All IsTextByte (concat atoms)
+    → IsClean (spaced_text atoms)
 text_clean atoms h k =
     let inner : IsClean (flat_map escaped (concat atoms)) =
     record { plain = written_plain (concat atoms) k; utf8 = written_utf8 (concat atoms) (atoms_utf8 atoms h.each) } in

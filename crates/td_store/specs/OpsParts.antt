@@ -9,7 +9,11 @@ use Rattle.td_op.specs.declared.body.Body.{Body}
 use Rattle.td_op.specs.declared.body.Body.TheVariants.{Insert, Delete, Propose, Commit, Abort}
 use Rattle.td_op.specs.Op.{OpValue, IsOp}
 use Rattle.td_store.specs.declared.compact_body.CompactBody.{CompactBody}
-use Rattle.td_store.specs.declared.compact_body.CompactBody.TheVariants.{Insert as CompactInsert, Delete as CompactDelete, Propose as CompactPropose, Commit as CompactCommit, Abort as CompactAbort}
+use Rattle.td_store.specs.declared.compact_body.CompactBody.TheVariants.{Insert as CompactInsert}
+use Rattle.td_store.specs.declared.compact_body.CompactBody.TheVariants.{Delete as CompactDelete}
+use Rattle.td_store.specs.declared.compact_body.CompactBody.TheVariants.{Propose as CompactPropose}
+use Rattle.td_store.specs.declared.compact_body.CompactBody.TheVariants.{Commit as CompactCommit}
+use Rattle.td_store.specs.declared.compact_body.CompactBody.TheVariants.{Abort as CompactAbort}
 use Rattle.td_store.specs.declared.ops.CompactOp.{CompactOp}
 use Rattle.td_store.specs.Compact.{slot_of}
 use Rattle.td_store.specs.Lists.{RunsValue, VectorsValue}

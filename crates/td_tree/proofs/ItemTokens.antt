@@ -1,5 +1,6 @@
 -- Items as tokens: which token an item is, and that it stays one where its rows stay.
-use Rattle.std.proofs.Common.{◌≡◌, ◌⊎◌, ◌+◌, ◌-◌, ◌*◌, ◌/◌, ◌%◌, ◌<◌, ◌≤◌, ℕ, zero, suc, List, [], ◌∷◌, ◌++◌, if◌then◌else◌, length, get_or, refl, sym, ap, ◌∙◌, subst, inl, inr, arith}
+use Rattle.std.proofs.Common.{◌≡◌, ◌⊎◌, ◌+◌, ◌-◌, ◌*◌, ◌/◌, ◌%◌, ◌<◌, ◌≤◌, ℕ, zero, suc, List, [], ◌∷◌, ◌++◌}
+use Rattle.std.proofs.Common.{if◌then◌else◌, length, get_or, refl, sym, ap, ◌∙◌, subst, inl, inr, arith}
 use Rattle.std.proofs.lemmas.List.{map-append}
 use Rattle.td_base.specs.Lists.{In}
 use Rattle.td_base.proofs.Lists.{map_In, In-map}
@@ -8,7 +9,9 @@ use Rattle.td_list.specs.Items.{Item, IsItem}
 use Rattle.td_brackets.specs.Brackets.{Open, Atom, Close, Leaf, Entry, numbers_at}
 use Rattle.td_tree.specs.declared.tree_row.RowState.{RowState}
 use Rattle.td_tree.specs.declared.tree_row.RowState.TheVariants.{Node, InArray, Gone}
-use Rattle.td_tree.specs.Parts.{RowValue, Parts, row_at, state_at, table, array_at, part, row_of_array, row_token, kind_token, token_of, tokens_of, token_weight, is_row_token, IsPart, IsKind, IsToken, open_item, atom_item, close_item, leaf_item}
+use Rattle.td_tree.specs.Parts.{RowValue, Parts, row_at, state_at, table, array_at, part, row_of_array}
+use Rattle.td_tree.specs.Parts.{row_token, kind_token, token_of, tokens_of, token_weight, is_row_token, IsPart}
+use Rattle.td_tree.specs.Parts.{IsKind, IsToken, open_item, atom_item, close_item, leaf_item}
 use Rattle.td_tree.proofs.ArrayParts.{part_in}
 
 -- what the items of a row are
@@ -30,15 +33,18 @@ module _ (p : Parts) where
   row_item_token r n s g = at_name ((3 * r + 1) % 3) ((3 * r + 1) / 3) (omega arith) (omega arith)
     where
       at_name : (k q : ℕ) → k ≡ 1 → q ≡ r → kind_token k q (row_token p (state_at p q) q n) ≡ row_token p s r n
-      at_name k q e f = (λ i. kind_token (e i) (f i) (row_token p (state_at p (f i)) (f i) n)) ∙ ap (λ (t : RowState). row_token p t r n) g
+      at_name k q e f = (λ i. kind_token (e i) (f i) (row_token p (state_at p (f i)) (f i) n))
+          ∙ ap (λ (t : RowState). row_token p t r n) g
 
   pub node_token : (r n : ℕ) → state_at p r ≡ Node → token_of p (atom_item r n) ≡ Atom r
   node_token r n e = row_item_token r n Node e
 
-  pub leaf_token : (a from n : ℕ) → IsPart p a from n → token_of p (leaf_item p a from n) ≡ Leaf (part (array_at p a) from n)
+  pub leaf_token : (a from n : ℕ) → IsPart p a from n → token_of p (leaf_item p a from n)
+      ≡ Leaf (part (array_at p a) from n)
   leaf_token a from n l =
       let some = l.some in
-      row_item_token (row_of_array p a (from + n / 2)) n (InArray a (from + n / 2)) (l.stand (from + n / 2) (omega arith) (omega arith))
+      row_item_token (row_of_array p a (from + n / 2)) n (InArray a (from + n / 2))
+      (l.stand (from + n / 2) (omega arith) (omega arith))
       ∙ ap (λ (k : ℕ). Leaf (part (array_at p a) k n)) (from_middle from n)
     where
       from_middle : (from n : ℕ) → (from + n / 2) - n / 2 ≡ from
@@ -75,7 +81,8 @@ module _ (p : Parts) where
   open_name items r h =
       let m = map_In (token_of p) (Open r) items h in
       let i : Item = m.0 in
-      let k : (i.name % 3 ≡ 0) × (i.name / 3 ≡ r) = open_kind r (i.name % 3) (i.name / 3) i.weight (state_at p (i.name / 3)) m.2 in
+      let k : (i.name % 3 ≡ 0) × (i.name / 3 ≡ r) = open_kind r (i.name % 3) (i.name / 3) i.weight
+      (state_at p (i.name / 3)) m.2 in
       subst (λ (x : ℕ). IsItem x items) (whole i.name r k.0 k.1) (In-map (λ (j : Item). j.name) i items m.1)
     where
       whole : (x r : ℕ) → x % 3 ≡ 0 → x / 3 ≡ r → x ≡ 3 * r
@@ -107,13 +114,15 @@ module _ (p : Parts) where
   atom_name items r h =
       let m = map_In (token_of p) (Atom r) items h in
       let i : Item = m.0 in
-      let k : (i.name % 3 ≡ 1) × (i.name / 3 ≡ r) = atom_kind r (i.name % 3) (i.name / 3) i.weight (state_at p (i.name / 3)) m.2 in
+      let k : (i.name % 3 ≡ 1) × (i.name / 3 ≡ r) = atom_kind r (i.name % 3) (i.name / 3) i.weight
+      (state_at p (i.name / 3)) m.2 in
       subst (λ (x : ℕ). IsItem x items) (whole i.name r k.0 k.1) (In-map (λ (j : Item). j.name) i items m.1)
     where
       whole : (x r : ℕ) → x % 3 ≡ 1 → x / 3 ≡ r → x ≡ 3 * r + 1
       whole x r e f = omega arith
 
-  pub close_kind : (r k q n : ℕ) (s : RowState) → k < 3 → Close r ≡ kind_token k q (row_token p s q n) → (k ≡ 2) × (q ≡ r)
+  pub close_kind : (r k q n : ℕ) (s : RowState) → k < 3 → Close r ≡ kind_token k q (row_token p s q n) → (k ≡ 2)
+      × (q ≡ r)
   close_kind r zero q n s l e = absurd (no e)
     where
       no : Close r ≡ Open q → ⊥
@@ -139,7 +148,8 @@ module _ (p : Parts) where
   close_name items r h =
       let m = map_In (token_of p) (Close r) items h in
       let i : Item = m.0 in
-      let k : (i.name % 3 ≡ 2) × (i.name / 3 ≡ r) = close_kind r (i.name % 3) (i.name / 3) i.weight (state_at p (i.name / 3)) (omega arith) m.2 in
+      let k : (i.name % 3 ≡ 2) × (i.name / 3 ≡ r) = close_kind r (i.name % 3) (i.name / 3) i.weight
+      (state_at p (i.name / 3)) (omega arith) m.2 in
       subst (λ (x : ℕ). IsItem x items) (whole i.name r k.0 k.1) (In-map (λ (j : Item). j.name) i items m.1)
     where
       whole : (x r : ℕ) → x % 3 ≡ 2 → x / 3 ≡ r → x ≡ 3 * r + 2
@@ -157,7 +167,8 @@ Unmoved p q i = (r : ℕ) → (r ≡ i.name / 3) ⊎ In r (numbers_at (token_of 
 
 module _ (p q : Parts) (g : Grows p q) where
   -- a part of an array that is a leaf stays one
-  pub part_stays : (a from n : ℕ) → IsPart p a from n → ((x : ℕ) → In x (part (array_at p a) from n) → row_at q x ≡ row_at p x) → IsPart q a from n
+  pub part_stays : (a from n : ℕ) → IsPart p a from n
+      → ((x : ℕ) → In x (part (array_at p a) from n) → row_at q x ≡ row_at p x) → IsPart q a from n
   part_stays a from n l h =
       let below = l.array in
       let more = g.arrays in
@@ -167,24 +178,29 @@ module _ (p q : Parts) (g : Grows p q) where
         some = l.some;
         within = subst (λ (xs : List ℕ). from + n ≤ length xs) (sym same) l.within;
         stand = λ k b c. subst (λ (xs : List ℕ). state_at q (get_or xs k 0) ≡ InArray a k) (sym same)
-            (ap (λ (v : RowValue). v.state) (h (row_of_array p a k) (part_in (array_at p a) from n k b c l.within)) ∙ l.stand k b c);
+            (ap (λ (v : RowValue). v.state) (h (row_of_array p a k) (part_in (array_at p a) from n k b c l.within))
+            ∙ l.stand k b c);
       }
 
-  kind_stays : (k : ℕ) (s : RowState) (r w : ℕ) → ((x : ℕ) → In x (numbers_at (kind_token k r (row_token p s r w))) → row_at q x ≡ row_at p x) → IsKind p k s w → IsKind q k s w
+  kind_stays : (k : ℕ) (s : RowState) (r w : ℕ) → ((x : ℕ) → In x (numbers_at (kind_token k r (row_token p s r w)))
+      → row_at q x ≡ row_at p x) → IsKind p k s w → IsKind q k s w
   kind_stays zero s r w h c = c
   kind_stays (suc zero) Node r w h c = tt
   kind_stays (suc zero) (InArray a i) r w h c = (c.0, part_stays a (i - w / 2) w c.1 h)
   kind_stays (suc zero) Gone r w h c = c
   kind_stays (suc (suc k)) s r w h c = c
 
-  kind_same : (k : ℕ) (s : RowState) (r w : ℕ) → IsKind p k s w → kind_token k r (row_token q s r w) ≡ kind_token k r (row_token p s r w)
+  kind_same : (k : ℕ) (s : RowState) (r w : ℕ) → IsKind p k s w → kind_token k r (row_token q s r w)
+      ≡ kind_token k r (row_token p s r w)
   kind_same zero s r w c = refl
   kind_same (suc zero) Node r w c = refl
   kind_same (suc zero) (InArray a i) r w c = ap (λ (xs : List ℕ). Leaf (part xs (i - w / 2) w)) (g.same a c.1.array)
   kind_same (suc zero) Gone r w c = refl
   kind_same (suc (suc k)) s r w c = refl
 
-  weight_same : (k : ℕ) (s : RowState) (r w : ℕ) → table q r ≡ table p r → token_weight (table q) (kind_token k r (row_token p s r w)) ≡ token_weight (table p) (kind_token k r (row_token p s r w))
+  weight_same : (k : ℕ) (s : RowState) (r w : ℕ) → table q r ≡ table p r
+      → token_weight (table q) (kind_token k r (row_token p s r w))
+      ≡ token_weight (table p) (kind_token k r (row_token p s r w))
   weight_same zero s r w e = refl
   weight_same (suc zero) Node r w e = ap (λ (v : Entry). if is_empty_list v.deletes then 1 else 0) e
   weight_same (suc zero) (InArray a i) r w e = refl
@@ -208,10 +224,13 @@ module _ (p q : Parts) (g : Grows p q) where
           known = omega arith;
           kind = subst (λ (v : RowValue). IsKind q (i.name % 3) v.state i.weight) (sym own)
               (kind_stays (i.name % 3) (state_at p (i.name / 3)) (i.name / 3) i.weight (λ x m. u x (inr m)) t.kind);
-          weighed = t.weighed ∙ sym (weight_same (i.name % 3) (state_at p (i.name / 3)) (i.name / 3) i.weight (ap (λ (v : RowValue). v.entry) own)) ∙ ap (token_weight (table q)) (sym token_stays);
+          weighed = t.weighed ∙ sym (weight_same (i.name % 3) (state_at p (i.name / 3)) (i.name / 3) i.weight
+              (ap (λ (v : RowValue). v.entry) own)) ∙ ap (token_weight (table q)) (sym token_stays);
           marked = t.marked ∙ ap is_row_token (sym token_stays);
         }
 
-  pub tokens_stay : (items : List Item) → ((i : Item) → In i items → IsToken p i × Unmoved p q i) → tokens_of q items ≡ tokens_of p items
+  pub tokens_stay : (items : List Item) → ((i : Item) → In i items → IsToken p i × Unmoved p q i) → tokens_of q items
+      ≡ tokens_of p items
   tokens_stay [] h = refl
-  tokens_stay (i ∷ items) h = λ j. token_stays i (h i (inl refl)).0 (h i (inl refl)).1 j ∷ tokens_stay items (λ k m. h k (inr m)) j
+  tokens_stay (i ∷ items) h = λ j. token_stays i (h i (inl refl)).0 (h i (inl refl)).1 j ∷ tokens_stay items
+      (λ k m. h k (inr m)) j

@@ -1,5 +1,6 @@
 -- The row that was put last.
-use Rattle.std.proofs.Common.{◌≡◌, ◌≢◌, ◌+◌, ◌<◌, ◌∙◌, ℕ, List, [], ◌∷◌, ◌++◌, length, get_or, Option, Some, None, true, slice_get, refl, sym, ap, subst, arith, length-append, true≢false}
+use Rattle.std.proofs.Common.{◌≡◌, ◌≢◌, ◌+◌, ◌<◌, ◌∙◌, ℕ, List, [], ◌∷◌, ◌++◌, length, get_or, Option, Some, None}
+use Rattle.std.proofs.Common.{true, slice_get, refl, sym, ap, subst, arith, length-append, true≢false}
 use Rattle.std.specs.Prelude.{IfSome}
 use Rattle.std.specs.Option.{option_map}
 use Rattle.std.proofs.lemmas.List.{get_or_push}
@@ -22,71 +23,87 @@ use Rattle.td_identities.specs.Identities.{number_of}
 use Rattle.td_identities.specs.Numbers.{with_run}
 use Rattle.td_tree.specs.declared.last.Last.{Last}
 use Rattle.td_tree.specs.declared.tree_row.RowState.TheVariants.{Node, Gone}
-use Rattle.td_tree.specs.Parts.{RowValue, Parts, nobody, row_at, state_at, table, doc_rows, IsTree, IsMoreOpen, IsFlattened}
+use Rattle.td_tree.specs.Parts.{RowValue, Parts, nobody, row_at, state_at, table}
+use Rattle.td_tree.specs.Parts.{doc_rows, IsTree, IsMoreOpen, IsFlattened}
 use Rattle.td_tree.specs.Last.{IsLast}
 use Rattle.td_tree.specs.Whole.{IsWhole}
 use Rattle.td_tree.proofs.RowsFound.{found_row, gone_found}
 use Rattle.td_tree.proofs.Wholes.{run_new}
 
 -- where there is one
-pub last_is : (p : Parts) (identities : Identities) (o : Option Last) (last : Last) → IfSome o (IsLast p identities) → o ≡ Some last → IsLast p identities last
+pub last_is : (p : Parts) (identities : Identities) (o : Option Last) (last : Last) → IfSome o (IsLast p identities)
+    → o ≡ Some last → IsLast p identities last
 last_is p identities o last h e = subst (λ (q : Option Last). IfSome q (IsLast p identities)) e h
 
 -- its index, where it is counted
-pub index_is : (p : Parts) (identities : Identities) (last : Last) → IsLast p identities last → (index : ℕ) → last.index ≡ Some index → index ≡ live_before last.id (doc_rows p)
-index_is p identities last k index e = subst (λ (o : Option ℕ). IfSome o (λ n. n ≡ live_before last.id (doc_rows p))) e k.index
+pub index_is : (p : Parts) (identities : Identities) (last : Last) → IsLast p identities last → (index : ℕ)
+    → last.index ≡ Some index → index ≡ live_before last.id (doc_rows p)
+index_is p identities last k index e = subst (λ (o : Option ℕ). IfSome o (λ n. n ≡ live_before last.id (doc_rows p)))
+    e k.index
 
 pub index_as : (o : Option ℕ) (a b : ℕ) → a ≡ b → IfSome o (λ n. n ≡ a) → IfSome o (λ n. n ≡ b)
 index_as None a b e h = tt
 index_as (Some n) a b e h = h ∙ e
 
 -- in the same rows, with the same numbers
-pub same_last : (p q : Parts) (old new : Identities) (o : Option Last) → doc_rows q ≡ doc_rows p → ((x : AtomIdValue) → number_of new x ≡ number_of old x) → IfSome o (IsLast p old) → IfSome o (IsLast q new)
+pub same_last : (p q : Parts) (old new : Identities) (o : Option Last) → doc_rows q ≡ doc_rows p
+    → ((x : AtomIdValue) → number_of new x ≡ number_of old x) → IfSome o (IsLast p old) → IfSome o (IsLast q new)
 same_last p q old new None e h k = tt
 same_last p q old new (Some last) e h k = record {
   live = ap (λ (rows : List DocRow). is_live_id rows last.id) e ∙ k.live;
   number = h last.id ∙ k.number;
-  index = index_as last.index (live_before last.id (doc_rows p)) (live_before last.id (doc_rows q)) (ap (live_before last.id) (sym e)) k.index;
+  index = index_as last.index (live_before last.id (doc_rows p)) (live_before last.id (doc_rows q))
+      (ap (live_before last.id) (sym e)) k.index;
 }
 
-pub open_last : (p q : Parts) (identities : Identities) (o : Option Last) → IsMoreOpen p q → IfSome o (IsLast p identities) → IfSome o (IsLast q identities)
+pub open_last : (p q : Parts) (identities : Identities) (o : Option Last) → IsMoreOpen p q
+    → IfSome o (IsLast p identities) → IfSome o (IsLast q identities)
 open_last p q identities o k h = same_last p q identities identities o k.rows (λ x. refl) h
 
 -- its number is that of a row
-pub last_row : (p : Parts) (identities : Identities) (seen : List ℕ) → IsWhole p identities seen → (last : Last) → IsLast p identities last
+pub last_row : (p : Parts) (identities : Identities) (seen : List ℕ) → IsWhole p identities seen → (last : Last)
+    → IsLast p identities last
     → (last.row < length p.rows) × (state_at p last.row ≢ Gone) × ((table p last.row).id ≡ last.id)
 last_row p identities seen w last k =
     let f = w.named.found last.id last.row k.number in (
       f.0,
-      λ g. true≢false (sym k.live ∙ ap is_live_found (gone_found p w.tree (number_of identities) w.named last.id last.row k.number g)),
+      λ g. true≢false (sym k.live ∙ ap is_live_found
+          (gone_found p w.tree (number_of identities) w.named last.id last.row k.number g)),
       f.1,
     )
 
 -- the live row at its index is that row
-pub last_at : (p : Parts) → IsTree p → (identities : Identities) (last : Last) → IsLast p identities last → (index : ℕ) → last.index ≡ Some index → Some last.id ≡ live_id_at (doc_rows p) index
+pub last_at : (p : Parts) → IsTree p → (identities : Identities) (last : Last) → IsLast p identities last
+    → (index : ℕ) → last.index ≡ Some index → Some last.id ≡ live_id_at (doc_rows p) index
 last_at p t identities last k index e =
-    sym (ap (live_id_at (doc_rows p)) (index_is p identities last k index e) ∙ found_at_index (doc_rows p) last.id t.brackets.document k.live)
+    sym (ap (live_id_at (doc_rows p)) (index_is p identities last k index e)
+    ∙ found_at_index (doc_rows p) last.id t.brackets.document k.live)
 
 -- a flatten leaves it a live row at its index
 
-live_row_id : (rows : List DocRow) (index : ℕ) (x : AtomIdValue) → IsDocument rows → (o : Option DocRow) → slice_get (live_rows rows) index ≡ o → option_map row_id o ≡ Some x → is_live_id rows x ≡ true
+live_row_id : (rows : List DocRow) (index : ℕ) (x : AtomIdValue) → IsDocument rows → (o : Option DocRow)
+    → slice_get (live_rows rows) index ≡ o → option_map row_id o ≡ Some x → is_live_id rows x ≡ true
 live_row_id rows index x d None e h = absurd cc
 live_row_id rows index x d (Some r) e h =
     let k = In-filter is_live r rows (In-slice_get (live_rows rows) index r e) in
     ap (is_live_id rows) (sym (same_Some (row_id r) x h)) ∙ ap is_live_found (find_in rows r d.apart k.0) ∙ k.1
 
-same_live_id : (rows : List DocRow) (slot : Slot) → IsDocument rows → (index : ℕ) → live_id_at (flatten slot rows) index ≡ live_id_at rows index
+same_live_id : (rows : List DocRow) (slot : Slot) → IsDocument rows → (index : ℕ)
+    → live_id_at (flatten slot rows) index ≡ live_id_at rows index
 same_live_id rows slot d index =
     through (slice_get (live_rows (flatten slot rows)) index)
     ∙ ap (option_map (λ (a : NamedAtom). a.id))
-    (sym (slice_get-map named (live_rows (flatten slot rows)) index) ∙ ap (λ (xs : List NamedAtom). slice_get xs index) (flatten_keeps_live rows slot d) ∙ slice_get-map named (live_rows rows) index)
+    (sym (slice_get-map named (live_rows (flatten slot rows)) index)
+    ∙ ap (λ (xs : List NamedAtom). slice_get xs index) (flatten_keeps_live rows slot d)
+    ∙ slice_get-map named (live_rows rows) index)
     ∙ sym (through (slice_get (live_rows rows) index))
   where
     through : (o : Option DocRow) → option_map row_id o ≡ option_map (λ (a : NamedAtom). a.id) (option_map named o)
     through None = refl
     through (Some r) = refl
 
-pub flat_last : (p q : Parts) (identities : Identities) (slot : Slot) → IsTree p → IsFlattened p q slot → (o : Option Last) → IfSome o (IsLast p identities) → IfSome o (IsLast q identities)
+pub flat_last : (p q : Parts) (identities : Identities) (slot : Slot) → IsTree p → IsFlattened p q slot
+    → (o : Option Last) → IfSome o (IsLast p identities) → IfSome o (IsLast q identities)
 flat_last p q identities slot t f None k = tt
 flat_last p q identities slot t f (Some last) k =
     let index : ℕ = live_before last.id (doc_rows p) in
@@ -94,42 +111,49 @@ flat_last p q identities slot t f (Some last) k =
     ap (λ (rows : List DocRow). live_id_at rows index) f.rows ∙ same_live_id (doc_rows p) slot t.brackets.document index
     ∙ found_at_index (doc_rows p) last.id t.brackets.document k.live in
     record {
-      live = live_row_id (doc_rows q) index last.id f.tree.brackets.document (slice_get (live_rows (doc_rows q)) index) refl at;
+      live = live_row_id (doc_rows q) index last.id f.tree.brackets.document
+          (slice_get (live_rows (doc_rows q)) index) refl at;
       number = k.number;
-      index = index_as last.index index (live_before last.id (doc_rows q)) (sym (index_of_found (doc_rows q) index last.id f.tree.brackets.document at)) k.index;
+      index = index_as last.index index (live_before last.id (doc_rows q))
+          (sym (index_of_found (doc_rows q) index last.id f.tree.brackets.document at)) k.index;
     }
 
 -- a row that was just put
 module _ (p q : Parts) (id : AtomIdValue) (atom : List ℕ) (row : ℕ) (number : row ≡ length p.rows)
-    (rows : q.rows ≡ p.rows ++ record { entry = record { id = id; atom = atom; deletes = [] }; state = Node } ∷ []) where
-  abbrev new_row : RowValue
-  new_row = record { entry = record { id = id; atom = atom; deletes = [] }; state = Node }
+    (rows : q.rows ≡ p.rows ++ record { entry = record { id = id; atom = atom; deletes = [] }; state = Node } ∷ [])
+  where
+    abbrev new_row : RowValue
+    new_row = record { entry = record { id = id; atom = atom; deletes = [] }; state = Node }
 
-  here : row_at q row ≡ new_row
-  here = ap (λ (k : List RowValue). get_or k row nobody) rows ∙ get_or_push p.rows new_row nobody row (sym number)
+    here : row_at q row ≡ new_row
+    here = ap (λ (k : List RowValue). get_or k row nobody) rows ∙ get_or_push p.rows new_row nobody row (sym number)
 
-  pub put_known : row < length q.rows
-  put_known =
-      let long : length q.rows ≡ length p.rows + 1 = ap length rows ∙ length-append p.rows (new_row ∷ []) in
-      omega arith
+    pub put_known : row < length q.rows
+    put_known =
+        let long : length q.rows ≡ length p.rows + 1 = ap length rows ∙ length-append p.rows (new_row ∷ []) in
+        omega arith
 
-  pub put_node : state_at q row ≡ Node
-  put_node = ap (λ (v : RowValue). v.state) here
+    pub put_node : state_at q row ≡ Node
+    put_node = ap (λ (v : RowValue). v.state) here
 
-  pub put_last : IsTree q → (old new : Identities) → ((x : AtomIdValue) → number_of new x ≡ with_run id (record { first = row; count = 1 }) x (number_of old x))
-      → (index : Option ℕ) → IfSome index (λ n. n ≡ live_before (table q row).id (doc_rows q)) → IsLast q new (record { id = id; row = row; index = index })
-  put_last tree old new numbers index e =
-      let f = found_row q tree row put_known (λ g. not_gone (sym put_node ∙ g)) in
-      let none : id.offset ≡ id.offset + 0 = omega arith in
-      let first : row + 0 ≡ row = omega arith in
-      let named : (table q row).id ≡ id = ap (λ (v : RowValue). v.entry.id) here in
-      record {
-        live = ap is_live_found (ap (λ (x : AtomIdValue). find_row x (doc_rows q)) (sym named) ∙ f.found)
-            ∙ ap (λ (k : Entry). is_empty_list k.deletes) (f.entry ∙ ap (λ (v : RowValue). v.entry) here);
-        number = numbers id ∙ (λ i. with_run id (record { first = row; count = 1 }) (record { dot = id.dot; offset = none i }) (number_of old id))
-            ∙ run_new id row 1 0 (number_of old id) (omega arith) ∙ ap (λ (n : ℕ). Some n) first;
-        index = index_as index (live_before (table q row).id (doc_rows q)) (live_before id (doc_rows q)) (ap (λ (x : AtomIdValue). live_before x (doc_rows q)) named) e;
-      }
-    where
-      not_gone : Node ≡ Gone → ⊥
-      not_gone e = cc
+    pub put_last : IsTree q → (old new : Identities)
+        → ((x : AtomIdValue) → number_of new x ≡ with_run id (record { first = row; count = 1 }) x (number_of old x))
+        → (index : Option ℕ) → IfSome index (λ n. n ≡ live_before (table q row).id (doc_rows q))
+        → IsLast q new (record { id = id; row = row; index = index })
+    put_last tree old new numbers index e =
+        let f = found_row q tree row put_known (λ g. not_gone (sym put_node ∙ g)) in
+        let none : id.offset ≡ id.offset + 0 = omega arith in
+        let first : row + 0 ≡ row = omega arith in
+        let named : (table q row).id ≡ id = ap (λ (v : RowValue). v.entry.id) here in
+        record {
+          live = ap is_live_found (ap (λ (x : AtomIdValue). find_row x (doc_rows q)) (sym named) ∙ f.found)
+              ∙ ap (λ (k : Entry). is_empty_list k.deletes) (f.entry ∙ ap (λ (v : RowValue). v.entry) here);
+          number = numbers id ∙ (λ i. with_run id (record { first = row; count = 1 })
+              (record { dot = id.dot; offset = none i }) (number_of old id))
+              ∙ run_new id row 1 0 (number_of old id) (omega arith) ∙ ap (λ (n : ℕ). Some n) first;
+          index = index_as index (live_before (table q row).id (doc_rows q)) (live_before id (doc_rows q))
+              (ap (λ (x : AtomIdValue). live_before x (doc_rows q)) named) e;
+        }
+      where
+        not_gone : Node ≡ Gone → ⊥
+        not_gone e = cc

@@ -7,12 +7,16 @@ use Rattle.td_list.proofs.Names.{apart-parts}
 use Rattle.td_list.proofs.Parted.{parted, from_at, before_is, after_is}
 
 -- the items from the first of a part on are that part
-pub rest_back : (front back : List Item) → AreApart (front ++ back) → items_from_end (first_name back) (front ++ back) ≡ back
+pub rest_back : (front back : List Item) → AreApart (front ++ back) → items_from_end (first_name back) (front ++ back)
+    ≡ back
 rest_back front [] apart = refl
-rest_back front (i ∷ back) apart = from_at i.name front i back refl (λ k. apart-parts front (i ∷ back) apart i.name k (inl refl))
+rest_back front (i ∷ back) apart = from_at i.name front i back refl
+    (λ k. apart-parts front (i ∷ back) apart i.name k (inl refl))
 
-pub rest_long : (items : List Item) → AreApart items → (rest : List Item) (next : Option ℕ) → first_name rest ≡ next → (front : List Item) → items ≡ front ++ rest → length (items_from_end next items) ≡ length rest
-rest_long items apart rest next e front is = (λ i. length (items_from_end (sym e i) (is i))) ∙ ap length (rest_back front rest (subst AreApart is apart))
+pub rest_long : (items : List Item) → AreApart items → (rest : List Item) (next : Option ℕ) → first_name rest ≡ next
+    → (front : List Item) → items ≡ front ++ rest → length (items_from_end next items) ≡ length rest
+rest_long items apart rest next e front is = (λ i. length (items_from_end (sym e i) (is i)))
+    ∙ ap length (rest_back front rest (subst AreApart is apart))
 
 -- an item leads to the list parted at it
 pub record PartedAt (i : Item) (items : List Item) : Type 0 where
@@ -22,10 +26,12 @@ pub record PartedAt (i : Item) (items : List Item) : Type 0 where
   pub before : items_before i.name items ≡ front
   pub after : items_after i.name items ≡ back
 
-pub parted_at : (i : Item) (items : List Item) → AreApart items → ((j : Item) → In j items → j.name ≡ i.name → j ≡ i) → IsItem i.name items → PartedAt i items
+pub parted_at : (i : Item) (items : List Item) → AreApart items → ((j : Item) → In j items → j.name ≡ i.name → j ≡ i)
+    → IsItem i.name items → PartedAt i items
 parted_at i items apart one there =
     let p = parted i.name items there in
-    let same : p.item ≡ i = one p.item (subst (In p.item) (sym p.is) (In-back p.item p.front (p.item ∷ p.back) (inl refl))) p.named in
+    let same : p.item ≡ i = one p.item (subst (In p.item) (sym p.is)
+    (In-back p.item p.front (p.item ∷ p.back) (inl refl))) p.named in
     record {
       front = p.front;
       back = p.back;

@@ -32,4 +32,5 @@ more_nodes p t =
     omega arith
 
 pub parted_tree : (p : Parts) → IsTree p → (i : Item) → In i p.items → PartedAt i p.items
-parted_tree p t i m = parted_at i p.items t.apart (λ j k e. one_item p.items t.apart j i k m e) (In-map (λ (j : Item). j.name) i p.items m)
+parted_tree p t i m = parted_at i p.items t.apart (λ j k e. one_item p.items t.apart j i k m e)
+    (In-map (λ (j : Item). j.name) i p.items m)

@@ -1,5 +1,7 @@
 -- The number of live rows before the place of a new row, by the weight of the items before it.
-use Rattle.std.proofs.Common.{◌≡◌, ◌+◌, ◌*◌, ◌/◌, ◌%◌, ◌^◌, ◌<◌, ◌≤◌, ◌∙◌, ℕ, suc, zero, List, [], ◌∷◌, ◌++◌, Bool, true, if◌then◌else◌, not, nat_eq, length, Option, Some, refl, sym, ap, subst, inl, arith, append_assoc}
+use Rattle.std.proofs.Common.{◌≡◌, ◌+◌, ◌*◌, ◌/◌, ◌%◌, ◌^◌, ◌<◌, ◌≤◌, ◌∙◌, ℕ, suc, zero, List, [], ◌∷◌}
+use Rattle.std.proofs.Common.{◌++◌, Bool, true, if◌then◌else◌, not, nat_eq, length, Option, Some, refl}
+use Rattle.std.proofs.Common.{sym, ap, subst, inl, arith, append_assoc}
 use Rattle.std.specs.Option.{option_eq}
 use Rattle.std.proofs.lemmas.List.{append-nil}
 use Rattle.td_base.specs.Lists.{In}
@@ -13,7 +15,8 @@ use Rattle.td_list.proofs.Parted.{before_at}
 use Rattle.td_brackets.specs.Brackets.{Entry}
 use Rattle.td_tree.specs.declared.tree_row.RowState.{RowState}
 use Rattle.td_tree.specs.declared.tree_row.RowState.TheVariants.{Node, Gone}
-use Rattle.td_tree.specs.Parts.{Parts, state_at, table, token_weight, doc_rows, open_item, atom_item, close_item, node_items, IsKind, IsTree}
+use Rattle.td_tree.specs.Parts.{Parts, state_at, table, token_weight, doc_rows, open_item}
+use Rattle.td_tree.specs.Parts.{atom_item, close_item, node_items, IsKind, IsTree}
 use Rattle.td_tree.specs.Places.{IsPlace, put_at}
 use Rattle.td_tree.specs.Stretches.{items_up_to}
 use Rattle.td_tree.proofs.Lent.{same_end}
@@ -26,18 +29,23 @@ use Rattle.td_tree.proofs.RowPlaces.{item_of, place_of_node}
 use Rattle.td_tree.proofs.RowsFound.{found_row}
 
 -- the items before a place
-up_to_is : (at : Option ℕ) (front back : List Item) → AreApart (front ++ back) → first_name back ≡ at → items_up_to at (front ++ back) ≡ front
+up_to_is : (at : Option ℕ) (front back : List Item) → AreApart (front ++ back) → first_name back ≡ at
+    → items_up_to at (front ++ back) ≡ front
 up_to_is at front [] apart e = ap (λ (o : Option ℕ). items_up_to o (front ++ [])) (sym e) ∙ append-nil front
 up_to_is at front (i ∷ back) apart e =
-    ap (λ (o : Option ℕ). items_up_to o (front ++ i ∷ back)) (sym e) ∙ before_at i.name front i back refl (λ k. apart-parts front (i ∷ back) apart i.name k (inl refl))
+    ap (λ (o : Option ℕ). items_up_to o (front ++ i ∷ back)) (sym e)
+    ∙ before_at i.name front i back refl (λ k. apart-parts front (i ∷ back) apart i.name k (inl refl))
 
 module _ (p : Parts) (t : IsTree p) where
   -- right behind an item the place has its weight before it too
-  weight_behind : (i : Item) → In i p.items → (at : Option ℕ) → first_name (items_after i.name p.items) ≡ at → weight_of (items_up_to at p.items) ≡ weight_of (items_before i.name p.items) + i.weight
+  weight_behind : (i : Item) → In i p.items → (at : Option ℕ) → first_name (items_after i.name p.items) ≡ at
+      → weight_of (items_up_to at p.items) ≡ weight_of (items_before i.name p.items) + i.weight
   weight_behind i m at e =
       let front : List Item = items_before i.name p.items in
-      let is : p.items ≡ (front ++ i ∷ []) ++ items_after i.name p.items = (item_in p t i m).is ∙ sym (append_assoc front (i ∷ []) (items_after i.name p.items)) in
-      let up_to : items_up_to at p.items ≡ front ++ i ∷ [] = ap (items_up_to at) is ∙ up_to_is at (front ++ i ∷ []) (items_after i.name p.items) (subst AreApart is t.apart) e in
+      let is : p.items ≡ (front ++ i ∷ []) ++ items_after i.name p.items = (item_in p t i m).is
+      ∙ sym (append_assoc front (i ∷ []) (items_after i.name p.items)) in
+      let up_to : items_up_to at p.items ≡ front ++ i ∷ [] = ap (items_up_to at) is
+      ∙ up_to_is at (front ++ i ∷ []) (items_after i.name p.items) (subst AreApart is t.apart) e in
       let all = ap weight_of up_to in
       let parts = weight-append front (i ∷ []) in
       omega arith
@@ -46,15 +54,18 @@ module _ (p : Parts) (t : IsTree p) where
   one_live : (b : Bool) → b ≡ true → ◌≡◌ {A = ℕ} (if b then 1 else 0) 1
   one_live b e = ap (λ (c : Bool). if c then 1 else 0) e
 
-  pub index_behind : (r : ℕ) → r < length p.rows → state_at p r ≡ Node → is_live_id (doc_rows p) (table p r).id ≡ true → (at : Option ℕ) → first_name (items_after (3 * r + 1) p.items) ≡ at
+  pub index_behind : (r : ℕ) → r < length p.rows → state_at p r ≡ Node → is_live_id (doc_rows p) (table p r).id ≡ true
+      → (at : Option ℕ) → first_name (items_after (3 * r + 1) p.items) ≡ at
       → weight_of (items_up_to at p.items) ≡ live_before (table p r).id (doc_rows p) + 1
   index_behind r l s live at e =
       let n = node_at p t r l s in
       let f = found_row p t r l (λ g. not_gone (sym s ∙ g)) in
       let one : n.atom.weight ≡ 1 =
       (t.each n.atom (atom_in p r n)).weighed ∙ ap (token_weight (table p)) n.atom_is
-      ∙ one_live (is_empty_list (table p r).deletes) (ap (λ (k : Entry). is_empty_list k.deletes) (sym f.entry) ∙ sym (ap is_live_found f.found) ∙ live) in
-      let behind = weight_behind n.atom (atom_in p r n) at (ap (λ (x : ℕ). first_name (items_after x p.items)) n.atom_named ∙ e) in
+      ∙ one_live (is_empty_list (table p r).deletes)
+      (ap (λ (k : Entry). is_empty_list k.deletes) (sym f.entry) ∙ sym (ap is_live_found f.found) ∙ live) in
+      let behind = weight_behind n.atom (atom_in p r n) at
+      (ap (λ (x : ℕ). first_name (items_after x p.items)) n.atom_named ∙ e) in
       let named = ap (λ (x : ℕ). weight_of (items_before x p.items)) n.atom_named in
       let before = index_is p t r (3 * r + 1) 0 (place_of_node p t r l s (atom_there p r n)) in
       omega arith
@@ -74,19 +85,25 @@ module _ (p : Parts) (t : IsTree p) where
       let i = item_of p t (3 * r + 2) h in
       let k = t.each i.0 i.1 in
       let name = i.2 in
-      let row : i.0.name / 3 ≡ r = omega arith in
-      (subst (λ (x : ℕ). x < length p.rows) row k.known, ap (state_at p) (sym row) ∙ kind_node (i.0.name % 3) (state_at p (i.0.name / 3)) i.0.weight (omega arith) k.kind)
+      let row : i.0.name / 3 ≡ r = omega arith in (
+        subst (λ (x : ℕ). x < length p.rows) row k.known,
+        ap (state_at p) (sym row)
+            ∙ kind_node (i.0.name % 3) (state_at p (i.0.name / 3)) i.0.weight (omega arith) k.kind,
+      )
     where
       kind_node : (k : ℕ) (s : RowState) (w : ℕ) → k ≡ 2 → IsKind p k s w → s ≡ Node
       kind_node zero s w e h = absurd (omega arith)
       kind_node (suc zero) s w e h = absurd (omega arith)
       kind_node (suc (suc k)) s w e h = h
 
-  pub closed_at : (r : ℕ) (at : Option ℕ) (name : ℕ) → ((x : ℕ) → at ≡ Some x → IsItem x p.items) → true ≡ option_eq nat_eq at (Some name) → name ≡ 3 * r + 2 → (r < length p.rows) × (state_at p r ≡ Node)
-  closed_at r at name there e is = closed_node r (there (3 * r + 2) (same_end at (Some name) (ap not (sym e)) ∙ ap (λ (x : ℕ). Some x) is))
+  pub closed_at : (r : ℕ) (at : Option ℕ) (name : ℕ) → ((x : ℕ) → at ≡ Some x → IsItem x p.items) → true
+      ≡ option_eq nat_eq at (Some name) → name ≡ 3 * r + 2 → (r < length p.rows) × (state_at p r ≡ Node)
+  closed_at r at name there e is = closed_node r
+      (there (3 * r + 2) (same_end at (Some name) (ap not (sym e)) ∙ ap (λ (x : ℕ). Some x) is))
 
 -- a new row is at the index of its place
-pub index_of_put : (p q : Parts) → IsTree p → IsTree q → (slot : Slot) (id : AtomIdValue) (atom : List ℕ) (at : Option ℕ) → IsPlace p slot id at
+pub index_of_put : (p q : Parts) → IsTree p → IsTree q
+    → (slot : Slot) (id : AtomIdValue) (atom : List ℕ) (at : Option ℕ) → IsPlace p slot id at
     → q.rows ≡ p.rows ++ record { entry = record { id = id; atom = atom; deletes = [] }; state = Node } ∷ []
     → q.items ≡ put_at at (node_items (length p.rows) [] []) p.items
     → weight_of (items_up_to at p.items) ≡ live_before (table q (length p.rows)).id (doc_rows q)
@@ -99,10 +116,13 @@ index_of_put p q t u slot id atom at place rows items =
     let front : List Item = place.front ++ open_item n ∷ [] in
     let back : List Item = close_item n ∷ place.back in
     let is : q.items ≡ front ++ atom_item n 1 ∷ back =
-    items ∙ ap (put_at at (node_items n [] [])) place.is ∙ put_parts at (node_items n [] []) place.front place.back was place.here
+    items ∙ ap (put_at at (node_items n [] [])) place.is
+    ∙ put_parts at (node_items n [] []) place.front place.back was place.here
     ∙ sym (append_assoc place.front (open_item n ∷ []) (atom_item n 1 ∷ back)) in
     let now : AreApart (front ++ atom_item n 1 ∷ back) = subst AreApart is u.apart in
-    let before = ap weight_of (ap (items_before (3 * n + 1)) is ∙ before_at (3 * n + 1) front (atom_item n 1) back refl (λ k. apart-parts front (atom_item n 1 ∷ back) now (3 * n + 1) k (inl refl))) in
+    let before = ap weight_of (ap (items_before (3 * n + 1)) is
+    ∙ before_at (3 * n + 1) front (atom_item n 1) back refl
+    (λ k. apart-parts front (atom_item n 1 ∷ back) now (3 * n + 1) k (inl refl))) in
     let parts = weight-append place.front (open_item n ∷ []) in
     let up_to = ap weight_of (ap (items_up_to at) place.is ∙ up_to_is at place.front place.back was place.here) in
     let index = index_is q u n (3 * n + 1) 0 (place_of_node q u n known node (atom_there q n m)) in

@@ -1,5 +1,6 @@
 -- The rows of an insert's run, in one new leaf.
-use Rattle.std.proofs.Common.{◌≡◌, ◌≢◌, ◌+◌, ◌-◌, ◌*◌, ◌/◌, ◌<◌, ◌≤◌, ◌^◌, ℕ, zero, suc, List, [], ◌∷◌, ◌++◌, length, get_or, map, refl, sym, ap, ◌∙◌, subst, inl, ⊎_elim, arith, Option, Some}
+use Rattle.std.proofs.Common.{◌≡◌, ◌≢◌, ◌+◌, ◌-◌, ◌*◌, ◌/◌, ◌<◌, ◌≤◌, ◌^◌, ℕ, zero, suc, List, [], ◌∷◌, ◌++◌, length}
+use Rattle.std.proofs.Common.{get_or, map, refl, sym, ap, ◌∙◌, subst, inl, ⊎_elim, arith, Option, Some}
 use Rattle.std.specs.Prelude.{IsNone, IsTrue}
 use Rattle.std.specs.List.{range_with_len}
 use Rattle.std.proofs.lemmas.List.{append-nil, get_or_push, length_push, get_or-append-add, take_all}
@@ -20,7 +21,9 @@ use Rattle.td_brackets.specs.Laws.{Standing, AllAfter}
 use Rattle.td_brackets.proofs.Kept.{same_standing}
 use Rattle.td_brackets.proofs.PutRuns.{put_run_is, put_run_brackets}
 use Rattle.td_tree.specs.declared.tree_row.RowState.TheVariants.{InArray}
-use Rattle.td_tree.specs.Parts.{RowValue, Parts, nobody, row_at, state_at, table, array_at, part, row_of_array, tokens_of, tokens, doc_rows, IsPart, IsToken, atom_item, leaf_item, Cut, OneLeaf, IsAt, IsTree}
+use Rattle.td_tree.specs.Parts.{RowValue, Parts, nobody, row_at, state_at, table, array_at, part}
+use Rattle.td_tree.specs.Parts.{row_of_array, tokens_of, tokens, doc_rows, IsPart, IsToken}
+use Rattle.td_tree.specs.Parts.{atom_item, leaf_item, Cut, OneLeaf, IsAt, IsTree}
 use Rattle.td_tree.specs.Places.{IsPlace, IsNewPlace, put_at, run_rows, top_id, IsRunPut}
 use Rattle.td_tree.proofs.ArrayParts.{part_length, part_place, part_halves}
 use Rattle.td_tree.proofs.ItemTokens.{leaf_token}
@@ -35,16 +38,22 @@ run_long a dot k [] = refl
 run_long a dot k (atom ∷ run) = ap suc (run_long a dot (suc k) run)
 
 abbrev pub run_row : ℕ → DotValue → ℕ → List ℕ → RowValue
-run_row a dot k atom = record { entry = record { id = record { dot = dot; offset = k }; atom = atom; deletes = [] }; state = InArray a k }
+run_row a dot k atom = record {
+  entry = record { id = record { dot = dot; offset = k }; atom = atom; deletes = [] };
+  state = InArray a k;
+}
 
-pub run_row_at : (a : ℕ) (dot : DotValue) (k : ℕ) (run : List (List ℕ)) (i : ℕ) → i < length run → get_or (run_rows a dot k run) i nobody ≡ run_row a dot (k + i) (get_or run i [])
+pub run_row_at : (a : ℕ) (dot : DotValue) (k : ℕ) (run : List (List ℕ)) (i : ℕ) → i < length run
+    → get_or (run_rows a dot k run) i nobody ≡ run_row a dot (k + i) (get_or run i [])
 run_row_at a dot k [] i l = absurd (omega arith)
 run_row_at a dot k (atom ∷ run) zero l = let e : k ≡ k + 0 = omega arith in ap (λ (o : ℕ). run_row a dot o atom) e
 run_row_at a dot k (atom ∷ run) (suc i) l =
     let e : suc k + i ≡ k + suc i = omega arith in
     run_row_at a dot (suc k) run i (omega arith) ∙ ap (λ (o : ℕ). run_row a dot o (get_or run i [])) e
 
-run_names : (next : ℕ → Entry) (dot : DotValue) (k n : ℕ) (run : List (List ℕ)) → ((i : ℕ) → i < length run → atom_of next (n + i) ≡ record { id = record { dot = dot; offset = k + i }; atom = get_or run i [] })
+run_names : (next : ℕ → Entry) (dot : DotValue) (k n : ℕ) (run : List (List ℕ))
+    → ((i : ℕ) → i < length run → atom_of next (n + i)
+    ≡ record { id = record { dot = dot; offset = k + i }; atom = get_or run i [] })
     → map (atom_of next) (range_with_len n (length run)) ≡ run_atoms_from dot k run
 run_names next dot k n [] h = refl
 run_names next dot k n (atom ∷ run) h = λ i. first i ∷ run_names next dot (suc k) (n + 1) run rest i
@@ -55,15 +64,19 @@ run_names next dot k n (atom ∷ run) h = λ i. first i ∷ run_names next dot (
         let f : k + 0 ≡ k = omega arith in
         ap (atom_of next) e ∙ h 0 (omega arith) ∙ (λ i. record { id = record { dot = dot; offset = f i }; atom = atom })
 
-    rest : (i : ℕ) → i < length run → atom_of next ((n + 1) + i) ≡ record { id = record { dot = dot; offset = suc k + i }; atom = get_or run i [] }
+    rest : (i : ℕ) → i < length run → atom_of next ((n + 1) + i)
+        ≡ record { id = record { dot = dot; offset = suc k + i }; atom = get_or run i [] }
     rest i l =
         let e : (n + 1) + i ≡ n + suc i = omega arith in
         let f : k + suc i ≡ suc k + i = omega arith in
-        ap (atom_of next) e ∙ h (suc i) (omega arith) ∙ (λ j. record { id = record { dot = dot; offset = f j }; atom = get_or run i [] })
+        ap (atom_of next) e ∙ h (suc i) (omega arith) ∙ (λ j. record
+        { id = record { dot = dot; offset = f j }; atom = get_or run i [] })
 
 -- no row has the identity of a fresh dot
-pub fresh_unfound : (rows : List DocRow) (dot : DotValue) (k : ℕ) → IsFresh rows dot → IsNone (find_row (record { dot = dot; offset = k }) rows)
-fresh_unfound rows dot k fresh = unfound (record { dot = dot; offset = k }) rows (λ s i e. all_in (λ (r : DocRow). (row_id r).dot ≢ dot) rows fresh s i (ap (λ (x : AtomIdValue). x.dot) e))
+pub fresh_unfound : (rows : List DocRow) (dot : DotValue) (k : ℕ) → IsFresh rows dot
+    → IsNone (find_row (record { dot = dot; offset = k }) rows)
+fresh_unfound rows dot k fresh = unfound (record { dot = dot; offset = k }) rows
+    (λ s i e. all_in (λ (r : DocRow). (row_id r).dot ≢ dot) rows fresh s i (ap (λ (x : AtomIdValue). x.dot) e))
 
 -- the item of the leaf
 abbrev pub run_item : ℕ → ℕ → Item
@@ -94,7 +107,9 @@ module _ (p : Parts) (t : IsTree p) (at : Option ℕ) (dot : DotValue) (run : Li
     count = p.count + length run;
   }
 
-  module _ (slot : Slot) (place : IsNewPlace p slot (top_id dot run) at) (fresh : IsFresh (doc_rows p) dot) (some : 0 < length run) (few : length p.rows + length run < 2 ^ 30) (rooted : IsTrue (is_rooted (doc_rows p) slot)) where
+  module _ (slot : Slot) (place : IsNewPlace p slot (top_id dot run) at) (fresh : IsFresh (doc_rows p) dot)
+      (some : 0 < length run) (few : length p.rows + length run < 2 ^ 30)
+      (rooted : IsTrue (is_rooted (doc_rows p) slot)) where
     abbrev pl : IsPlace p slot (top_id dot run) at
     pl = place.place
 
@@ -108,7 +123,8 @@ module _ (p : Parts) (t : IsTree p) (at : Option ℕ) (dot : DotValue) (run : Li
     items_are = ap (put_at at piece) pl.is ∙ put_parts at piece pl.front pl.back (subst AreApart pl.is t.apart) pl.here
 
     more_rows : length q.rows ≡ n + j
-    more_rows = let two = run_long a dot 0 run in let one = long p t pl.front pl.back pl.is q piece more (numbers ∷ []) items_are refl refl in omega arith
+    more_rows = let two = run_long a dot 0 run in let one =
+        long p t pl.front pl.back pl.is q piece more (numbers ∷ []) items_are refl refl in omega arith
 
     numbers_long : length numbers ≡ j
     numbers_long = length-range_with_len n j
@@ -123,7 +139,8 @@ module _ (p : Parts) (t : IsTree p) (at : Option ℕ) (dot : DotValue) (run : Li
     row_there k l = ap (λ (xs : List ℕ). get_or xs k 0) array_is ∙ get_or-range_with_len n j k 0 l
 
     row_is : (k : ℕ) → k < j → row_at q (n + k) ≡ run_row a dot k (get_or run k [])
-    row_is k l = get_or-append-add p.rows more k nobody ∙ run_row_at a dot 0 run k l ∙ (let e : 0 + k ≡ k = omega arith in ap (λ (o : ℕ). run_row a dot o (get_or run k [])) e)
+    row_is k l = get_or-append-add p.rows more k nobody ∙ run_row_at a dot 0 run k l
+        ∙ (let e : 0 + k ≡ k = omega arith in ap (λ (o : ℕ). run_row a dot o (get_or run k [])) e)
 
     state_is : (k : ℕ) → k < j → state_at q (n + k) ≡ InArray a k
     state_is k l = ap (λ (v : RowValue). v.state) (row_is k l)
@@ -146,7 +163,8 @@ module _ (p : Parts) (t : IsTree p) (at : Option ℕ) (dot : DotValue) (run : Li
     half = omega arith
 
     item_is : leaf_item q a 0 j ≡ run_item n j
-    item_is = let e : 0 + j / 2 ≡ j / 2 = omega arith in ap (λ (r : ℕ). atom_item r j) (ap (row_of_array q a) e ∙ row_there (j / 2) half)
+    item_is = let e : 0 + j / 2 ≡ j / 2 = omega arith in
+        ap (λ (r : ℕ). atom_item r j) (ap (row_of_array q a) e ∙ row_there (j / 2) half)
 
     -- the leaf, parted at its top
 
@@ -163,25 +181,31 @@ module _ (p : Parts) (t : IsTree p) (at : Option ℕ) (dot : DotValue) (run : Li
     rs = before ++ m ∷ after
 
     whole : numbers ≡ rs
-    whole = sym (take_all j numbers (omega (arith, numbers_long))) ∙ part_halves numbers 0 j some (omega (arith, numbers_long))
+    whole = sym (take_all j numbers (omega (arith, numbers_long)))
+        ∙ part_halves numbers 0 j some (omega (arith, numbers_long))
 
     top_is : m ≡ n + j / 2
-    top_is = let e : 0 + j / 2 ≡ j / 2 = omega arith in ap (λ (k : ℕ). get_or numbers k 0) e ∙ get_or-range_with_len n j (j / 2) 0 half
+    top_is = let e : 0 + j / 2 ≡ j / 2 = omega arith in
+        ap (λ (k : ℕ). get_or numbers k 0) e ∙ get_or-range_with_len n j (j / 2) 0 half
 
     in_middle : length before ≡ length rs / 2
-    in_middle = part_length numbers 0 (j / 2) (omega (arith, numbers_long, half)) ∙ ap (λ (k : ℕ). k / 2) (sym numbers_long ∙ ap length whole)
+    in_middle = part_length numbers 0 (j / 2) (omega (arith, numbers_long, half))
+        ∙ ap (λ (k : ℕ). k / 2) (sym numbers_long ∙ ap length whole)
 
     piece_is : tokens_of q piece ≡ Leaf rs ∷ []
     piece_is =
         ap (tokens_of q) (ap (λ (i : Item). i ∷ []) (sym item_is))
-        ∙ ap (λ (x : Token). x ∷ []) (leaf_token q a 0 j is_part ∙ ap (λ (xs : List ℕ). Leaf (part xs 0 j)) array_is ∙ ap Leaf (take_all j numbers (omega (arith, numbers_long)) ∙ whole))
+        ∙ ap (λ (x : Token). x ∷ []) (leaf_token q a 0 j is_part ∙ ap (λ (xs : List ℕ). Leaf (part xs 0 j)) array_is
+        ∙ ap Leaf (take_all j numbers (omega (arith, numbers_long)) ∙ whole))
 
     rs_long : length (rs ++ []) ≡ j
     rs_long = ap length (append-nil rs ∙ sym whole) ∙ numbers_long
 
     in_run : (r : ℕ) → In r rs → (k : ℕ) × (k < j) × (r ≡ n + k)
     in_run r i =
-        let f : (k : ℕ) × (0 ≤ k) × (k < 0 + j) × (r ≡ get_or numbers k 0) = part_place numbers 0 j r (subst (In r) (sym whole ∙ sym (take_all j numbers (omega (arith, numbers_long)))) i) in
+        let f : (k : ℕ) × (0 ≤ k) × (k < 0 + j) × (r ≡ get_or numbers k 0) =
+        part_place numbers 0 j r (subst (In r) (sym whole
+        ∙ sym (take_all j numbers (omega (arith, numbers_long)))) i) in
         let l : f.0 < j = below f.0 f.2 in
         (f.0, l, f.3 ∙ get_or-range_with_len n j f.0 0 l)
       where
@@ -189,13 +213,16 @@ module _ (p : Parts) (t : IsTree p) (at : Option ℕ) (dot : DotValue) (run : Li
         below k l = omega arith
 
     live : (r : ℕ) → In r rs → (table q r).deletes ≡ []
-    live r i = let f = in_run r i in ap (λ (x : ℕ). (table q x).deletes) f.2 ∙ ap (λ (v : RowValue). v.entry.deletes) (row_is f.0 f.1)
+    live r i = let f = in_run r i in ap (λ (x : ℕ). (table q x).deletes) f.2
+        ∙ ap (λ (v : RowValue). v.entry.deletes) (row_is f.0 f.1)
 
     atoms : map (atom_of (table q)) rs ≡ run_atoms dot run
     atoms =
         ap (map (atom_of (table q))) (sym whole)
         ∙ run_names (table q) dot 0 n run
-        (λ k l. let e : k ≡ 0 + k = omega arith in (λ i. record { id = (row_is k l i).entry.id; atom = (row_is k l i).entry.atom }) ∙ (λ i. record { id = record { dot = dot; offset = e i }; atom = get_or run k [] }))
+        (λ k l. let e : k ≡ 0 + k = omega arith in (λ i. record
+        { id = (row_is k l i).entry.id; atom = (row_is k l i).entry.atom })
+        ∙ (λ i. record { id = record { dot = dot; offset = e i }; atom = get_or run k [] }))
 
     named : top_id dot run ≡ (table q m).id
     named = sym (ap (λ (x : ℕ). (table q x).id) top_is ∙ ap (λ (v : RowValue). v.entry.id) (row_is (j / 2) half))
@@ -208,22 +235,27 @@ module _ (p : Parts) (t : IsTree p) (at : Option ℕ) (dot : DotValue) (run : Li
     was : tokens p ≡ tokens_of p pl.front ++ tokens_of p pl.back
     was = old_tokens p t pl.front pl.back pl.is q piece more (numbers ∷ []) items_are refl refl
 
-    moved : Standing (table q) (tokens p) pl.stack (top_id dot run) (tokens_of p pl.front) (tokens_of p pl.back) × AllAfter (table q) pl.stack (top_id dot run) (tokens_of p pl.back) × (slot_of (table q) pl.stack ≡ slot_of (table p) pl.stack)
+    moved : Standing (table q) (tokens p) pl.stack (top_id dot run) (tokens_of p pl.front) (tokens_of p pl.back)
+        × AllAfter (table q) pl.stack (top_id dot run) (tokens_of p pl.back)
+        × (slot_of (table q) pl.stack ≡ slot_of (table p) pl.stack)
     moved =
-        same_standing (table p) (table q) (tokens p) pl.stack (top_id dot run) (tokens_of p pl.front) (tokens_of p pl.back) t.brackets.word agrees
+        same_standing (table p) (table q) (tokens p) pl.stack (top_id dot run) (tokens_of p pl.front)
+        (tokens_of p pl.back) t.brackets.word agrees
         (record { is = was; moved = pl.moved; before = pl.before }) place.after
 
     there : slot_path (doc_rows p) slot ≡ Some (slot_of (table q) pl.stack)
     there = pl.slot_is ∙ ap Some (sym moved.2)
 
     standing : Standing (table q) (tokens p) pl.stack (table q m).id (tokens_of p pl.front) (tokens_of p pl.back)
-    standing = subst (λ (x : AtomIdValue). Standing (table q) (tokens p) pl.stack x (tokens_of p pl.front) (tokens_of p pl.back)) named moved.0
+    standing = subst (λ (x : AtomIdValue). Standing (table q) (tokens p) pl.stack x (tokens_of p pl.front)
+        (tokens_of p pl.back)) named moved.0
 
     behind : AllAfter (table q) pl.stack (table q m).id (tokens_of p pl.back)
     behind = subst (λ (x : AtomIdValue). AllAfter (table q) pl.stack x (tokens_of p pl.back)) named moved.1
 
     brackets : IsBrackets (table q) (tokens_of p pl.front ++ Leaf rs ∷ tokens_of p pl.back)
-    brackets = put_run_brackets (table p) (table q) (tokens p) t.brackets agrees dot run fresh before m after in_middle atoms live (tokens_of p pl.front) (tokens_of p pl.back) was pl.stack slot standing behind there rooted
+    brackets = put_run_brackets (table p) (table q) (tokens p) t.brackets agrees dot run fresh before m after
+        in_middle atoms live (tokens_of p pl.front) (tokens_of p pl.back) was pl.stack slot standing behind there rooted
 
     each_new : (i : Item) → In i piece → IsToken q i
     each_new i x =
@@ -239,7 +271,8 @@ module _ (p : Parts) (t : IsTree p) (at : Option ℕ) (dot : DotValue) (run : Li
         let k : ℕ = r - n in
         let l : k < j = omega (arith, more_rows) in
         let same : n + k ≡ r = omega arith in
-        subst (λ (x : ℕ). IsAt q x (state_at q x)) same (subst (IsAt q (n + k)) (sym (state_is k l)) (arrays_more, omega (arith, array_long), row_there k l))
+        subst (λ (x : ℕ). IsAt q x (state_at q x)) same
+        (subst (IsAt q (n + k)) (sym (state_is k l)) (arrays_more, omega (arith, array_long), row_there k l))
 
     cut_new : (b : ℕ) → a ≤ b → b < length q.arrays → Cut q b 0 (length (array_at q b))
     cut_new b low high =
@@ -247,7 +280,9 @@ module _ (p : Parts) (t : IsTree p) (at : Option ℕ) (dot : DotValue) (run : Li
         subst (λ (x : ℕ). Cut q x 0 (length (array_at q x))) same
         (subst (Cut q a 0) (sym array_long)
         (OneLeaf 0 j is_part
-        (subst (λ (i : Item). In i q.items) (sym item_is) (subst (In (run_item n j)) (sym items_are) (In-back (run_item n j) pl.front (piece ++ pl.back) (inl refl))))))
+        (subst (λ (i : Item). In i q.items) (sym item_is)
+        (subst (In (run_item n j)) (sym items_are) (In-back (run_item n j) pl.front (piece ++ pl.back)
+        (inl refl))))))
 
     named_new : (b k : ℕ) → a ≤ b → b < length q.arrays → k < length (array_at q b) → row_of_array q b k < length q.rows
     named_new b k low high l =
@@ -263,14 +298,29 @@ module _ (p : Parts) (t : IsTree p) (at : Option ℕ) (dot : DotValue) (run : Li
 
     pub run_tree : IsTree q
     run_tree =
-        grown_tree p t pl.front pl.back pl.is q piece more (numbers ∷ []) items_are refl refl (Leaf rs ∷ []) piece_is brackets
-        each_new (tt, tt) (λ x i. ⊎_elim (λ (e : x ≡ 3 * (n + j / 2) + 1). omega arith) (λ (z : ⊥). absurd z) i) at_new cut_new named_new short_new (omega arith)
-        (omega (arith, rs_long)) (omega (arith, rs_long, run_long a dot 0 run)) (omega (arith, rs_long, run_long a dot 0 run)) (omega (arith, run_long a dot 0 run)) (omega (arith, more_rows))
+        grown_tree p t pl.front pl.back pl.is q piece more (numbers ∷ []) items_are refl refl (Leaf rs ∷ []) piece_is
+        brackets
+        each_new (tt, tt) (λ x i. ⊎_elim (λ (e : x ≡ 3 * (n + j / 2) + 1). omega arith) (λ (z : ⊥). absurd z) i)
+        at_new cut_new named_new short_new (omega arith)
+        (omega (arith, rs_long)) (omega (arith, rs_long, run_long a dot 0 run))
+        (omega (arith, rs_long, run_long a dot 0 run)) (omega (arith, run_long a dot 0 run))
+        (omega (arith, more_rows))
 
     pub run_is : doc_rows q ≡ insert_run slot dot run (doc_rows p)
     run_is =
-        ap (rows_of (table q)) (new_tokens p t pl.front pl.back pl.is q piece more (numbers ∷ []) items_are refl refl (Leaf rs ∷ []) piece_is)
-        ∙ put_run_is (table p) (table q) (tokens p) t.brackets agrees dot run fresh before m after in_middle atoms live (tokens_of p pl.front) (tokens_of p pl.back) was pl.stack slot standing behind there
+        ap (rows_of (table q)) (new_tokens p t pl.front pl.back pl.is q piece more (numbers ∷ []) items_are refl refl
+        (Leaf rs ∷ []) piece_is)
+        ∙ put_run_is (table p) (table q) (tokens p) t.brackets agrees dot run fresh before m after in_middle atoms
+        live (tokens_of p pl.front) (tokens_of p pl.back) was pl.stack slot standing behind there
 
-  pub is_run_put : IsFresh (doc_rows p) dot → 0 < length run → length p.rows + length run < 2 ^ 30 → IsRunPut p with_run at dot run
-  is_run_put fresh some few = record { rows = refl; nodes = refl; there = λ slot place rooted. (run_tree slot place fresh some few rooted, run_is slot place fresh some few rooted) }
+  pub is_run_put : IsFresh (doc_rows p) dot → 0 < length run → length p.rows + length run < 2 ^ 30
+      → IsRunPut p with_run at dot run
+  is_run_put fresh some few = record {
+    rows = refl;
+    nodes = refl;
+    there = λ slot place rooted. (
+      run_tree slot place fresh some few rooted,
+      run_is slot place fresh some few
+          rooted,
+    );
+  }

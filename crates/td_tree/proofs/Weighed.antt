@@ -1,5 +1,7 @@
 -- The weight of the tokens is the number of live rows, and a unit of it leads to its row.
-use Rattle.std.proofs.Common.{◌≡◌, ◌-◌, ◌<◌, ◌≤◌, ℕ, zero, suc, List, [], ◌∷◌, ◌++◌, Bool, true, false, if◌then◌else◌, length, nat_lt, refl, sym, ap, ◌∙◌, subst, inl, inr, arith, length-append, Option, Some, None, slice_get}
+use Rattle.std.proofs.Common.{◌≡◌, ◌-◌, ◌<◌, ◌≤◌, ℕ, zero, suc, List, [], ◌∷◌, ◌++◌, Bool, true, false}
+use Rattle.std.proofs.Common.{if◌then◌else◌, length, nat_lt, refl, sym, ap, ◌∙◌, subst, inl, inr, arith}
+use Rattle.std.proofs.Common.{length-append, Option, Some, None, slice_get}
 use Rattle.std.specs.Option.{option_map}
 use Rattle.std.proofs.lemmas.Bool.{ltb-true, ltb-false}
 use Rattle.std.proofs.lemmas.Option.{slice_get-map}
@@ -20,7 +22,8 @@ use Rattle.td_brackets.proofs.Flattened.{live_atoms}
 
 -- the k-th of two lists
 
-pub get_back : {X : Type 0} (xs ys : List X) (k : ℕ) → length xs ≤ k → slice_get (xs ++ ys) k ≡ slice_get ys (k - length xs)
+pub get_back : {X : Type 0} (xs ys : List X) (k : ℕ) → length xs ≤ k → slice_get (xs ++ ys) k
+    ≡ slice_get ys (k - length xs)
 get_back [] ys k h = ap (slice_get ys) (minus_none k)
   where
     minus_none : (k : ℕ) → k ≡ k - 0
@@ -43,7 +46,8 @@ number_count table (Leaf rs) = refl
 
 module _ (p : Parts) where
   -- what is weighed
-  pub weight_is : (items : List Item) → ((i : Item) → In i items → IsToken p i) → weight_of items ≡ length (live_numbers (table p) (tokens_of p items))
+  pub weight_is : (items : List Item) → ((i : Item) → In i items → IsToken p i) → weight_of items
+      ≡ length (live_numbers (table p) (tokens_of p items))
   weight_is [] h = refl
   weight_is (i ∷ items) h =
       let ih = weight_is items (λ j m. h j (inr m)) in
@@ -58,7 +62,8 @@ module _ (p : Parts) where
     pub there : In item items
     pub name : item.name ≡ s.name
     pub within : s.rest < item.weight
-    pub is : slice_get (live_numbers (table p) (tokens_of p items)) k ≡ slice_get (live_number (table p) (token_of p item)) s.rest
+    pub is : slice_get (live_numbers (table p) (tokens_of p items)) k
+        ≡ slice_get (live_number (table p) (token_of p item)) s.rest
 
   shared_at : (i : Item) (items : List Item) (k : ℕ) (s : Share) → IsToken p i → (b : Bool) → nat_lt k i.weight ≡ b
       → Some s ≡ (if b then Some (record { name = i.name; rest = k }) else share_at (k - i.weight) items)
@@ -73,7 +78,8 @@ module _ (p : Parts) where
         there = inl refl;
         name = ap (λ (r : Share). r.name) (sym is);
         within = subst (λ (r : Share). r.rest < i.weight) (sym is) below;
-        is = get_front (live_number (table p) (token_of p i)) (live_numbers (table p) (tokens_of p items)) k (omega arith)
+        is = get_front (live_number (table p) (token_of p i)) (live_numbers (table p) (tokens_of p items)) k
+            (omega arith)
             ∙ ap (λ (r : Share). slice_get (live_number (table p) (token_of p i)) r.rest) (sym is);
       }
     where
@@ -90,20 +96,24 @@ module _ (p : Parts) where
         there = inr r.there;
         name = r.name;
         within = r.within;
-        is = get_back (live_number (table p) (token_of p i)) (live_numbers (table p) (tokens_of p items)) k (omega arith)
+        is = get_back (live_number (table p) (token_of p i)) (live_numbers (table p) (tokens_of p items)) k
+            (omega arith)
             ∙ ap (λ (n : ℕ). slice_get (live_numbers (table p) (tokens_of p items)) (k - n)) same ∙ r.is;
       }
 
-  pub shared : (items : List Item) → ((i : Item) → In i items → IsToken p i) → (k : ℕ) (s : Share) → Some s ≡ share_at k items → Shared items k s
+  pub shared : (items : List Item) → ((i : Item) → In i items → IsToken p i) → (k : ℕ) (s : Share) → Some s
+      ≡ share_at k items → Shared items k s
   shared [] h k s e = absurd (no s e)
     where
       no : (s : Share) → Some s ≡ None → ⊥
       no s e = cc
-  shared (i ∷ items) h k s e = shared_at i items k s (h i (inl refl)) (nat_lt k i.weight) refl e (λ g. shared items (λ j m. h j (inr m)) (k - i.weight) s g)
+  shared (i ∷ items) h k s e = shared_at i items k s (h i (inl refl)) (nat_lt k i.weight) refl e
+      (λ g. shared items (λ j m. h j (inr m)) (k - i.weight) s g)
 
   beyond_at : (i : Item) (items : List Item) (k : ℕ) → IsToken p i → (b : Bool) → nat_lt k i.weight ≡ b
       → None ≡ (if b then Some (record { name = i.name; rest = k }) else share_at (k - i.weight) items)
-      → (None ≡ share_at (k - i.weight) items → slice_get (live_numbers (table p) (tokens_of p items)) (k - i.weight) ≡ None)
+      → (None ≡ share_at (k - i.weight) items → slice_get (live_numbers (table p) (tokens_of p items)) (k - i.weight)
+      ≡ None)
       → slice_get (live_numbers (table p) (tokens_of p (i ∷ items))) k ≡ None
   beyond_at i items k token true e h ih = absurd (no (record { name = i.name; rest = k }) h)
     where
@@ -117,31 +127,41 @@ module _ (p : Parts) where
       get_back (live_number (table p) (token_of p i)) (live_numbers (table p) (tokens_of p items)) k (omega arith)
       ∙ ap (λ (n : ℕ). slice_get (live_numbers (table p) (tokens_of p items)) (k - n)) same ∙ ih h
 
-  pub beyond : (items : List Item) → ((i : Item) → In i items → IsToken p i) → (k : ℕ) → None ≡ share_at k items → slice_get (live_numbers (table p) (tokens_of p items)) k ≡ None
+  pub beyond : (items : List Item) → ((i : Item) → In i items → IsToken p i) → (k : ℕ) → None ≡ share_at k items
+      → slice_get (live_numbers (table p) (tokens_of p items)) k ≡ None
   beyond [] h k e = refl
-  beyond (i ∷ items) h k e = beyond_at i items k (h i (inl refl)) (nat_lt k i.weight) refl e (λ g. beyond items (λ j m. h j (inr m)) (k - i.weight) g)
+  beyond (i ∷ items) h k e = beyond_at i items k (h i (inl refl)) (nat_lt k i.weight) refl e
+      (λ g. beyond items (λ j m. h j (inr m)) (k - i.weight) g)
 
 -- the live rows are those of the numbers
-pub live_count : (table : ℕ → Entry) (tokens : List Token) → length (live_rows (rows_of table tokens)) ≡ length (live_numbers table tokens)
-live_count table tokens = sym (length-map (live_rows (rows_of table tokens)) named) ∙ ap (λ (xs : List NamedAtom). length xs) (live_atoms table [] tokens) ∙ length-map (live_numbers table tokens) (atom_of table)
+pub live_count : (table : ℕ → Entry) (tokens : List Token) → length (live_rows (rows_of table tokens))
+    ≡ length (live_numbers table tokens)
+live_count table tokens = sym (length-map (live_rows (rows_of table tokens)) named)
+    ∙ ap (λ (xs : List NamedAtom). length xs) (live_atoms table [] tokens)
+    ∙ length-map (live_numbers table tokens) (atom_of table)
 
-pub live_id_is : (table : ℕ → Entry) (tokens : List Token) (k : ℕ) → live_id_at (rows_of table tokens) k ≡ option_map (λ (r : ℕ). (table r).id) (slice_get (live_numbers table tokens) k)
+pub live_id_is : (table : ℕ → Entry) (tokens : List Token) (k : ℕ) → live_id_at (rows_of table tokens) k
+    ≡ option_map (λ (r : ℕ). (table r).id) (slice_get (live_numbers table tokens) k)
 live_id_is table tokens k =
     through (slice_get (live_rows (rows_of table tokens)) k)
-    ∙ ap (option_map (λ (a : NamedAtom). a.id)) (sym (slice_get-map named (live_rows (rows_of table tokens)) k) ∙ ap (λ (xs : List NamedAtom). slice_get xs k) (live_atoms table [] tokens) ∙ slice_get-map (atom_of table) (live_numbers table tokens) k)
+    ∙ ap (option_map (λ (a : NamedAtom). a.id)) (sym (slice_get-map named (live_rows (rows_of table tokens)) k)
+    ∙ ap (λ (xs : List NamedAtom). slice_get xs k) (live_atoms table [] tokens)
+    ∙ slice_get-map (atom_of table) (live_numbers table tokens) k)
     ∙ sym (over (slice_get (live_numbers table tokens) k))
   where
     through : (o : Option DocRow) → option_map row_id o ≡ option_map (λ (a : NamedAtom). a.id) (option_map named o)
     through None = refl
     through (Some r) = refl
 
-    over : (o : Option ℕ) → option_map (λ (r : ℕ). (table r).id) o ≡ option_map (λ (a : NamedAtom). a.id) (option_map (atom_of table) o)
+    over : (o : Option ℕ) → option_map (λ (r : ℕ). (table r).id) o
+        ≡ option_map (λ (a : NamedAtom). a.id) (option_map (atom_of table) o)
     over None = refl
     over (Some r) = refl
 
 -- a unit of weight leads to its row among the rows of the item
 
-unit_kind : (table : ℕ → Entry) (t : Token) (k : ℕ) → k < token_weight table t → slice_get (live_number table t) k ≡ slice_get (row_numbers_at t) k
+unit_kind : (table : ℕ → Entry) (t : Token) (k : ℕ) → k < token_weight table t → slice_get (live_number table t) k
+    ≡ slice_get (row_numbers_at t) k
 unit_kind table (Open r) k h = absurd (omega arith)
 unit_kind table (Atom r) k h = live (is_empty_list (table r).deletes) h
   where
@@ -151,7 +171,8 @@ unit_kind table (Atom r) k h = live (is_empty_list (table r).deletes) h
 unit_kind table (Close r) k h = absurd (omega arith)
 unit_kind table (Leaf rs) k h = refl
 
-pub live_row_is : (p : Parts) → ((i : Item) → In i p.items → IsToken p i) → (k : ℕ) (s : Share) → Some s ≡ share_at k p.items → (result : Option ℕ)
+pub live_row_is : (p : Parts) → ((i : Item) → In i p.items → IsToken p i) → (k : ℕ) (s : Share) → Some s
+    ≡ share_at k p.items → (result : Option ℕ)
     → ((i : Item) → In i p.items → i.name ≡ s.name → result ≡ slice_get (row_numbers_at (token_of p i)) s.rest)
     → live_id_at (rows_of (table p) (tokens_of p p.items)) k ≡ option_map (λ (r : ℕ). (table p r).id) result
 live_row_is p each k s e result h =
@@ -159,15 +180,20 @@ live_row_is p each k s e result h =
     let weighed = (each w.item w.there).weighed in
     live_id_is (table p) (tokens_of p p.items) k
     ∙ ap (option_map (λ (r : ℕ). (table p r).id))
-    (w.is ∙ unit_kind (table p) (token_of p w.item) s.rest (subst (λ (n : ℕ). s.rest < n) weighed w.within) ∙ sym (h w.item w.there w.name))
+    (w.is ∙ unit_kind (table p) (token_of p w.item) s.rest (subst (λ (n : ℕ). s.rest < n) weighed w.within)
+    ∙ sym (h w.item w.there w.name))
 
-pub no_live_row : (p : Parts) → ((i : Item) → In i p.items → IsToken p i) → (k : ℕ) → None ≡ share_at k p.items → live_id_at (rows_of (table p) (tokens_of p p.items)) k ≡ None
-no_live_row p each k e = live_id_is (table p) (tokens_of p p.items) k ∙ ap (option_map (λ (r : ℕ). (table p r).id)) (beyond p p.items each k e)
+pub no_live_row : (p : Parts) → ((i : Item) → In i p.items → IsToken p i) → (k : ℕ) → None ≡ share_at k p.items
+    → live_id_at (rows_of (table p) (tokens_of p p.items)) k ≡ None
+no_live_row p each k e = live_id_is (table p) (tokens_of p p.items) k
+    ∙ ap (option_map (λ (r : ℕ). (table p r).id)) (beyond p p.items each k e)
 
-pub share_there : (p : Parts) → ((i : Item) → In i p.items → IsToken p i) → (k : ℕ) (s : Share) → Some s ≡ share_at k p.items → IsItem s.name p.items
+pub share_there : (p : Parts) → ((i : Item) → In i p.items → IsToken p i) → (k : ℕ) (s : Share) → Some s
+    ≡ share_at k p.items → IsItem s.name p.items
 share_there p each k s e =
     let w = shared p p.items each k s e in
     subst (λ (x : ℕ). IsItem x p.items) w.name (In-map (λ (i : Item). i.name) w.item p.items w.there)
 
-pub live_is : (p : Parts) → ((i : Item) → In i p.items → IsToken p i) → weight_of p.items ≡ length (live_rows (rows_of (table p) (tokens_of p p.items)))
+pub live_is : (p : Parts) → ((i : Item) → In i p.items → IsToken p i) → weight_of p.items
+    ≡ length (live_rows (rows_of (table p) (tokens_of p p.items)))
 live_is p each = weight_is p p.items each ∙ sym (live_count (table p) (tokens_of p p.items))

@@ -1,6 +1,8 @@
 -- How a tree keeps its tokens: in a list of items, named by the number of a row and the kind of the token, with the
 -- rows by number and the arrays of leaves.
-use Rattle.std.specs.Prelude.{◌≡◌, ◌≢◌, ◌⊎◌, ◌<◌, ◌≤◌, ◌^◌, ◌+◌, ◌-◌, ◌*◌, ◌/◌, ◌%◌, ◌++◌, ℕ, zero, suc, List, [], ◌∷◌, Bool, true, false, if◌then◌else◌, length, take, drop, get_or, map, Option, Some, None}
+use Rattle.std.specs.Prelude.{◌≡◌, ◌≢◌, ◌⊎◌, ◌<◌, ◌≤◌, ◌^◌, ◌+◌, ◌-◌, ◌*◌, ◌/◌, ◌%◌, ◌++◌, ℕ}
+use Rattle.std.specs.Prelude.{zero, suc, List, [], ◌∷◌, Bool, true, false, if◌then◌else◌, length}
+use Rattle.std.specs.Prelude.{take, drop, get_or, map, Option, Some, None}
 use Rattle.td_base.specs.Lists.{In}
 use Rattle.td_base.specs.Value.{DotValue, AtomIdValue}
 use Rattle.td_doc.specs.Document.{DocRow, is_empty_list}

@@ -1,5 +1,6 @@
 -- Where a row stands among the items.
-use Rattle.std.specs.Prelude.{◌≡◌, ◌+◌, ◌*◌, ◌++◌, ◌==◌, ℕ, List, ◌∷◌, Bool, false, ◌&&◌, nat_le, nat_lt, length, Option, Some, None}
+use Rattle.std.specs.Prelude.{◌≡◌, ◌+◌, ◌*◌, ◌++◌, ◌==◌, ℕ, List, ◌∷◌, Bool, false, ◌&&◌}
+use Rattle.std.specs.Prelude.{nat_le, nat_lt, length, Option, Some, None}
 use Rattle.td_base.specs.declared.bit.Bit.{Bit}
 use Rattle.td_base.specs.declared.bit.Bit.TheVariants.{Left, Right}
 use Rattle.td_base.specs.Lists.{In}

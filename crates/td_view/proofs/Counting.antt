@@ -1,5 +1,6 @@
 -- The publishes by which a writer ends.
-use Rattle.std.proofs.Common.{◌≡◌, ℕ, zero, suc, ◌-◌, ◌<◌, List, [], ◌∷◌, ◌++◌, refl, ap, sym, ◌∙◌, subst, arith, append_assoc}
+use Rattle.std.proofs.Common.{◌≡◌, ℕ, zero, suc, ◌-◌, ◌<◌, List, [], ◌∷◌, ◌++◌, refl}
+use Rattle.std.proofs.Common.{ap, sym, ◌∙◌, subst, arith, append_assoc}
 use Rattle.logbook.specs.Pages.{Book}
 use Rattle.td_view.specs.declared.publish.Publish.{Publish}
 use Rattle.td_view.specs.Publishes.{again, Follows}
@@ -16,7 +17,8 @@ follows_down x p m is more =
     subst (λ (y : Publish). Follows y (again p (m - 1))) (sym is) f
 
 -- what is told of one of them is told, and the others remain
-pub told_more : (items : List ToldValue) (views : Book) (log next : List Publish) (p : Publish) (m : ℕ) (whole : List ToldValue) → 0 < m
+pub told_more : (items : List ToldValue) (views : Book) (log next : List Publish) (p : Publish) (m : ℕ)
+    (whole : List ToldValue) → 0 < m
     → items ++ tolds views log p m ≡ whole → next ≡ log ++ again p m ∷ []
     → (items ++ record { views = views; list = next } ∷ []) ++ tolds views next p (m - 1) ≡ whole
 told_more items views log next p zero whole more e is = absurd (omega (arith, more))

@@ -1,5 +1,6 @@
 -- Lists of publishes that may come, with one more.
-use Rattle.std.proofs.Common.{◌≡◌, ℕ, suc, ◌-◌, List, [], ◌∷◌, ◌++◌, length, drop, refl, sym, subst, arith, length-append}
+use Rattle.std.proofs.Common.{◌≡◌, ℕ, suc, ◌-◌, List, [], ◌∷◌, ◌++◌, length, drop}
+use Rattle.std.proofs.Common.{refl, sym, subst, arith, length-append}
 use Rattle.td_view.specs.declared.publish.Publish.{Publish}
 use Rattle.td_view.specs.Publishes.{Follows, IsLegal, IsLegalAfter, EndsWith}
 
@@ -25,7 +26,8 @@ ends_snoc xs p =
     dropped [] p = refl
     dropped (x ∷ xs) p = dropped xs p
 
-after_snoc : (x : Publish) (xs : List Publish) (p q : Publish) → IsLegalAfter x xs → EndsWith (x ∷ xs) p → Follows p q → IsLegalAfter x (xs ++ q ∷ [])
+after_snoc : (x : Publish) (xs : List Publish) (p q : Publish) → IsLegalAfter x xs → EndsWith (x ∷ xs) p → Follows p q
+    → IsLegalAfter x (xs ++ q ∷ [])
 after_snoc x [] p q l e f = (subst (λ (y : Publish). Follows y q) (sym (ends_one x p e)) f, tt)
 after_snoc x (y ∷ ys) p q l e f = (l.0, after_snoc y ys p q l.1 (ends_tail x y ys p e) f)
 

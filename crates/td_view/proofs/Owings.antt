@@ -8,15 +8,18 @@ use Rattle.td_view.specs.Deeds.{Past, deeds}
 use Rattle.td_view.specs.Values.{WriterValue}
 use Rattle.td_view.specs.Owing.{Owes, StillOwes}
 
-pub what_is_owed : (w : WriterValue) (upto : ℕ) (changes : List Change) → StillOwes w upto changes → (o : Past) → w.owed ≡ Some o
+pub what_is_owed : (w : WriterValue) (upto : ℕ) (changes : List Change) → StillOwes w upto changes → (o : Past)
+    → w.owed ≡ Some o
     → Owes w.publishes o (publish upto (changed_all changes w.shown.atoms) 0) w.pending w.given changes
 unfolding StillOwes
 what_is_owed w upto changes owes = owes
 
 -- the publish is entered, as the next of so many, and so much of it is given
 pub owes_entered : (w : WriterValue) (next : Past) (upto count : ℕ) (changes : List Change) (atoms : List (List ℕ))
-    → w.owed ≡ Some next → next.log ≡ w.publishes ++ publish upto (changed_all changes atoms) 0 ∷ [] → w.shown.atoms ≡ atoms
-    → count ≡ length w.publishes → w.pending ≡ take w.given (deeds changes upto 0 (count + 1) next) → w.given ≤ length changes + 1
+    → w.owed ≡ Some next → next.log ≡ w.publishes ++ publish upto (changed_all changes atoms) 0 ∷ [] → w.shown.atoms
+    ≡ atoms
+    → count ≡ length w.publishes → w.pending ≡ take w.given (deeds changes upto 0 (count + 1) next)
+    → w.given ≤ length changes + 1
     → StillOwes w upto changes
 unfolding StillOwes
 owes_entered w next upto count changes atoms owed log shown counted pending few o is =

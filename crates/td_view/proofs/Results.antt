@@ -2,7 +2,8 @@
 use Rattle.std.proofs.Common.{◌≡◌, Option, Some, Result, Ok, Err, MatchResult, IfOk, subst}
 use Rattle.std.specs.Prelude.{IfSome, IfErr, is_err, true}
 
-pub if_ok : {A B : Type 0} (r : Result A B) (P Q R : Type 0) → (P → R) → MatchResult r (λ _. P) (λ _. Q) → IfOk r (λ _. R)
+pub if_ok : {A B : Type 0} (r : Result A B) (P Q R : Type 0) → (P → R) → MatchResult r (λ _. P) (λ _. Q)
+    → IfOk r (λ _. R)
 if_ok (Ok a) P Q R f v = f v
 if_ok (Err b) P Q R f v = tt
 

@@ -1,5 +1,6 @@
 -- Over lists that may come, upto does not fall.
-use Rattle.std.proofs.Common.{◌≡◌, ℕ, suc, ◌-◌, ◌≤◌, List, [], ◌∷◌, ◌++◌, length, drop, ap, sym, subst, arith, le_refl, le_trans, zero-le}
+use Rattle.std.proofs.Common.{◌≡◌, ℕ, suc, ◌-◌, ◌≤◌, List, [], ◌∷◌, ◌++◌, length, drop, ap}
+use Rattle.std.proofs.Common.{sym, subst, arith, le_refl, le_trans, zero-le}
 use mathlib.Core.List.{IsPrefix}
 use Rattle.td_view.specs.declared.publish.Publish.{Publish}
 use Rattle.td_view.specs.Publishes.{Follows, IsLegal, IsLegalAfter, EndsWith, last_upto}
@@ -25,7 +26,8 @@ rises_by (x ∷ []) more l = upto_first x more l
 rises_by (x ∷ y ∷ xs) more l = rises_by (y ∷ xs) more l.1
 
 pub rises : (xs ys : List Publish) → IsPrefix xs ys → IsLegal ys → last_upto xs ≤ last_upto ys
-rises xs ys p l = subst (λ (zs : List Publish). last_upto xs ≤ last_upto zs) p.1 (rises_by xs p.0 (subst IsLegal (sym p.1) l))
+rises xs ys p l = subst (λ (zs : List Publish). last_upto xs ≤ last_upto zs) p.1
+    (rises_by xs p.0 (subst IsLegal (sym p.1) l))
 
 one_head : (x p : Publish) → x ∷ [] ≡ p ∷ [] → x ≡ p
 one_head x p e = cc

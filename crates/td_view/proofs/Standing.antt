@@ -8,7 +8,8 @@ use Rattle.td_view.specs.Tied.{Stands}
 use Rattle.td_view.proofs.Legal.{legal_snoc}
 
 -- what stands at the end of the history that was entered
-pub stands_next : (x : Shown) (upto last count : ℕ) (atoms : List (List ℕ)) (past : Past) → state_of x ≡ (upto, last, count, atoms, past)
+pub stands_next : (x : Shown) (upto last count : ℕ) (atoms : List (List ℕ)) (past : Past) → state_of x
+    ≡ (upto, last, count, atoms, past)
     → count ≡ length past.log → IsLegal past.log → EndsWith past.log (publish upto atoms last) → Stands x
 stands_next x upto last count atoms past e n l ends =
     let p : x.past ≡ past = ap (λ (s : State). s.4) e in
@@ -20,13 +21,20 @@ stands_next x upto last count atoms past e n l ends =
     }
 
 -- what may follow the text may be added to its history
-pub may_add : (x : Shown) (past : Past) (q : Publish) → x.past ≡ past → Stands x → Follows (publish_of x) q → IsLegal (past.log ++ q ∷ [])
-may_add x past q same s f = subst (λ (p : Past). IsLegal (p.log ++ q ∷ [])) same (legal_snoc x.past.log (publish_of x) q s.legal s.ends f)
+pub may_add : (x : Shown) (past : Past) (q : Publish) → x.past ≡ past → Stands x → Follows (publish_of x) q
+    → IsLegal (past.log ++ q ∷ [])
+may_add x past q same s f = subst (λ (p : Past). IsLegal (p.log ++ q ∷ [])) same
+    (legal_snoc x.past.log (publish_of x) q s.legal s.ends f)
 
 -- after an ordinary publish another may come
 pub follows_plain : (p q : Publish) → p.last ≡ 0 → p.upto ≤ q.upto → Follows p q
 follows_plain p q rested h =
-    record { rises = h; goes_on = λ one. absurd (omega (arith, rested, one)); counts = λ more. absurd (omega (arith, rested, more)) }
+    record {
+      rises = h;
+      goes_on = λ one. absurd (omega (arith, rested, one));
+      counts = λ more. absurd (omega (arith, rested, more));
+    }
 
-pub may_follow : (x : Shown) (past : Past) (q : Publish) → x.past ≡ past → x.last ≡ 0 → Stands x → x.upto ≤ q.upto → IsLegal (past.log ++ q ∷ [])
+pub may_follow : (x : Shown) (past : Past) (q : Publish) → x.past ≡ past → x.last ≡ 0 → Stands x → x.upto ≤ q.upto
+    → IsLegal (past.log ++ q ∷ [])
 may_follow x past q same rested s h = may_add x past q same s (follows_plain (publish_of x) q rested h)

@@ -1,5 +1,6 @@
 -- Messages: what is read is a spelling, in both formats.
-use Rattle.std.proofs.Common.{◌≡◌, ℕ, zero, suc, ◌+◌, ◌-◌, ◌≤◌, Bool, true, false, cond, eqb, List, [], ◌∷◌, ◌++◌, length, get_or, Ok, refl, sym, ap, subst, ◌∙◌, arith}
+use Rattle.std.proofs.Common.{◌≡◌, ℕ, zero, suc, ◌+◌, ◌-◌, ◌≤◌, Bool, true, false, cond, eqb, List, [], ◌∷◌}
+use Rattle.std.proofs.Common.{◌++◌, length, get_or, Ok, refl, sym, ap, subst, ◌∙◌, arith}
 use Rattle.std.specs.Prelude.{IfSome}
 use Rattle.std.proofs.lemmas.Bool.{eqb-true, eqb-false}
 use Rattle.std.proofs.lemmas.List.Elements.{All-from_recursion, recursion_from_All}
@@ -19,8 +20,10 @@ use Rattle.td_op.specs.Op.{OpValue, body_site}
 use Rattle.td_wire.specs.declared.format.Format.{Format}
 use Rattle.td_wire.specs.declared.format.Format.TheVariants.{One, Two}
 use Rattle.td_wire.specs.Format.{IsFirst, IsOldSlot, IsOldBody, IsOld, CanSay}
-use Rattle.td_wire.specs.Spelling.{dot_bytes as dot, kind, op_bytes as op, yes_byte as yes, vote_bytes as vote, spelling, SpellsIn}
-use Rattle.td_wire.specs.Reading.{◌>>=◌, byte_at, dot_at, max_site, op_at, vote_at, format_of, message_of_kind, message_at}
+use Rattle.td_wire.specs.Spelling.{dot_bytes as dot, kind, op_bytes as op, yes_byte as yes}
+use Rattle.td_wire.specs.Spelling.{vote_bytes as vote, spelling, SpellsIn}
+use Rattle.td_wire.specs.Reading.{◌>>=◌, byte_at, dot_at, max_site, op_at, vote_at}
+use Rattle.td_wire.specs.Reading.{format_of, message_of_kind, message_at}
 use Rattle.td_wire.proofs.Exact.{Reads, Seq, Field, same, renamed, made, made_in, chain, then}
 use Rattle.td_wire.proofs.Bytes.{InRange, one_byte, Byte, byte_reads}
 use Rattle.td_wire.proofs.Fields.{DotIn, dot_reads, OffsetIn, IdentityIn, SlotIn}
@@ -55,12 +58,17 @@ vote_reads f = renamed _ (VoteIn f) _ vote (vote_at f)
     (λ v h. record { voter = h.0; proposal = h.1.0 })
     (λ v h. (h.voter, (h.proposal, (yes_in v.yes, ap (λ (b : Bool). with_yes v b) (yes_back v.yes)))))
     (λ v h. refl)
-    (chain (InRange 1 (max_site f)) one_byte (λ voter v. DotIn (max_site f) v.proposal × (InRange 0 1 (yes v.yes) × (with_answer voter v.proposal (yes v.yes) ≡ v)))
+    (chain (InRange 1 (max_site f)) one_byte (λ voter v. DotIn (max_site f) v.proposal
+    × (InRange 0 1 (yes v.yes) × (with_answer voter v.proposal (yes v.yes) ≡ v)))
     (λ voter v. dot v.proposal ++ yes v.yes ∷ []) (λ v. v.voter) (byte_at 1 (max_site f)) _
     (λ voter v z h. ap (λ (w : VoteValue). w.voter) (sym h.1.1)) (byte_reads 1 (max_site f) (some_sites f)) (λ voter z.
-    chain (DotIn (max_site f)) dot (λ proposal v. InRange 0 1 (yes v.yes) × (with_answer voter proposal (yes v.yes) ≡ v)) (λ proposal v. yes v.yes ∷ []) (λ v. v.proposal) (dot_at (max_site f)) _
-    (λ proposal v z h. ap (λ (w : VoteValue). w.proposal) (sym h.1)) (dot_reads (max_site f) (some_sites f)) (λ proposal z.
-    made_in (InRange 0 1) one_byte (with_answer voter proposal) (λ v. yes v.yes) (byte_at 0 1) (λ n r. said_back n r.most) (byte_reads 0 1 (omega arith))))) where
+    chain (DotIn (max_site f)) dot (λ proposal v. InRange 0 1 (yes v.yes)
+    × (with_answer voter proposal (yes v.yes) ≡ v)) (λ proposal v. yes v.yes ∷ []) (λ v. v.proposal)
+    (dot_at (max_site f)) _
+    (λ proposal v z h. ap (λ (w : VoteValue). w.proposal) (sym h.1)) (dot_reads (max_site f) (some_sites f))
+    (λ proposal z.
+    made_in (InRange 0 1) one_byte (with_answer voter proposal) (λ v. yes v.yes) (byte_at 0 1)
+    (λ n r. said_back n r.most) (byte_reads 0 1 (omega arith))))) where
       with_yes : VoteValue → Bool → VoteValue
       with_yes v b = record { proposal = v.proposal; voter = v.voter; yes = b }
 
@@ -105,15 +113,19 @@ from_op f k (Op o) d h = (h, refl)
 from_op f k (Vote v) d h = absurd (d h.0)
 
 by_kind : (f : Format) (k : ℕ) → InRange 1 6 k → (t : Bool) → eqb k 6 ≡ t
-    → Reads (Field (MessageOf f k) (behind_kind f)) (λ xs. cond t (vote_at f xs >>= λ v. Ok (Vote v.0, v.1)) (op_at f k xs >>= λ o. Ok (Op o.0, o.1)))
+    → Reads (Field (MessageOf f k) (behind_kind f))
+    (λ xs. cond t (vote_at f xs >>= λ v. Ok (Vote v.0, v.1)) (op_at f k xs >>= λ o. Ok (Op o.0, o.1)))
 by_kind f k r true e = let six = eqb-true k 6 e in
-    renamed (λ m. VoteIn f (vote_of m) × (Vote (vote_of m) ≡ m)) (MessageOf f k) (λ m. vote (vote_of m)) (behind_kind f) _
+    renamed (λ m. VoteIn f (vote_of m) × (Vote (vote_of m) ≡ m)) (MessageOf f k) (λ m. vote (vote_of m))
+    (behind_kind f) _
     (λ m h. to_vote f k m six h) (λ m h. from_vote f k m six h) (λ m h. ap (behind_kind f) (from_vote f k m six h).1)
     (made (VoteIn f) vote Vote vote_of (vote_at f) (λ v. refl) (vote_reads f))
 by_kind f k r false e = let other = eqb-false k 6 e in
     renamed (λ m. OpOf f k (op_of m) × (Op (op_of m) ≡ m)) (MessageOf f k) (λ m. op f (op_of m)) (behind_kind f) _
-    (λ m h. subst (MessageOf f k) h.1 h.0) (λ m h. from_op f k m other h) (λ m h. ap (behind_kind f) (from_op f k m other h).1)
-    (made (OpOf f k) (op f) Op op_of (op_at f k) (λ o. refl) (op_reads f k (record { least = r.least; most = omega (arith, r.most, other) })))
+    (λ m h. subst (MessageOf f k) h.1 h.0) (λ m h. from_op f k m other h)
+    (λ m h. ap (behind_kind f) (from_op f k m other h).1)
+    (made (OpOf f k) (op f) Op op_of (op_at f k) (λ o. refl)
+    (op_reads f k (record { least = r.least; most = omega (arith, r.most, other) })))
 
 abbrev Whole : Format → Message → Type 0
 Whole f m = InRange 1 6 (kind_of m) × MessageOf f (kind_of m) m
@@ -125,8 +137,10 @@ of_kind : (f : Format) (k : ℕ) (m : Message) → MessageOf f k m → kind_of m
 of_kind f k (Op o) h = h.what.0
 of_kind f k (Vote v) h = sym h.0
 
-whole_reads : (f : Format) → Reads (Field (Whole f) (behind_mark f)) (λ xs. byte_at 1 6 xs >>= λ k. message_of_kind f k.0 k.1)
-whole_reads f = chain (InRange 1 6) one_byte (MessageOf f) (λ k. behind_kind f) kind_of (byte_at 1 6) (message_of_kind f)
+whole_reads : (f : Format) → Reads (Field (Whole f) (behind_mark f))
+    (λ xs. byte_at 1 6 xs >>= λ k. message_of_kind f k.0 k.1)
+whole_reads f = chain (InRange 1 6) one_byte (MessageOf f) (λ k. behind_kind f) kind_of (byte_at 1 6)
+    (message_of_kind f)
     (λ k m z h. of_kind f k m h) (byte_reads 1 6 (omega arith)) (λ k z. by_kind f k z (eqb k 6) refl)
 
 -- ---- the ranges of the fields are those of the values
@@ -136,10 +150,17 @@ few_sites One = omega arith
 few_sites Two = omega arith
 
 to_dot : (n : ℕ) (d : DotValue) → n ≤ 64 → DotIn n d → IsDot d
-to_dot n d h x = record { site = record { least = x.site.least; greatest = omega (arith, x.site.most, h) }; least = x.seq.least; greatest = x.seq.most }
+to_dot n d h x = record {
+  site = record { least = x.site.least; greatest = omega (arith, x.site.most, h) };
+  least = x.seq.least;
+  greatest = x.seq.most;
+}
 
 from_dot : (n : ℕ) (d : DotValue) → d.site ≤ n → IsDot d → DotIn n d
-from_dot n d h x = record { site = record { least = x.site.least; most = h }; seq = record { least = x.least; most = x.greatest } }
+from_dot n d h x = record {
+  site = record { least = x.site.least; most = h };
+  seq = record { least = x.least; most = x.greatest };
+}
 
 offset_short : (f : Format) (offset : ℕ) → OffsetIn f offset → offset ≤ 63
 offset_short One offset h = omega (arith, h)
@@ -180,12 +201,21 @@ to_op f k o x =
     let few = few_sites f in
     let short : length o.deps ≤ 64 = omega (arith, x.size.most, few) in
     let some = x.own.site.least in
-    let last : get_or o.deps (o.dot.site - 1) 0 ≡ o.dot.seq - 1 = x.before.before (o.dot.site - 1) (omega (arith, x.size.least, some)) (omega (arith, some)) in
+    let last : get_or o.deps (o.dot.site - 1) 0 ≡ o.dot.seq - 1 =
+    x.before.before (o.dot.site - 1) (omega (arith, x.size.least, some)) (omega (arith, some)) in
     record {
       dot = to_dot (max_site f) o.dot few x.own;
-      deps = record { some = omega (arith, x.size.least, some); short = short; small = All-from_recursion (λ d. d ≤ 65535) o.deps x.before.small };
+      deps = record {
+        some = omega (arith, x.size.least, some);
+        short = short;
+        small = All-from_recursion (λ d. d ≤ 65535) o.deps x.before.small;
+      };
       body = to_body f (length o.deps) o.body short x.what.1;
-      op = record { own = x.size.least; named = body_named f (length o.deps) o.body x.what.1; next = omega (arith, last, x.own.seq.least) };
+      op = record {
+        own = x.size.least;
+        named = body_named f (length o.deps) o.body x.what.1;
+        next = omega (arith, last, x.own.seq.least);
+      };
     }
 
 to_old_slot : (n : ℕ) (s : Slot) → SlotIn One n s → IsOldSlot s
@@ -221,10 +251,12 @@ from_offset : (f : Format) (x : AtomIdValue) → IsAtomId x → (f ≡ One → I
 from_offset One x i old = old refl
 from_offset Two x i old = i.greatest
 
-from_identity : (f : Format) (n : ℕ) (x : AtomIdValue) → x.dot.site ≤ n → IsAtomId x → (f ≡ One → IsFirst x) → IdentityIn f n x
+from_identity : (f : Format) (n : ℕ) (x : AtomIdValue) → x.dot.site ≤ n → IsAtomId x → (f ≡ One → IsFirst x)
+    → IdentityIn f n x
 from_identity f n x h i old = record { dot = from_dot n x.dot h i.dot; offset = from_offset f x i old }
 
-from_slot : (f : Format) (n : ℕ) (s : Slot) → IfSome (slot_site s) (λ site. site ≤ n) → IsSlot s → (f ≡ One → IsOldSlot s) → SlotIn f n s
+from_slot : (f : Format) (n : ℕ) (s : Slot) → IfSome (slot_site s) (λ site. site ≤ n) → IsSlot s
+    → (f ≡ One → IsOldSlot s) → SlotIn f n s
 from_slot f n Root h i old = tt
 from_slot f n (At atom b) h i old = from_identity f n atom h i old
 
@@ -232,7 +264,8 @@ from_run : (f : Format) (atoms : List (List ℕ)) → IsRun atoms → (f ≡ One
 from_run One atoms r old = (r, old refl)
 from_run Two atoms r old = r
 
-from_body : (f : Format) (n : ℕ) (b : Body) → IfSome (body_site b) (λ site. site ≤ n) → IsBody b → (f ≡ One → IsOldBody b) → BodyIn f n b
+from_body : (f : Format) (n : ℕ) (b : Body) → IfSome (body_site b) (λ site. site ≤ n) → IsBody b
+    → (f ≡ One → IsOldBody b) → BodyIn f n b
 from_body f n (Insert s atoms) h i old = (from_slot f n s h i.0 (λ e. (old e).0), from_run f atoms i.1 (λ e. (old e).1))
 from_body f n (Delete target) h i old = from_identity f n target h i old
 from_body f n (Propose s) h i old = from_slot f n s h i old
@@ -258,7 +291,8 @@ from_op_message f o m old =
       };
       what = (refl, from_body f n o.body m.op.named m.body (λ e. (old e).1));
     } where
-      before : (i : ℕ) → o.dot.site ≡ 1 + i → vector_get o.deps o.dot.site + 1 ≡ o.dot.seq → get_or o.deps i 0 ≡ o.dot.seq - 1
+      before : (i : ℕ) → o.dot.site ≡ 1 + i → vector_get o.deps o.dot.site + 1 ≡ o.dot.seq → get_or o.deps i 0
+          ≡ o.dot.seq - 1
       before i e next =
           let place : o.dot.site - 1 ≡ i = omega (arith, e) in
           let here : get_or o.deps (o.dot.site - 1) 0 ≡ get_or o.deps i 0 = ap (λ (j : ℕ). get_or o.deps j 0) place in
@@ -273,7 +307,8 @@ from_message f (Vote v) h old = (
     refl,
     record {
       voter = record { least = h.voter.least; most = size_in f v.voter h.voter.greatest (λ e. (old e).0) };
-      proposal = from_dot (max_site f) v.proposal (size_in f v.proposal.site h.proposal.site.greatest (λ e. (old e).1)) h.proposal;
+      proposal = from_dot (max_site f) v.proposal (size_in f v.proposal.site h.proposal.site.greatest
+          (λ e. (old e).1)) h.proposal;
     },
   ),
 )
@@ -321,8 +356,10 @@ to_spells m xs q =
     let t : q.first ≡ 84 = omega (arith, q.head.can.least, q.head.can.most) in
     let d : ℕ = q.tail.first in
     let f : Format = format_of d in
-    let bytes : xs ≡ q.first ∷ d ∷ behind_mark f m = q.parts ∙ rw (q.head.is, q.tail.parts, q.tail.head.is, q.tail.tail.is) refl in
-    let first : xs ≡ 84 ∷ digit_of f ∷ behind_mark f m = bytes ∙ ap (λ (b : ℕ). b ∷ d ∷ behind_mark f m) t ∙ ap (λ (b : ℕ). 84 ∷ b ∷ behind_mark f m) (sym (digit_is d q.tail.head.can)) in
+    let bytes : xs ≡ q.first ∷ d ∷ behind_mark f m = q.parts
+    ∙ rw (q.head.is, q.tail.parts, q.tail.head.is, q.tail.tail.is) refl in
+    let first : xs ≡ 84 ∷ digit_of f ∷ behind_mark f m = bytes ∙ ap (λ (b : ℕ). b ∷ d ∷ behind_mark f m) t
+    ∙ ap (λ (b : ℕ). 84 ∷ b ∷ behind_mark f m) (sym (digit_is d q.tail.head.can)) in
     (f, record { can = can_say f m q.tail.tail.can.1; bytes_are = first ∙ spelled_by_kind f m })
 
 from_spells : (m : Message) (xs : List ℕ) → SpellsIn m xs → Marked m xs
@@ -340,12 +377,15 @@ from_spells m xs s =
         back = behind_mark f m;
         parts = refl;
         head = record { can = digit_in f; is = refl };
-        tail = subst (λ (g : Format). Field (Whole g) (behind_mark g) m (behind_mark f m)) (sym (format_back f)) (record { can = whole_from f m s.1.can; is = refl });
+        tail = subst (λ (g : Format). Field (Whole g) (behind_mark g) m (behind_mark f m)) (sym (format_back f))
+            (record { can = whole_from f m s.1.can; is = refl });
       };
     }
 
 pub message_reads : Reads SpellsIn message_at
 unfolding message_at
 message_reads = same Marked SpellsIn message_at to_spells from_spells
-    (then (Byte 84 84) (λ _. Seq (Byte 49 50) (λ d. Field (Whole (format_of d)) (behind_mark (format_of d)))) (byte_at 84 84) _ (byte_reads 84 84 (omega arith)) (λ _ _ _.
-    then (Byte 49 50) (λ d. Field (Whole (format_of d)) (behind_mark (format_of d))) (byte_at 49 50) _ (byte_reads 49 50 (omega arith)) (λ d _ _. whole_reads (format_of d))))
+    (then (Byte 84 84) (λ _. Seq (Byte 49 50) (λ d. Field (Whole (format_of d)) (behind_mark (format_of d))))
+    (byte_at 84 84) _ (byte_reads 84 84 (omega arith)) (λ _ _ _.
+    then (Byte 49 50) (λ d. Field (Whole (format_of d)) (behind_mark (format_of d))) (byte_at 49 50) _
+    (byte_reads 49 50 (omega arith)) (λ d _ _. whole_reads (format_of d))))

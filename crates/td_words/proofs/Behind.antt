@@ -1,5 +1,6 @@
 -- What is typed right behind an atom of an insertion hangs on the insertion, where its middle atom was not renamed.
-use Rattle.std.proofs.Common.{◌≡◌, ◌++◌, List, ◌∷◌, Bool, true, false, cond, length, Option, Some, None, refl, sym, ap, ◌∙◌, subst, inl, true≢false, append_assoc}
+use Rattle.std.proofs.Common.{◌≡◌, ◌++◌, List, ◌∷◌, Bool, true, false, cond, length, Option, Some, None}
+use Rattle.std.proofs.Common.{refl, sym, ap, ◌∙◌, subst, inl, true≢false, append_assoc}
 use Rattle.std.specs.Option.{is_some}
 use Rattle.td_base.specs.declared.bit.Bit.TheVariants.{Right}
 use Rattle.td_base.specs.Value.{DotValue, AtomIdValue}

@@ -1,5 +1,6 @@
 -- The row that follows a row hangs on the right of it, where anything does.
-use Rattle.std.proofs.Common.{◌≡◌, ◌≢◌, List, [], ◌∷◌, ◌++◌, Bool, true, false, cond, filter, Option, Some, refl, sym, ap, ◌∙◌, subst, inl, inr, ⊎_elim, true≢false}
+use Rattle.std.proofs.Common.{◌≡◌, ◌≢◌, List, [], ◌∷◌, ◌++◌, Bool, true, false, cond, filter, Option, Some}
+use Rattle.std.proofs.Common.{refl, sym, ap, ◌∙◌, subst, inl, inr, ⊎_elim, true≢false}
 use Rattle.std.specs.Option.{option_map}
 use Rattle.td_base.specs.declared.bit.Bit.TheVariants.{Right}
 use Rattle.td_base.specs.Lists.{In}

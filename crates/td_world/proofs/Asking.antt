@@ -1,5 +1,7 @@
--- A request makes nobody ready: what waits at a site of a world names no operation of that site that it has still to make.
-use Rattle.std.proofs.Common.{◌≡◌, ◌≢◌, ◌<◌, ◌≤◌, ◌-◌, ℕ, suc, List, Bool, true, false, not, nat_eq, nat_le, length, Option, Some, None, refl, sym, ap, ◌∙◌, subst, true≢false, arith}
+-- A request makes nobody ready: what waits at a site of a world names no operation of that site that it has still to
+-- make.
+use Rattle.std.proofs.Common.{◌≡◌, ◌≢◌, ◌<◌, ◌≤◌, ◌-◌, ℕ, suc, List, Bool, true, false, not, nat_eq, nat_le, length}
+use Rattle.std.proofs.Common.{Option, Some, None, refl, sym, ap, ◌∙◌, subst, true≢false, arith}
 use Rattle.std.proofs.lemmas.Bool.{eqb-true, eqb-false, leb-true, le-leb, and_parts, and_from}
 use Rattle.std.specs.Prelude.{IsTrue}
 use Rattle.td_base.specs.Value.{DotValue}
@@ -16,7 +18,8 @@ use Rattle.td_machine.specs.Decision.{outcome, new_ballot}
 use Rattle.td_machine.specs.Machine.{Machine, made, undecided, next_dot}
 use Rattle.td_machine.specs.Making.{make, decide}
 use Rattle.td_machine.specs.Ready.{is_had, is_ready as is_ready_op}
-use Rattle.td_machine.specs.Request.{Aim, Refuse, Do, GiveUp, aim, aim_step, attempt_step, is_past_limit, perform, request_step}
+use Rattle.td_machine.specs.Request.{Aim, Refuse, Do, GiveUp, aim, aim_step, attempt_step}
+use Rattle.td_machine.specs.Request.{is_past_limit, perform, request_step}
 use Rattle.td_machine.specs.Step.{step}
 use Rattle.td_machine.specs.Taking.{Stepped, stepped}
 use Rattle.td_op.specs.declared.reply.Reply.TheVariants.{Made, Limit}
@@ -149,19 +152,24 @@ module _ (w : WorldValue) (i : IsWorld w) (nobody : NobodyReady w) (site : ℕ) 
   late : (x : OpValue) → In x (machine_of w site).waiting
       → is_ready_op (step (machine_of w site) (Local request)).machine.have x ≡ false
   late x j =
-      let o : IsOffered (IsSent (family_of w) site) (machine (family_of w) site).site (machine (family_of w) site).size x =
+      let o : IsOffered (IsSent (family_of w) site) (machine (family_of w) site).site
+      (machine (family_of w) site).size x =
       offered (machine (family_of w) site) (built_end (family_of w) i.consistent site some low) x
       (subst (λ (n : Machine). In x n.waiting) same j) in
       let named : vector_get x.deps site ≤ made (machine (family_of w) site) =
-      own_named (family_of w) i.consistent x.dot.site o.valid.dot.site.least (sender_low x o) site some low (AnOp x) o.came.sent tt in
-      let known : vector_get x.deps (machine_of w site).site ≤ vector_get (machine_of w site).have (machine_of w site).site =
-      subst (λ (k : ℕ). vector_get x.deps k ≤ vector_get (machine_of w site).have (machine_of w site).site) (sym at_site)
+      own_named (family_of w) i.consistent x.dot.site o.valid.dot.site.least (sender_low x o) site some low (AnOp x)
+      o.came.sent tt in
+      let known : vector_get x.deps (machine_of w site).site ≤ vector_get (machine_of w site).have
+      (machine_of w site).site =
+      subst (λ (k : ℕ). vector_get x.deps k ≤ vector_get (machine_of w site).have (machine_of w site).site)
+      (sym at_site)
       (subst (λ (n : Machine). vector_get x.deps site ≤ made n) (sym same) named) in
       let sized : length x.deps ≡ length (machine_of w site).have =
       o.sized ∙ sym (ap (λ (n : Machine). length n.have) same
       ∙ length_have (machine (family_of w) site) (built_end (family_of w) i.consistent site some low)) in
       still_late (machine_of w site) (step (machine_of w site) (Local request)).machine
-      (request_change request (machine_of w site) (subst (λ (k : ℕ). 0 < k) (sym at_site) some)) x o.valid.dot.site.least
+      (request_change request (machine_of w site) (subst (λ (k : ℕ). 0 < k) (sym at_site) some)) x
+      o.valid.dot.site.least
       (λ (e : x.dot.site ≡ (machine_of w site).site). o.other (e ∙ ap (λ (n : Machine). n.site) same))
       known (omega (arith, sized)) (subst (λ (k : ℕ). 0 < k) (sym at_site) some)
       (none_ready (machine_of w site).have (machine_of w site).waiting

@@ -1,5 +1,7 @@
 -- The ballots of a machine: one for each own proposal, with the own Yes; and an open one has fewer than all votes.
-use Rattle.std.proofs.Common.{◌≡◌, ◌≢◌, ◌⊎◌, ◌<◌, ◌≤◌, ◌+◌, ℕ, zero, suc, List, [], ◌∷◌, Bool, true, false, not, if◌then◌else◌, nat_eq, length, filter, Option, Some, None, refl, sym, ap, ◌∙◌, subst, inl, inr, ⊎_elim, true≢false, arith}
+use Rattle.std.proofs.Common.{◌≡◌, ◌≢◌, ◌⊎◌, ◌<◌, ◌≤◌, ◌+◌, ℕ, zero, suc, List, [], ◌∷◌, Bool, true, false}
+use Rattle.std.proofs.Common.{not, if◌then◌else◌, nat_eq, length, filter, Option, Some, None, refl, sym, ap}
+use Rattle.std.proofs.Common.{◌∙◌, subst, inl, inr, ⊎_elim, true≢false, arith}
 use Rattle.std.proofs.lemmas.Bool.{eqb-true, eqb-false, leb-true, or_parts}
 use Rattle.std.specs.Prelude.{IsTrue}
 use Rattle.std.specs.List.{find, list_any}
@@ -28,7 +30,8 @@ use Rattle.td_machine.specs.Request.{perform}
 use Rattle.td_machine.specs.Step.{step}
 use Rattle.td_machine.specs.History.{IsReached}
 use Rattle.td_machine.proofs.Ballots.{find_ballot, closed_in}
-use Rattle.td_machine.proofs.Parts.{IsBuilt, Part, Makes, Proposes, Counts, Takes, Agrees, Declines, Delays, Forgets, proposed_here, by_parts}
+use Rattle.td_machine.proofs.Parts.{IsBuilt, Part, Makes, Proposes, Counts, Takes, Agrees}
+use Rattle.td_machine.proofs.Parts.{Declines, Delays, Forgets, proposed_here, by_parts}
 use Rattle.td_machine.proofs.Turns.{placed}
 use Rattle.td_machine.proofs.OwnProposals.{polls}
 use Rattle.td_machine.proofs.StepKinds.{by_kinds}
@@ -45,7 +48,8 @@ as_many (suc n) xs h =
     filter_fewer others (suc n) xs (h (suc n) (omega arith) (omega arith)) (not_itself (nat_eq (suc n) (suc n)) refl) in
     let rest : n ≤ length (filter others xs) =
     as_many n (filter others xs)
-    (λ k some within. filter_In others k xs (h k some (omega (arith, within))) (other k within (nat_eq k (suc n)) refl)) in
+    (λ k some within. filter_In others k xs (h k some (omega (arith, within)))
+    (other k within (nat_eq k (suc n)) refl)) in
     omega (arith, fewer, rest)
   where
     not_itself : (b : Bool) → nat_eq (suc n) (suc n) ≡ b → not b ≡ false
@@ -123,7 +127,8 @@ module _ {Came : Message → Type 0} {site size : ℕ} where
           → n.ballots ≡ revise p change m.ballots → AreBallots m → AreBallots n
       revised p change mild m n at is s =
           record {
-            apart = subst (λ (l : List Ballot). Successive Differ l) (sym is) (revised_apart p change mild m.ballots s.apart);
+            apart = subst (λ (l : List Ballot). Successive Differ l) (sym is)
+                (revised_apart p change mild m.ballots s.apart);
             own = λ b i.
                 subst (λ (k : ℕ). In k b.yes) (sym at)
                 (revised_own p change mild m.site m.ballots s.own b (subst (λ (l : List Ballot). In b l) is i));
@@ -160,7 +165,8 @@ module _ {Came : Message → Type 0} {site size : ℕ} where
                 ⊎_elim (λ (e : c ≡ new_ballot (next_dot m)). subst (λ (z : Ballot). In m.site z.yes) (sym e) (inl refl))
                 (λ (j : In c m.ballots). s.own c j) i;
           }
-      keeps m n b (Counts v k) s = revised v.proposal (counted v.voter v.yes) (counted_mild v.voter v.yes) m n refl refl s
+      keeps m n b (Counts v k) s = revised v.proposal (counted v.voter v.yes) (counted_mild v.voter v.yes) m n refl
+          refl s
       keeps m n b (Takes y e fit) s = after y.body m n refl refl s
       keeps m n b (Agrees y slot e fit says) s = after y.body m n refl refl s
       keeps m n b (Declines y slot e fit says) s = after y.body m n refl refl s
@@ -236,7 +242,8 @@ few_decided p (Some commit) m ballots voter says is apart b found opened less h 
     at false = closed false
 
 -- a proposal that is made
-few_proposed : (m : Machine) (p : DotValue) (ballots : List Ballot) (o : Option Bool) → m.ballots ≡ new_ballot p ∷ ballots
+few_proposed : (m : Machine) (p : DotValue) (ballots : List Ballot) (o : Option Bool) → m.ballots
+    ≡ new_ballot p ∷ ballots
     → (o ≡ None → 1 < m.size) → Few m.size ballots → Few m.size (decide p o m).ballots
 few_proposed m p ballots None is more h = λ b i o.
     ⊎_elim (λ (e : b ≡ new_ballot p). subst (λ (z : Ballot). length z.yes < m.size) (sym e) (more refl))
@@ -255,7 +262,8 @@ few_proposed m p ballots (Some commit) is more h = at commit
     at false = closed false
 
 open_uncounted : (voter : ℕ) (b : Ballot) → is_counted voter b ≡ false → is_open b ≡ true
-open_uncounted voter b e = at b.decision (or_parts (is_some b.decision) (list_any (λ (site : ℕ). nat_eq voter site) b.yes) e).0
+open_uncounted voter b e = at b.decision (or_parts (is_some b.decision)
+    (list_any (λ (site : ℕ). nat_eq voter site) b.yes) e).0
   where
     at : (o : Option Bool) → is_some o ≡ false → is_none o ≡ true
     at None f = refl
@@ -295,9 +303,11 @@ module _ (m : Machine) (r : IsReached m) (h : Few m.size m.ballots) where
     where
       at : (says : Bool) → Few m.size (answer x.dot slot says (done x n)).ballots
       at true =
-          subst (λ (l : List Ballot). Few m.size (ballots_after x.body l)) (sym same) (few_after m.size x.body m.ballots h)
+          subst (λ (l : List Ballot). Few m.size (ballots_after x.body l)) (sym same)
+          (few_after m.size x.body m.ballots h)
       at false =
-          subst (λ (l : List Ballot). Few m.size (ballots_after x.body l)) (sym same) (few_after m.size x.body m.ballots h)
+          subst (λ (l : List Ballot). Few m.size (ballots_after x.body l)) (sym same)
+          (few_after m.size x.body m.ballots h)
 
   few_voted : (v : Vote) (b : Ballot) → find (is_on v.proposal) m.ballots ≡ Some b → is_counted v.voter b ≡ false
       → Few m.size
@@ -357,7 +367,8 @@ few_yes =
     keeps m input r h = by_kinds m (λ (s : Stepped). Few s.machine.size s.machine.ballots) input
         (record {
           stays = λ reply. h;
-          makes = λ request a e is free room. sized (perform a.body m) (same_perform a.body m) (few_performed m r h a.body);
+          makes = λ request a e is free room. sized (perform a.body m) (same_perform a.body m)
+              (few_performed m r h a.body);
           cancels = λ request p e is. few_after m.size (Abort p) m.ballots h;
           delays = λ x e foreign late. h;
           takes = λ x e foreign ready fit.

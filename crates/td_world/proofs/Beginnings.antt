@@ -1,5 +1,7 @@
 -- How a world begins.
-use Rattle.std.proofs.Common.{◌≡◌, ◌<◌, ◌≤◌, ◌+◌, ◌-◌, ◌++◌, ℕ, zero, suc, List, [], ◌∷◌, Bool, true, false, nat_eq, length, map, filter, replicate, take, Some, refl, sym, ap, ◌∙◌, subst, ⊎_elim, append-nil, append_assoc, arith}
+use Rattle.std.proofs.Common.{◌≡◌, ◌<◌, ◌≤◌, ◌+◌, ◌-◌, ◌++◌, ℕ, zero, suc, List, [], ◌∷◌, Bool, true}
+use Rattle.std.proofs.Common.{false, nat_eq, length, map, filter, replicate, take, Some, refl, sym, ap}
+use Rattle.std.proofs.Common.{◌∙◌, subst, ⊎_elim, append-nil, append_assoc, arith}
 use Rattle.std.proofs.lemmas.Bool.{eqb-true, eqb-false, eq-eqb}
 use Rattle.std.proofs.lemmas.List.{length-replicate}
 use Rattle.std.specs.List.{filter_map, slice_get}
@@ -18,7 +20,8 @@ use Rattle.td_machine.proofs.Growing.{consistent_start}
 use Rattle.td_replica.specs.Replica.{ReplicaValue, IsReplica, new_replica}
 use Rattle.td_replica.proofs.Legal.{built}
 use Rattle.td_world.specs.declared.post.Post.{Post}
-use Rattle.td_world.specs.World.{WorldValue, IsWorld, AreSites, replica, replica_from, machine_of, family_of, new_replicas, new_world, all_sent, world_of, is_sent_by}
+use Rattle.td_world.specs.World.{WorldValue, IsWorld, AreSites, replica, replica_from, machine_of, family_of}
+use Rattle.td_world.specs.World.{new_replicas, new_world, all_sent, world_of, is_sent_by}
 use Rattle.td_world.specs.Parts.{posted, world_value, new_posts, ArePassed, IsWorldParts}
 use Rattle.td_world.specs.Calls.{is_ready}
 use Rattle.td_world.specs.Promises.{NobodyReady}
@@ -48,7 +51,8 @@ new_is_world n some few =
     record {
       consistent = subst IsConsistent (sym (new_histories n n 1)) (consistent_start n some few);
       machines = λ site up within. machines site up (omega (arith, within, long));
-      sent = λ site up within. sym (ap (λ (r : ReplicaValue). r.machine.sent) (here site up (omega (arith, within, long))));
+      sent = λ site up within. sym (ap (λ (r : ReplicaValue). r.machine.sent)
+          (here site up (omega (arith, within, long))));
       senders = λ message i. absurd i;
     }
   where
@@ -63,7 +67,8 @@ new_is_world n some few =
     machines : (site : ℕ) → 0 < site → site ≤ n → machine_of (new_world n) site ≡ machine (family_of (new_world n)) site
     machines site up within =
         ap (λ (r : ReplicaValue). r.machine) (here site up within)
-        ∙ sym (ap (λ (k : ℕ). after (start site k) (history (family_of (new_world n)) site)) (size_family (new_world n) ∙ long)
+        ∙ sym (ap (λ (k : ℕ). after (start site k) (history (family_of (new_world n)) site))
+        (size_family (new_world n) ∙ long)
         ∙ ap (λ (h : History). after (start site n) h)
         (history_from (new_replicas n n 1) (site - 1) ∙ ap (λ (r : ReplicaValue). r.entries) (here site up within)))
 
@@ -73,7 +78,8 @@ new_parts n some few =
       world = new_is_world n some few;
       standing = tt;
       sites = length-replicate n 0 ∙ sym (new_length n n 1);
-      known = λ place count e. none_passed (place + 1) count (world_value (new_replicas n n 1) []) (zero_at n place count e);
+      known = λ place count e. none_passed (place + 1) count (world_value (new_replicas n n 1) [])
+          (zero_at n place count e);
     }
 
 pub new_more : (n k site : ℕ) → new_replicas n (k + 1) site ≡ new_replicas n k site ++ new_replica (site + k) n ∷ []
@@ -111,7 +117,8 @@ own_sent site s (r ∷ replicas) own less =
   where
     off : (message : Message) → sender message ≡ site → (b : Bool) → nat_eq (sender message) s ≡ b
         → nat_eq (sender message) s ≡ false
-    off message e true f = let same : sender message ≡ s = eqb-true (sender message) s f in absurd (omega (arith, e, same, less))
+    off message e true f = let same : sender message ≡ s = eqb-true (sender message) s f in
+        absurd (omega (arith, e, same, less))
     off message e false f = f
 
     none : filter (is_sent_by s) r.machine.sent ≡ []
@@ -130,7 +137,8 @@ sent_there site zero (r ∷ replicas) own less =
     all : filter (is_sent_by (site + 0)) r.machine.sent ≡ r.machine.sent
     all =
         filter_all (is_sent_by (site + 0)) r.machine.sent
-        (λ message i. eq-eqb (sender message) (site + 0) (let e : sender message ≡ site = own.0 message i in omega (arith, e)))
+        (λ message i. eq-eqb (sender message) (site + 0)
+        (let e : sender message ≡ site = own.0 message i in omega (arith, e)))
 
     none : filter (is_sent_by (site + 0)) (all_sent replicas) ≡ []
     none = own_sent (suc site) (site + 0) replicas own.1 (omega arith)
@@ -144,7 +152,8 @@ sent_there site (suc k) (r ∷ replicas) own less =
     off : (message : Message) → sender message ≡ site → (b : Bool) → nat_eq (sender message) (site + suc k) ≡ b
         → nat_eq (sender message) (site + suc k) ≡ false
     off message e true f =
-        let same : sender message ≡ site + suc k = eqb-true (sender message) (site + suc k) f in absurd (omega (arith, e, same))
+        let same : sender message ≡ site + suc k = eqb-true (sender message) (site + suc k) f in
+        absurd (omega (arith, e, same))
     off message e false f = f
 
     none : filter (is_sent_by (site + suc k)) r.machine.sent ≡ []
@@ -202,7 +211,8 @@ module _ (replicas : List ReplicaValue) (sites : AreSites replicas) (each : AreR
       let same : site - 1 + 1 ≡ site = omega (arith, up) in
       (each (site - 1) place).is
       ∙ (λ i. after (start ((at ∙ same) i) ((sites (site - 1) place).1 i)) r.entries)
-      ∙ sym (ap (λ (k : ℕ). after (start site k) (history (family_of (world_of replicas)) site)) (size_family (world_of replicas))
+      ∙ sym (ap (λ (k : ℕ). after (start site k) (history (family_of (world_of replicas)) site))
+      (size_family (world_of replicas))
       ∙ ap (λ (h : History). after (start site (length replicas)) h) (history_from replicas (site - 1)))
 
   pub world_of_is_world : IsWorld (world_of replicas)
@@ -227,7 +237,8 @@ module _ (replicas : List ReplicaValue) (sites : AreSites replicas) (each : AreR
       let same : filter_map (posted replicas) posts ≡ all_sent replicas =
       stand_filter_map (posted replicas) posts (all_sent replicas) stand in
       record {
-        world = subst (λ (l : List Message). IsWorld (record { replicas = replicas; sent = l })) (sym same) world_of_is_world;
+        world = subst (λ (l : List Message). IsWorld (record { replicas = replicas; sent = l })) (sym same)
+            world_of_is_world;
         standing = subst (λ (l : List Message). StandFor (posted replicas) posts l) (sym same) stand;
         sites = length-replicate (length replicas) 0;
         known = λ place count e.
@@ -264,7 +275,8 @@ pub record IsOpening (replicas : List ReplicaValue) (k : ℕ) (posts : List Post
   pub each : (place : ℕ) → place < k → IsReplica (replica_from replicas place)
 
 pub opening_more : (replicas : List ReplicaValue) (k : ℕ) (posts posts_now : List Post) (passed passed_now : List ℕ)
-    → AreSites replicas → k < length replicas → IsOpening replicas k posts passed → (r : ReplicaValue) → r ≡ replica_from replicas k
+    → AreSites replicas → k < length replicas → IsOpening replicas k posts passed → (r : ReplicaValue) → r
+    ≡ replica_from replicas k
     → IsReplica r → (site count : ℕ) → site ≡ r.machine.site → count ≡ length r.machine.sent
     → posts_now ≡ posts ++ new_posts site count 0 → passed_now ≡ passed ++ 0 ∷ []
     → IsOpening replicas (k + 1) posts_now passed_now
@@ -283,7 +295,8 @@ opening_more replicas k posts posts_now passed passed_now sites less o r at is s
           StandFor (posted replicas) l (all_sent (take k replicas) ++ (replica_from replicas k).machine.sent))
           (sym (g ∙ (λ i. posts ++ new_posts (here i) (many i) 0)))
           (stand_both (posted replicas) posts (all_sent (take k replicas))
-          (new_posts (k + 1) (length (replica_from replicas k).machine.sent) 0) (replica_from replicas k).machine.sent o.stand news));
+          (new_posts (k + 1) (length (replica_from replicas k).machine.sent) 0) (replica_from replicas k).machine.sent
+          o.stand news));
       passed_is = h ∙ (ap (λ (l : List ℕ). l ++ 0 ∷ []) o.passed_is ∙ sym (zeros_more k));
       each = λ place less. cases place less (nat_eq place k) refl;
     }
@@ -303,7 +316,8 @@ pub record IsOpen (replicas : List ReplicaValue) (posts : List Post) (passed : L
   pub value : world_value replicas posts ≡ world_of replicas
 
 pub opening_done : (replicas : List ReplicaValue) (k : ℕ) (posts : List Post) (passed : List ℕ) → AreSites replicas
-    → IsConsistent (map (λ (r : ReplicaValue). r.entries) replicas) → IsOpening replicas k posts passed → k ≡ length replicas
+    → IsConsistent (map (λ (r : ReplicaValue). r.entries) replicas) → IsOpening replicas k posts passed → k
+    ≡ length replicas
     → IsOpen replicas posts passed
 opening_done replicas k posts passed sites consistent o all =
     let stand : StandFor (posted replicas) posts (all_sent replicas) =

@@ -1,6 +1,8 @@
 -- What a machine does with a message: it knows it from then on; and what it sends then are votes on proposals that it
 -- takes, and decisions of its own that votes bring.
-use Rattle.std.proofs.Common.{◌≡◌, ◌≢◌, ◌⊎◌, ◌++◌, ◌||◌, ℕ, List, [], ◌∷◌, Bool, true, false, not, if◌then◌else◌, nat_eq, nat_lt, length, drop, Option, Some, None, refl, sym, ap, ◌∙◌, subst, inl, inr, ⊎_elim}
+use Rattle.std.proofs.Common.{◌≡◌, ◌≢◌, ◌⊎◌, ◌++◌, ◌||◌, ℕ, List, [], ◌∷◌, Bool, true, false, not}
+use Rattle.std.proofs.Common.{if◌then◌else◌, nat_eq, nat_lt, length, drop, Option, Some, None}
+use Rattle.std.proofs.Common.{refl, sym, ap, ◌∙◌, subst, inl, inr, ⊎_elim}
 use Rattle.std.proofs.lemmas.Bool.{eqb-true, eqb-false, eq-eqb, and_parts, or_parts, not-false, not-true}
 use Rattle.std.proofs.Math.Seq.{drop-append_seam, drop-length}
 use Rattle.std.specs.List.{find, list_any}
@@ -31,7 +33,8 @@ use Rattle.td_machine.specs.Machine.{Machine, made, next_op}
 use Rattle.td_machine.specs.Making.{done, make, decide}
 use Rattle.td_machine.specs.Ready.{is_had, is_ready, waits, is_dot_of, put_waiting}
 use Rattle.td_machine.specs.Step.{step}
-use Rattle.td_machine.specs.Taking.{Stepped, stepped, misfit, answer, vote_on, take_as, take, keep_waiting, forget, fit_step, op_step, vote_step, ballot_step, count}
+use Rattle.td_machine.specs.Taking.{Stepped, stepped, misfit, answer, vote_on, take_as, take, keep_waiting}
+use Rattle.td_machine.specs.Taking.{forget, fit_step, op_step, vote_step, ballot_step, count}
 use Rattle.td_machine.proofs.Ballots.{found_counted}
 use Rattle.td_machine.proofs.Induction.{built_of}
 use Rattle.td_machine.proofs.Parts.{Other}
@@ -117,7 +120,8 @@ module _ (m : Machine) (r : IsReached m) where
       let here : Stepped = if not (nat_eq v.proposal.site m.site) then stepped (Unfit Address) m else found in
       either (λ (s : Stepped). Knows (AVote v) s) far (stepped (Unfit Size) m) here (λ e h. absurd (h Size refl))
       (λ (e : far ≡ false).
-      either (λ (s : Stepped). Knows (AVote v) s) (not (nat_eq v.proposal.site m.site)) (stepped (Unfit Address) m) found
+      either (λ (s : Stepped). Knows (AVote v) s) (not (nat_eq v.proposal.site m.site)) (stepped (Unfit Address) m)
+      found
       (λ f h. absurd (h Address refl))
       (λ (f : not (nat_eq v.proposal.site m.site) ≡ false).
       balloted (find (is_on v.proposal) m.ballots) refl
@@ -127,7 +131,8 @@ module _ (m : Machine) (r : IsReached m) where
           → Knows (AVote v) (ballot_step o v m)
       balloted None e p h = absurd (h Proposal refl)
       balloted (Some b) e p h =
-          either (λ (s : Stepped). Knows (AVote v) s) (is_counted v.voter b) (stepped Repeat m) (stepped New (count v b m))
+          either (λ (s : Stepped). Knows (AVote v) s) (is_counted v.voter b) (stepped Repeat m)
+          (stepped New (count v b m))
           (λ f k. from_vote v m p (record { ballot = b; found = e; counted = f })) (λ f k. both v.yes) h
         where
           there : (says : Bool) → find (is_on v.proposal) (revise v.proposal (counted v.voter says) m.ballots)
@@ -154,7 +159,8 @@ module _ (m : Machine) (r : IsReached m) where
               (k.ballots v.proposal v.voter
               (counted v.voter true b, there true, second (is_some b.decision)))
             where
-              second : (c : Bool) → (c || (nat_eq v.voter v.voter || list_any (λ (site : ℕ). nat_eq v.voter site) b.yes)) ≡ true
+              second : (c : Bool) → (c || (nat_eq v.voter v.voter || list_any (λ (site : ℕ). nat_eq v.voter site)
+                  b.yes)) ≡ true
               second true = refl
               second false =
                   ap (λ (t : Bool). t || list_any (λ (site : ℕ). nat_eq v.voter site) b.yes)
@@ -216,10 +222,12 @@ module _ (m : Machine) (input : Input) where
       → AllNews (decide p o n)
   decided_news v from p None n e = no_news n e
   decided_news v from p (Some true) n e =
-      one_news (make (Commit p) n) (AnOp (next_op n (Commit p))) (ap (λ (l : List Message). l ++ AnOp (next_op n (Commit p)) ∷ []) e)
+      one_news (make (Commit p) n) (AnOp (next_op n (Commit p)))
+      (ap (λ (l : List Message). l ++ AnOp (next_op n (Commit p)) ∷ []) e)
       (inr (record { vote = v; from = from; op = next_op n (Commit p); is = refl; decides = refl }))
   decided_news v from p (Some false) n e =
-      one_news (make (Abort p) n) (AnOp (next_op n (Abort p))) (ap (λ (l : List Message). l ++ AnOp (next_op n (Abort p)) ∷ []) e)
+      one_news (make (Abort p) n) (AnOp (next_op n (Abort p)))
+      (ap (λ (l : List Message). l ++ AnOp (next_op n (Abort p)) ∷ []) e)
       (inr (record { vote = v; from = from; op = next_op n (Abort p); is = refl; decides = refl }))
 
   taken_news : (x : OpValue) → is_had m.have x ≡ false → (input ≡ Take (AnOp x)) ⊎ In x m.waiting → (n : Machine)
@@ -229,7 +237,15 @@ module _ (m : Machine) (input : Input) where
     where
       news : (v : Vote) → IsNews m input (AVote v)
       news v =
-          inl (record { vote = v; is = refl; op = x; slot = slot; asks = proposal_of slot x.body f; new = new; from = from })
+          inl (record {
+            vote = v;
+            is = refl;
+            op = x;
+            slot = slot;
+            asks = proposal_of slot x.body f;
+            new = new;
+            from = from;
+          })
 
       at : (says : Bool) → AllNews (answer x.dot slot says (done x n))
       at true =
@@ -237,7 +253,8 @@ module _ (m : Machine) (input : Input) where
           (ap (λ (l : List Message). l ++ AVote (record { proposal = x.dot; voter = n.site; yes = true }) ∷ []) e)
           (news (record { proposal = x.dot; voter = n.site; yes = true }))
       at false =
-          one_news (answer x.dot slot false (done x n)) (AVote (record { proposal = x.dot; voter = n.site; yes = false }))
+          one_news (answer x.dot slot false (done x n)) (AVote
+          (record { proposal = x.dot; voter = n.site; yes = false }))
           (ap (λ (l : List Message). l ++ AVote (record { proposal = x.dot; voter = n.site; yes = false }) ∷ []) e)
           (news (record { proposal = x.dot; voter = n.site; yes = false }))
 

@@ -1,5 +1,7 @@
 -- The causes of what give answers, and that settle leaves one world.
-use Rattle.std.proofs.Common.{◌≡◌, ◌≢◌, ◌⊎◌, ◌↔◌, ◌≤◌, ◌+◌, ◌++◌, ℕ, zero, suc, List, [], Bool, true, false, not, if◌then◌else◌, nat_eq, Option, Some, None, refl, sym, ap, ◌∙◌, inl, inr, ⊎_elim, append-nil, arith}
+use Rattle.std.proofs.Common.{◌≡◌, ◌≢◌, ◌⊎◌, ◌↔◌, ◌≤◌, ◌+◌, ◌++◌, ℕ, zero, suc, List, [], Bool, true}
+use Rattle.std.proofs.Common.{false, not, if◌then◌else◌, nat_eq, Option, Some, None, refl, sym, ap}
+use Rattle.std.proofs.Common.{◌∙◌, inl, inr, ⊎_elim, append-nil, arith}
 use Rattle.std.proofs.lemmas.Bool.{eqb-true, eq-eqb, and_from}
 use Rattle.td_op.specs.declared.message.Message.{Message}
 use Rattle.td_op.specs.declared.message.Message.TheVariants.{Op as AnOp, Vote as AVote}
@@ -30,7 +32,8 @@ for_is site message = (for_parts site message, back message)
 
 -- ---- what give answers
 
-took_other : (site : ℕ) (message : Message) (w : WorldValue) → (took site message w ≡ NoSuch → ⊥) × (took site message w ≡ Stray → ⊥)
+took_other : (site : ℕ) (message : Message) (w : WorldValue) → (took site message w ≡ NoSuch → ⊥)
+    × (took site message w ≡ Stray → ⊥)
 took_other site message w = ((λ e. no_such e), (λ e. stray e))
   where
     no_such : took site message w ≡ NoSuch → ⊥
@@ -105,7 +108,8 @@ passes_same j k w less e =
     difference (suc a) (suc b) h =
         let r = difference a b (omega (arith, h)) in let e : b ≡ r.0 + a = r.1 in (r.0, omega (arith, e))
 
-ended : (old new : WorldValue) (given : ℕ) (s : IsSettled old new given) → pass (moved_all (passes s.number old) old) ≡ []
+ended : (old new : WorldValue) (given : ℕ) (s : IsSettled old new given) → pass (moved_all (passes s.number old) old)
+    ≡ []
 ended old new given s = ap pass (sym s.after) ∙ s.still
 
 ordered : (a b : ℕ) → (a ≤ b) ⊎ (b ≤ a)

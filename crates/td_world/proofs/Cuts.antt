@@ -17,7 +17,8 @@ cut_after first rest w middle new e k =
     }
 
 -- and in front of others
-pub cut_before : (first rest : List Move) (w new : WorldValue) → IsCutShort first w new → IsCutShort (first ++ rest) w new
+pub cut_before : (first rest : List Move) (w new : WorldValue) → IsCutShort first w new
+    → IsCutShort (first ++ rest) w new
 cut_before first rest w new k =
     record {
       front = k.front;
@@ -49,7 +50,8 @@ stopped_after first rest w middle new e k =
     }
 
 -- and of those in front of others
-pub stopped_before : (first rest : List Move) (w new : WorldValue) → IsStopped first w new → IsStopped (first ++ rest) w new
+pub stopped_before : (first rest : List Move) (w new : WorldValue) → IsStopped first w new
+    → IsStopped (first ++ rest) w new
 stopped_before first rest w new k =
     record {
       front = k.front;

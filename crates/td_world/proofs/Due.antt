@@ -1,6 +1,7 @@
 -- What passes move: what waits, and messages that were sent and are wanted when their turn comes. In a world each such
 -- move fits it; a site where nothing is ready at the end is the only one to which any were given.
-use Rattle.std.proofs.Common.{◌≡◌, ◌⊎◌, ◌<◌, ◌≤◌, ◌+◌, ◌++◌, ℕ, zero, suc, List, [], ◌∷◌, Bool, true, false, not, if◌then◌else◌, length, refl, sym, subst, inl, inr, ⊎_elim, arith}
+use Rattle.std.proofs.Common.{◌≡◌, ◌⊎◌, ◌<◌, ◌≤◌, ◌+◌, ◌++◌, ℕ, zero, suc, List, [], ◌∷◌, Bool, true, false, not}
+use Rattle.std.proofs.Common.{if◌then◌else◌, length, refl, sym, subst, inl, inr, ⊎_elim, arith}
 use Rattle.std.proofs.lemmas.Bool.{and_parts, eq-eqb}
 use Rattle.std.specs.List.{AllByRecursion}
 use Rattle.td_base.specs.Value.{DotValue, IsDot}
@@ -17,8 +18,10 @@ use Rattle.td_machine.specs.History.{machine}
 use Rattle.td_op.specs.Message.{sender, is_for}
 use Rattle.td_machine.proofs.Family.{sent_ops}
 use Rattle.td_replay.proofs.Values.{values_of}
-use Rattle.td_world.specs.World.{WorldValue, Move, IsWorld, IsFit, size, machine_of, family_of, is_sent_by, moved, moved_all}
-use Rattle.td_world.specs.Calls.{is_known, is_ready, is_wanted, next, take, nexts, give_moves, wanted_moves, moves_of, give_all_moves, pass_from, pass, passes}
+use Rattle.td_world.specs.World.{WorldValue, Move, IsWorld, IsFit, size, machine_of}
+use Rattle.td_world.specs.World.{family_of, is_sent_by, moved, moved_all}
+use Rattle.td_world.specs.Calls.{is_known, is_ready, is_wanted, next, take, nexts, give_moves}
+use Rattle.td_world.specs.Calls.{wanted_moves, moves_of, give_all_moves, pass_from, pass, passes}
 use Rattle.td_world.proofs.Moves.{low, size_moved, size_after, still_sent, moved_both, world_moved}
 use Rattle.td_world.proofs.Named.{built_end, reached_end, sending_end}
 use Rattle.td_world.proofs.Nexts.{AreAt, at_both, give_at, give_drains, all_awake, pass_awake}
@@ -66,7 +69,8 @@ due_wanted site message w some within sent = at (is_wanted site message w) refl
     at : (b : Bool) → is_wanted site message w ≡ b → AreDue (if b then give_moves site message w else []) w
     at true e = (
       Given site message some within sent e,
-      due_nexts (length (machine_of (moved (take site message) w) site).waiting) site (moved (take site message) w) some low_now,
+      due_nexts (length (machine_of (moved (take site message) w) site).waiting) site (moved (take site message) w)
+          some low_now,
     )
     at false e = tt
 
@@ -94,7 +98,8 @@ due_pass w = due_from (size w) 1 w (omega arith) (omega arith)
 
 pub due_passes : (k : ℕ) (w : WorldValue) → AreDue (passes k w) w
 due_passes zero w = tt
-due_passes (suc k) w = due_both (pass w) (passes k (moved_all (pass w) w)) w (due_pass w) (due_passes k (moved_all (pass w) w))
+due_passes (suc k) w = due_both (pass w) (passes k (moved_all (pass w) w)) w (due_pass w)
+    (due_passes k (moved_all (pass w) w))
 
 pub due_site : (w : WorldValue) (move : Move) → IsDue w move → (0 < move.site) × (move.site ≤ size w)
 due_site w move (Waited site some within) = (some, within)
@@ -135,7 +140,8 @@ module _ (w : WorldValue) (i : IsWorld w) where
           record {
             voter = record { least = some; greatest = omega (arith, few, within) };
             proposal = subst (λ (d : DotValue). IsDot d) q.2
-                (values_of (machine (family_of w) v.voter) (reached_end (family_of w) i.consistent v.voter some within) q.0 q.1).dot;
+                (values_of (machine (family_of w) v.voter) (reached_end (family_of w) i.consistent v.voter some
+                within) q.0 q.1).dot;
           }
 
   pub due_fit : (move : Move) → IsDue w move → IsFit w move
@@ -200,7 +206,8 @@ none_or_awake site (message ∷ messages) w some within =
     given = give_moves site message w
 
     at : (b : Bool) → is_wanted site message w ≡ b
-        → (moves_of site messages w ≡ []) ⊎ (is_ready (machine_of (moved_all (moves_of site messages w) w) site) ≡ false)
+        → (moves_of site messages w ≡ []) ⊎ (is_ready (machine_of (moved_all (moves_of site messages w) w) site)
+        ≡ false)
         → ((if b then given else []) ++ moves_of site messages (moved_all (if b then given else []) w) ≡ [])
         ⊎ (is_ready (machine_of (moved_all ((if b then given else [])
         ++ moves_of site messages (moved_all (if b then given else []) w)) w) site) ≡ false)
@@ -208,7 +215,8 @@ none_or_awake site (message ∷ messages) w some within =
     at true e h =
         inr
         (subst (λ (v : WorldValue). is_ready (machine_of v site) ≡ false)
-        (sym (moved_both (give_moves site message w) (moves_of site messages (moved_all (give_moves site message w) w)) w))
+        (sym (moved_both (give_moves site message w) (moves_of site messages
+        (moved_all (give_moves site message w) w)) w))
         (all_awake site messages (moved_all (give_moves site message w) w) some
         (subst (λ (n : ℕ). site ≤ n) (sym (size_after (give_moves site message w) w)) within) site some
         (give_drains site message w some within)))

@@ -1,6 +1,8 @@
 -- Passes end. In the first one all operations that were sent go out, and so all votes are sent; in the second one the
 -- votes go out, and so all decisions are made; in the third one these go out, and bring nothing new.
-use Rattle.std.proofs.Common.{◌≡◌, ◌≢◌, ◌⊎◌, ◌<◌, ◌≤◌, ◌+◌, ◌*◌, ℕ, zero, suc, List, [], ◌∷◌, Bool, true, false, not, if◌then◌else◌, nat_eq, nat_le, length, None, Some, refl, sym, ap, ◌∙◌, subst, ⊎_elim, true≢false, arith}
+use Rattle.std.proofs.Common.{◌≡◌, ◌≢◌, ◌⊎◌, ◌<◌, ◌≤◌, ◌+◌, ◌*◌, ℕ, zero, suc, List, [], ◌∷◌, Bool}
+use Rattle.std.proofs.Common.{true, false, not, if◌then◌else◌, nat_eq, nat_le, length, None, Some, refl}
+use Rattle.std.proofs.Common.{sym, ap, ◌∙◌, subst, ⊎_elim, true≢false, arith}
 use Rattle.std.proofs.lemmas.Bool.{and_parts, eqb-true, eqb-false, leb-true, leb-false, not-true}
 use Rattle.std.specs.Prelude.{IsTrue}
 use Rattle.std.specs.List.{AllByRecursion}
@@ -23,14 +25,16 @@ use Rattle.td_machine.specs.Machine.{Machine}
 use Rattle.td_machine.proofs.Family.{made_at, sent_ops}
 use Rattle.td_machine.proofs.Reached.{of_sites, past_of}
 use Rattle.td_machine.proofs.Walk.{offered}
-use Rattle.td_world.specs.World.{WorldValue, Move, IsWorld, size, machine_of, family_of, is_sent_by, sent_by, moved, moved_all}
+use Rattle.td_world.specs.World.{WorldValue, Move, IsWorld, size, machine_of, family_of}
+use Rattle.td_world.specs.World.{is_sent_by, sent_by, moved, moved_all}
 use Rattle.td_op.specs.Message.{is_for}
 use Rattle.td_world.specs.Calls.{is_known, is_ready, is_wanted, pass, passes, count_given, IsSettled}
 use Rattle.td_world.specs.Promises.{NobodyReady}
 use Rattle.td_world.proofs.Causes.{passes_end, settled_one}
 use Rattle.td_world.proofs.Settling.{IsSettling}
 use Rattle.td_world.proofs.Came.{IsNews, IsAnswer, IsVerdict, step_news}
-use Rattle.td_world.proofs.Due.{IsDue, Waited, Given, AreDue, AreAwake, due_pass, due_site, due_other, due_fit, due_moved, world_due, sent_there, awake_pass}
+use Rattle.td_world.proofs.Due.{IsDue, Waited, Given, AreDue, AreAwake, due_pass, due_site, due_other}
+use Rattle.td_world.proofs.Due.{due_fit, due_moved, world_due, sent_there, awake_pass}
 use Rattle.td_world.proofs.Lasting.{stays_known, stays_had, pass_known, known_pass}
 use Rattle.td_world.proofs.Moves.{low, for_parts, size_family, size_moved, size_after, moved_both, still_sent}
 use Rattle.td_world.proofs.Named.{built_end, reached_end, site_is, size_is, sending_end}
@@ -107,7 +111,8 @@ module _ (w : WorldValue) (i : IsWorld w) where
         from.0,
         few,
         (sent_ops (machine (family_of w) x.dot.site) (built_end (family_of w) i.consistent x.dot.site from.0 few) x
-            (subst (λ (m : Machine). In (AnOp x) m.sent) (i.machines x.dot.site from.0 from.1) (sent_there w i (AnOp x) j))).0,
+            (subst (λ (m : Machine). In (AnOp x) m.sent) (i.machines x.dot.site from.0 from.1)
+            (sent_there w i (AnOp x) j))).0,
       )
 
   op_sent : (x : OpValue) → IsOpOf (family_of w) x → In (AnOp x) w.sent
@@ -128,7 +133,8 @@ module _ (w : WorldValue) (i : IsWorld w) where
       let o =
       offered (machine (family_of w) t) (built_end (family_of w) i.consistent t some few) x
       (subst (λ (m : Machine). In x m.waiting) (i.machines t some within) j) in
-      let size : (machine (family_of w) t).size ≡ length (family_of w) = size_is (family_of w) i.consistent t some few in
+      let size : (machine (family_of w) t).size ≡ length (family_of w) =
+      size_is (family_of w) i.consistent t some few in
       let own : x.dot.site ≤ length x.deps = o.valid.op.own in
       let sized : length x.deps ≡ (machine (family_of w) t).size = o.sized in (
         in_world x.dot.site o.valid.dot.site.least (omega (arith, size, own, sized)) (AnOp x) o.came.sent,
@@ -152,7 +158,8 @@ module _ (A : ℕ → Type 0) where
   abbrev AllIn : List Move → Type 0
   AllIn moves = AllByRecursion (λ (move : Move). A move.site) moves
 
-  module _ (w : WorldValue) (i : IsWorld w) (move : Move) (d : IsDue w move) (a : A move.site) (informed : Informed A w) where
+  module _ (w : WorldValue) (i : IsWorld w) (move : Move) (d : IsDue w move) (a : A move.site)
+      (informed : Informed A w) where
     -- a move at such a site sends decisions alone
     verdict_of : (message : Message) → In message (sent_by move w) → IsVerdict move.input message
     verdict_of message j =
@@ -195,7 +202,8 @@ module _ (A : ℕ → Type 0) where
         (λ (k : In message (sent_by move w)).
         let r = verdict_of message k in
         let g = given_is w move d (AVote r.vote) r.from in
-        let p = and_parts (is_for move.site (AVote r.vote)) (not (is_known (AVote r.vote) (machine_of w move.site))) g.1 in
+        let p = and_parts (is_for move.site (AVote r.vote)) (not (is_known (AVote r.vote) (machine_of w move.site)))
+        g.1 in
         absurd
         (true≢false
         (sym (known move.site (due_site w move d).0 (due_site w move d).1 r.vote g.0 p.0)
@@ -240,10 +248,12 @@ module _ (old : WorldValue) (before : IsWorld old) (w : WorldValue) (i : IsWorld
       let c : IsConsistent f = before.consistent in
       let home = sent_op old before x soon in
       let from = made_at (family_of w) i.consistent y p in
-      let dot = of_sites (machine (family_of w) y.dot.site) (reached_end (family_of w) i.consistent y.dot.site from.0 from.1) y from.2 in
+      let dot = of_sites (machine (family_of w) y.dot.site)
+      (reached_end (family_of w) i.consistent y.dot.site from.0 from.1) y from.2 in
       let split : CutAt x (log_of f x.dot.site) = cut_at x (log_of f x.dot.site) home.2 in
       let z =
-      past_of (machine f x.dot.site) (reached_end f c x.dot.site home.0 home.1) split.front x split.back split.is y.dot dot.0
+      past_of (machine f x.dot.site) (reached_end f c x.dot.site home.0 home.1) split.front x split.back split.is
+      y.dot dot.0
       dot.2 past in
       let inside : In z.0 (log_of f x.dot.site) =
       subst (λ (log : List OpValue). In z.0 log) (sym split.is) (In-behind z.0 split.front x split.back z.1) in
@@ -330,7 +340,8 @@ module _ (w : WorldValue) (i : IsWorld w)
   nothing_left =
       known_pass third
       (λ s up within message j to.
-      pass_known second at_second s up (subst (λ (n : ℕ). s ≤ n) (size_passed second) within) message (none_sent message j) to)
+      pass_known second at_second s up (subst (λ (n : ℕ). s ≤ n) (size_passed second) within) message
+      (none_sent message j) to)
 
 -- ---- so many passes
 
@@ -377,7 +388,8 @@ no_more_ready : (k : ℕ) (v w : WorldValue) → StayAwake k v w → readies k w
 unfolding readies
 no_more_ready zero v w h = omega arith
 no_more_ready (suc k) v w h =
-    at (is_ready (machine_of v (suc k))) refl (is_ready (machine_of w (suc k))) refl (no_more_ready k v w (shorter k v w h))
+    at (is_ready (machine_of v (suc k))) refl (is_ready (machine_of w (suc k))) refl
+    (no_more_ready k v w (shorter k v w h))
   where
     at : (b : Bool) → is_ready (machine_of v (suc k)) ≡ b → (c : Bool) → is_ready (machine_of w (suc k)) ≡ c
         → readies k w ≤ readies k v
@@ -423,7 +435,8 @@ none_woken : (w : WorldValue) → IsWorld w → readies (size w) (passed w) ≤ 
 none_woken w i many =
     ap pass (three_on w)
     ∙ nothing_left w i
-    (λ s up within awake. same_ready (size w) (passed w) (passed (passed (passed w))) (stay_two w) many s up within awake)
+    (λ s up within awake. same_ready (size w) (passed w) (passed (passed (passed w))) (stay_two w) many s up within
+    awake)
 
 -- two passes more for each site at which something is ready after the first one
 enough : (b : ℕ) (w : WorldValue) → IsWorld w → readies (size w) (passed w) ≤ b

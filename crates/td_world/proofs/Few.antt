@@ -1,6 +1,8 @@
 -- How many messages there are: a machine sends one at most with each operation that it makes or takes, and of each site
 -- it has at most 65,535.
-use Rattle.std.proofs.Common.{◌≡◌, ◌<◌, ◌≤◌, ◌-◌, ◌+◌, ◌*◌, ◌++◌, ℕ, zero, suc, List, [], ◌∷◌, Bool, true, false, if◌then◌else◌, nat_eq, length, filter, get_or, set, refl, sym, ap, ◌∙◌, subst, inl, inr, arith}
+use Rattle.std.proofs.Common.{◌≡◌, ◌<◌, ◌≤◌, ◌-◌, ◌+◌, ◌*◌, ◌++◌, ℕ, zero, suc, List, [], ◌∷◌}
+use Rattle.std.proofs.Common.{Bool, true, false, if◌then◌else◌, nat_eq, length, filter, get_or}
+use Rattle.std.proofs.Common.{set, refl, sym, ap, ◌∙◌, subst, inl, inr, arith}
 use Rattle.std.proofs.lemmas.Bool.{eqb-true, eqb-false}
 use Rattle.std.proofs.lemmas.List.{length-append}
 use Rattle.std.proofs.lemmas.List.Folds.{sum_by-replicate}
@@ -44,7 +46,8 @@ module _ {Came : Message → Type 0} {site size : ℕ} where
       keeps : (m n : Machine) → IsBuilt Came site size m → Part Came m n → length m.sent ≤ length m.log
           → length n.sent ≤ length n.log
       keeps m n b (Makes body e may) h = one m.sent (AnOp (next_op m body)) (next_op m body) m.log h
-      keeps m n b (Proposes slot may) h = one m.sent (AnOp (next_op m (Propose slot))) (next_op m (Propose slot)) m.log h
+      keeps m n b (Proposes slot may) h = one m.sent (AnOp (next_op m (Propose slot))) (next_op m (Propose slot))
+          m.log h
       keeps m n b (Takes x e fit) h = omega (arith, h)
       keeps m n b (Agrees x slot e fit says) h = one m.sent (AVote (vote_here x true m)) x m.log h
       keeps m n b (Declines x slot e fit says) h = one m.sent (AVote (vote_here x false m)) x m.log h
@@ -95,7 +98,8 @@ few_logged m r =
         let here : get_or (counts m.size m.log) k 0 ≡ length (ops_of (suc k) m.log) =
         ap (λ (j : ℕ). get_or (counts m.size m.log) j 0) (sym same) ∙ number in
         let f : Found (record { site = suc k; seq = get_or (counts m.size m.log) k 0 }) m.log =
-        found m.size (suc k) (get_or (counts m.size m.log) k 0) m.log (positive (get_or (counts m.size m.log) k 0) other) turn
+        found m.size (suc k) (get_or (counts m.size m.log) k 0) m.log
+        (positive (get_or (counts m.size m.log) k 0) other) turn
         (omega (arith, here)) in
         let low : f.op.dot.seq ≤ MAX_SEQ = (values_of m r f.op f.inside).dot.greatest in
         let is : f.op.dot.seq ≡ get_or (counts m.size m.log) k 0 = ap (λ (d : DotValue). d.seq) f.is in
@@ -108,10 +112,12 @@ few_logged m r =
 pub few_from : (w : WorldValue) → IsWorld w → (s : ℕ) → 0 < s → s ≤ size w → length (machine_of w s).sent ≤ 4194240
 few_from w i s some within =
     let r = reached_in w i s some within in
-    let sent : length (machine_of w s).sent ≤ length (machine_of w s).log = fewer_sent (machine_of w s) (built_of (machine_of w s) r).built in
+    let sent : length (machine_of w s).sent ≤ length (machine_of w s).log =
+    fewer_sent (machine_of w s) (built_of (machine_of w s) r).built in
     let had : length (machine_of w s).log ≤ (machine_of w s).size * 65535 = few_logged (machine_of w s) r in
     let is : (machine_of w s).size ≡ length (family_of w) =
-    ap (λ (m : Machine). m.size) (i.machines s some within) ∙ size_is (family_of w) i.consistent s some (low w i s within) in
+    ap (λ (m : Machine). m.size) (i.machines s some within)
+    ∙ size_is (family_of w) i.consistent s some (low w i s within) in
     let few : length (family_of w) ≤ MAX_SITE = i.consistent.legal.few in
     omega (arith, sent, had, is, few)
 
@@ -129,7 +135,8 @@ none_more (suc n) x xs = at (is_sent_by (suc n) x) (none_more n x xs)
   where
     at : (b : Bool) → sent_upto n xs ≤ sent_upto n (x ∷ xs)
         → length (filter (is_sent_by (suc n)) xs) + sent_upto n xs
-        ≤ length (if b then x ∷ filter (is_sent_by (suc n)) xs else filter (is_sent_by (suc n)) xs) + sent_upto n (x ∷ xs)
+        ≤ length (if b then x ∷ filter (is_sent_by (suc n)) xs else filter (is_sent_by (suc n)) xs) + sent_upto n
+        (x ∷ xs)
     at true h = omega (arith, h)
     at false h = omega (arith, h)
 
@@ -143,7 +150,8 @@ one_counted (suc n) x xs some within =
     at : (b : Bool) → is_sent_by (suc n) x ≡ b → sent_upto n xs ≤ sent_upto n (x ∷ xs)
         → (sender x ≤ n → sent_upto n xs + 1 ≤ sent_upto n (x ∷ xs))
         → length (filter (is_sent_by (suc n)) xs) + sent_upto n xs + 1
-        ≤ length (if b then x ∷ filter (is_sent_by (suc n)) xs else filter (is_sent_by (suc n)) xs) + sent_upto n (x ∷ xs)
+        ≤ length (if b then x ∷ filter (is_sent_by (suc n)) xs else filter (is_sent_by (suc n)) xs) + sent_upto n
+        (x ∷ xs)
     at true e h rest = omega (arith, h)
     at false e h rest =
         let other = eqb-false (sender x) (suc n) e in

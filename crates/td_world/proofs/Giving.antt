@@ -1,12 +1,15 @@
 -- All that a site does not know is given: so many messages are looked at, and the others are still to come.
-use Rattle.std.proofs.Common.{◌≡◌, ◌<◌, ◌≤◌, ◌+◌, ◌++◌, ℕ, zero, suc, List, [], ◌∷◌, Bool, true, false, if◌then◌else◌, length, drop, Option, Some, None, refl, sym, ap, ◌∙◌, subst, append-nil, append_assoc, length-append, arith}
+use Rattle.std.proofs.Common.{◌≡◌, ◌<◌, ◌≤◌, ◌+◌, ◌++◌, ℕ, zero, suc, List, [], ◌∷◌, Bool, true, false}
+use Rattle.std.proofs.Common.{if◌then◌else◌, length, drop, Option, Some, None, refl, sym, ap, ◌∙◌, subst}
+use Rattle.std.proofs.Common.{append-nil, append_assoc, length-append, arith}
 use Rattle.std.specs.List.{slice_get}
 use Rattle.std.specs.Option.{is_some}
 use Rattle.std.proofs.lemmas.List.{drop_all}
 use Rattle.td_op.specs.declared.message.Message.{Message}
 use Rattle.td_replica.specs.declared.given.Given.{Given}
 use Rattle.td_world.specs.World.{WorldValue, Move, size, moved_all}
-use Rattle.td_world.specs.Calls.{is_wanted, took, wanted_moves, wanted_answer, wanted_given, moves_of, given_of, give_all_moves, give_all_given, IsCutShort, IsStopped}
+use Rattle.td_world.specs.Calls.{is_wanted, took, wanted_moves, wanted_answer, wanted_given, moves_of}
+use Rattle.td_world.specs.Calls.{given_of, give_all_moves, give_all_given, IsCutShort, IsStopped}
 use Rattle.td_world.specs.Parts.{ArePassed}
 use Rattle.td_world.proofs.Cuts.{cut_before, stopped_before}
 use Rattle.td_world.proofs.Going.{IsDoing, doing_more, doing_done, doing_cut, doing_stopped, doing_none, doing_size}
@@ -22,7 +25,8 @@ giving_none to k w p =
     let few : k ≤ length w.sent = p.0 in
     let same : 1 + k ≡ k + 1 = omega arith in
     record {
-      doing = subst (λ (l : List Move). IsDoing (give_all_moves to w) l w w) (skip_moves to w k w.sent (λ j less. p.1 j less))
+      doing = subst (λ (l : List Move). IsDoing (give_all_moves to w) l w w)
+          (skip_moves to w k w.sent (λ j less. p.1 j less))
           (doing_none (give_all_moves to w) w);
       told = skip_given to w k 1 w.sent (λ j less. p.1 j less) few
           ∙ ap (λ (n : ℕ). given_of to n (drop k w.sent) w) same;
@@ -50,7 +54,8 @@ still_numbered to k old now given g j m e =
 
 pub giving_size : (to k : ℕ) (old now : WorldValue) (given : List (ℕ × Given)) → IsGiving to k old now given
     → size now ≡ size old
-giving_size to k old now given g = doing_size (give_all_moves to old) (moves_of to (drop k old.sent) now) old now g.doing
+giving_size to k old now given g = doing_size (give_all_moves to old) (moves_of to (drop k old.sent) now) old now
+    g.doing
 
 module _ (to k : ℕ) (old now new : WorldValue) (given more : List (ℕ × Given)) (g : IsGiving to k old now given)
     (m : Message) (e : slice_get old.sent k ≡ Some m) where
@@ -76,7 +81,8 @@ module _ (to k : ℕ) (old now new : WorldValue) (given more : List (ℕ × Give
         told = g.told ∙ ap (λ (l : List Message). given ++ given_of to (k + 1) l now) next_is
             ∙ sym (append_assoc given (wanted_given to (k + 1) m now)
             (given_of to (suc (k + 1)) (drop (k + 1) old.sent) (moved_all (wanted_moves to m now) now)))
-            ∙ ap (λ (l : List (ℕ × Given)). l ++ given_of to (suc (k + 1)) (drop (k + 1) old.sent) (moved_all (wanted_moves to m now) now)) (sym told)
+            ∙ ap (λ (l : List (ℕ × Given)). l ++ given_of to (suc (k + 1)) (drop (k + 1) old.sent)
+            (moved_all (wanted_moves to m now) now)) (sym told)
             ∙ ap (λ (n : ℕ). more ++ given_of to n (drop (k + 1) old.sent) (moved_all (wanted_moves to m now) now)) one;
       })
 
@@ -85,14 +91,16 @@ module _ (to k : ℕ) (old now new : WorldValue) (given more : List (ℕ × Give
       doing_cut (give_all_moves to old)
       (wanted_moves to m now ++ moves_of to (drop (k + 1) old.sent) (moved_all (wanted_moves to m now) now)) old now new
       doing_now
-      (cut_before (wanted_moves to m now) (moves_of to (drop (k + 1) old.sent) (moved_all (wanted_moves to m now) now)) now new c)
+      (cut_before (wanted_moves to m now) (moves_of to (drop (k + 1) old.sent)
+      (moved_all (wanted_moves to m now) now)) now new c)
 
   pub giving_stopped : IsStopped (wanted_moves to m now) now new → IsStopped (give_all_moves to old) old new
   giving_stopped c =
       doing_stopped (give_all_moves to old)
       (wanted_moves to m now ++ moves_of to (drop (k + 1) old.sent) (moved_all (wanted_moves to m now) now)) old now new
       doing_now
-      (stopped_before (wanted_moves to m now) (moves_of to (drop (k + 1) old.sent) (moved_all (wanted_moves to m now) now)) now
+      (stopped_before (wanted_moves to m now) (moves_of to (drop (k + 1) old.sent)
+      (moved_all (wanted_moves to m now) now)) now
       new c)
 
 pub giving_all : (to k : ℕ) (old now : WorldValue) (given : List (ℕ × Given)) → IsGiving to k old now given
@@ -156,7 +164,8 @@ module _ (to k : ℕ) (old now new : WorldValue) (count : ℕ) (c : IsCounting t
       let few : count ≤ k = c.few in
       record {
         given = more;
-        giving = giving_more to k old now new c.given more c.giving m e is (answer_noted to (k + 1) m now c.given a answer);
+        giving = giving_more to k old now new c.given more c.giving m e is
+            (answer_noted to (k + 1) m now c.given a answer);
         long = omega (arith, longer, long);
         few = omega (arith, few);
       }
@@ -166,7 +175,8 @@ module _ (to k : ℕ) (old now new : WorldValue) (count : ℕ) (c : IsCounting t
       let few : count ≤ k = c.few in
       record {
         given = c.given;
-        giving = giving_more to k old now new c.given c.given c.giving m e is (nothing_noted to (k + 1) m now c.given answer);
+        giving = giving_more to k old now new c.given c.given c.giving m e is
+            (nothing_noted to (k + 1) m now c.given answer);
         long = c.long;
         few = omega (arith, few);
       }

@@ -1,5 +1,6 @@
 -- The loops of a world's calls: what is done, and what is still to do.
-use Rattle.std.proofs.Common.{◌≡◌, ◌<◌, ◌+◌, ◌-◌, ◌++◌, ℕ, zero, suc, List, [], ◌∷◌, Bool, true, false, if◌then◌else◌, length, refl, sym, ap, ◌∙◌, subst, append-nil, append_assoc, arith}
+use Rattle.std.proofs.Common.{◌≡◌, ◌<◌, ◌+◌, ◌-◌, ◌++◌, ℕ, zero, suc, List, [], ◌∷◌, Bool, true, false, if◌then◌else◌}
+use Rattle.std.proofs.Common.{length, refl, sym, ap, ◌∙◌, subst, append-nil, append_assoc, arith}
 use Rattle.td_world.specs.World.{WorldValue, Move, size, machine_of, moved, moved_all}
 use Rattle.td_world.specs.Calls.{is_ready, next, nexts, IsCutShort, IsStopped}
 use Rattle.td_world.proofs.Cuts.{cut_after, stopped_here, stopped_after}
@@ -37,7 +38,8 @@ pub doing_cut : (all rest : List Move) (old now new : WorldValue) → IsDoing al
 doing_cut all rest old now new d k =
     subst (λ (l : List Move). IsCutShort l old new) (sym d.splits) (cut_after d.front rest old now new d.after k)
 
-pub doing_stopped : (all rest : List Move) (old now new : WorldValue) → IsDoing all rest old now → IsStopped rest now new
+pub doing_stopped : (all rest : List Move) (old now new : WorldValue) → IsDoing all rest old now
+    → IsStopped rest now new
     → IsStopped all old new
 doing_stopped all rest old now new d k =
     subst (λ (l : List Move). IsStopped l old new) (sym d.splits) (stopped_after d.front rest old now new d.after k)
@@ -70,12 +72,14 @@ going_more site count k old now new less g e is =
     let some : 0 < count - k = omega (arith, less) in
     let on : nexts (count - k) site now ≡ next site ∷ nexts (count - (k + 1)) site (moved (next site) now) =
     nexts_on site (count - k) now e some ∙ ap (λ (n : ℕ). next site ∷ nexts n site (moved (next site) now)) same in
-    let many : length (nexts (count - k) site now) ≡ suc (length (nexts (count - (k + 1)) site (moved (next site) now))) =
+    let many : length (nexts (count - k) site now)
+    ≡ suc (length (nexts (count - (k + 1)) site (moved (next site) now))) =
     ap (λ (l : List Move). length l) on in
     let all : length (nexts count site old) ≡ k + length (nexts (count - k) site now) = g.many in
     subst (λ (w : WorldValue). IsGoing site count (k + 1) old w) (sym is)
     (record {
-      doing = doing_more (nexts count site old) (next site ∷ []) (nexts (count - (k + 1)) site (moved (next site) now)) old now
+      doing = doing_more (nexts count site old) (next site ∷ [])
+          (nexts (count - (k + 1)) site (moved (next site) now)) old now
           (moved (next site) now)
           (subst (λ (l : List Move). IsDoing (nexts count site old) l old now) on g.doing) refl;
       many = omega (arith, many, all);

@@ -1,5 +1,7 @@
 -- The parts of a world after a step.
-use Rattle.std.proofs.Common.{◌≡◌, ◌<◌, ◌≤◌, ◌+◌, ◌-◌, ◌++◌, ℕ, zero, suc, List, [], ◌∷◌, Bool, true, false, if◌then◌else◌, nat_eq, length, set, get_or, Option, Some, None, refl, sym, ap, ◌∙◌, subst, arith}
+use Rattle.std.proofs.Common.{◌≡◌, ◌<◌, ◌≤◌, ◌+◌, ◌-◌, ◌++◌, ℕ, zero, suc, List, [], ◌∷◌, Bool}
+use Rattle.std.proofs.Common.{true, false, if◌then◌else◌, nat_eq, length, set, get_or, Option}
+use Rattle.std.proofs.Common.{Some, None, refl, sym, ap, ◌∙◌, subst, arith}
 use Rattle.std.proofs.lemmas.Bool.{eqb-true, eqb-false}
 use Rattle.std.proofs.lemmas.List.{length-set, length-append, length-drop}
 use Rattle.std.specs.List.{filter_map, slice_get}
@@ -21,7 +23,8 @@ use Rattle.td_replica.specs.Replica.{ReplicaValue, after_step}
 use Rattle.td_world.specs.declared.post.Post.{Post}
 use Rattle.td_world.specs.declared.sites.Done.{Done}
 use Rattle.td_world.specs.Sending.{IsDone}
-use Rattle.td_world.specs.World.{WorldValue, Move, IsWorld, size, replica_from, machine_of, family_of, reply_to, sent_by, moved, IsFit}
+use Rattle.td_world.specs.World.{WorldValue, Move, IsWorld, size, replica_from, machine_of}
+use Rattle.td_world.specs.World.{family_of, reply_to, sent_by, moved, IsFit}
 use Rattle.td_world.specs.Calls.{is_known}
 use Rattle.td_world.specs.Parts.{posted, world_value, new_posts, ArePassed, IsWorldParts, is_dropped, looked_again}
 use Rattle.td_world.proofs.Moves.{low, moved_here, moved_there, world_moved}
@@ -50,11 +53,13 @@ move_of site input = record { site = site; input = input }
 
 pub reached_in : (w : WorldValue) → IsWorld w → (site : ℕ) → 0 < site → site ≤ size w → IsReached (machine_of w site)
 reached_in w i site some within =
-    subst IsReached (sym (i.machines site some within)) (reached_end (family_of w) i.consistent site some (low w i site within))
+    subst IsReached (sym (i.machines site some within))
+    (reached_end (family_of w) i.consistent site some (low w i site within))
 
 -- where the machine of the site knows at least as much
 passed_on : (w new : WorldValue) (more : List Message) (site count : ℕ) → new.sent ≡ w.sent ++ more
-    → ((message : Message) → is_known message (machine_of w site) ≡ true → is_known message (machine_of new site) ≡ true)
+    → ((message : Message) → is_known message (machine_of w site) ≡ true → is_known message (machine_of new site)
+    ≡ true)
     → ArePassed site w count → ArePassed site new count
 passed_on w new more site count sent knows p =
     let few : count ≤ length w.sent = p.0 in
@@ -64,7 +69,8 @@ passed_on w new more site count sent knows p =
       λ k less message e to.
           knows message
           (p.1 k less message
-          (sym (ap (λ (l : List Message). slice_get l k) sent ∙ get_front w.sent more k (omega (arith, less, few))) ∙ e) to),
+          (sym (ap (λ (l : List Message). slice_get l k) sent ∙ get_front w.sent more k (omega (arith, less, few)))
+          ∙ e) to),
     )
 
 module _ (replicas : List ReplicaValue) (posts : List Post) (passed : List ℕ) (p : IsWorldParts replicas posts passed)
@@ -108,14 +114,16 @@ module _ (replicas : List ReplicaValue) (posts : List Post) (passed : List ℕ) 
       → slice_get (looked_again (reply_to (move_of site input) (world_value replicas posts)) (site - 1) passed) place
       ≡ Some count
       → ArePassed (place + 1) (moved (move_of site input) (world_value replicas posts)) count
-  known_now place count = at (nat_eq (site - 1) place) refl (is_dropped (reply_to (move_of site input) (world_value replicas posts))) refl
+  known_now place count = at (nat_eq (site - 1) place) refl
+      (is_dropped (reply_to (move_of site input) (world_value replicas posts))) refl
     where
       on : slice_get passed place ≡ Some count
           → ((message : Message) → is_known message (machine_of (world_value replicas posts) (place + 1)) ≡ true
           → is_known message (machine_of (moved (move_of site input) (world_value replicas posts)) (place + 1)) ≡ true)
           → ArePassed (place + 1) (moved (move_of site input) (world_value replicas posts)) count
       on e knows =
-          passed_on (world_value replicas posts) (moved (move_of site input) (world_value replicas posts)) more (place + 1)
+          passed_on (world_value replicas posts) (moved (move_of site input) (world_value replicas posts)) more
+          (place + 1)
           count refl knows (p.known place count e)
 
       here : site - 1 ≡ place → site ≡ place + 1
@@ -143,7 +151,8 @@ module _ (replicas : List ReplicaValue) (posts : List Post) (passed : List ℕ) 
           let same : site - 1 ≡ place = eqb-true (site - 1) place e in
           on g
           (λ message h.
-          subst (λ (s : ℕ). is_known message (machine_of (moved (move_of site input) (world_value replicas posts)) s) ≡ true)
+          subst (λ (s : ℕ). is_known message (machine_of (moved (move_of site input) (world_value replicas posts)) s)
+          ≡ true)
           (here same)
           (known_here f message
           (subst (λ (s : ℕ). is_known message (machine_of (world_value replicas posts) s) ≡ true) (sym (here same)) h)))
@@ -163,7 +172,8 @@ module _ (replicas : List ReplicaValue) (posts : List Post) (passed : List ℕ) 
       record {
         world = subst IsWorld (sym value) (world_moved (world_value replicas posts) p.world (move_of site input) fit);
         standing = subst (λ (l : List Message). StandFor (posted now) (posts ++ added) l)
-            (sym (stand_filter_map (posted now) (posts ++ added) (filter_map (posted replicas) posts ++ more) stands)) stands;
+            (sym (stand_filter_map (posted now) (posts ++ added) (filter_map (posted replicas) posts ++ more) stands))
+            stands;
         sites = looked_length (is_dropped (reply_to (move_of site input) (world_value replicas posts)))
             ∙ (p.sites ∙ sym (length-set replicas (site - 1) (after_step input (replica_from replicas (site - 1)))));
         known = λ place count e.
@@ -181,7 +191,8 @@ pub record IsKept (w : WorldValue) (move : Move) (replicas : List ReplicaValue) 
   pub value : world_value replicas posts ≡ moved move w
 
 pub kept_after : (replicas : List ReplicaValue) (posts : List Post) (passed : List ℕ)
-    → IsWorldParts replicas posts passed → (site : ℕ) → 0 < site → site ≤ length replicas → (input : Input) → IsInput input
+    → IsWorldParts replicas posts passed → (site : ℕ) → 0 < site → site ≤ length replicas → (input : Input)
+    → IsInput input
     → ((message : Message) → input ≡ Take message
     → In message (filter_map (posted replicas) posts) × (is_for site message ≡ true))
     → (done : Done) → IsDone (replica_from replicas (site - 1)) input done
@@ -190,7 +201,8 @@ pub kept_after : (replicas : List ReplicaValue) (posts : List Post) (passed : Li
     → (posts_now : List Post) → posts_now ≡ posts ++ new_posts site (done.after - done.before) done.before
     → (place : ℕ) → place ≡ site - 1 → (passed_now : List ℕ) → passed_now ≡ looked_again done.reply place passed
     → IsKept (world_value replicas posts) (record { site = site; input = input }) replicas_now posts_now passed_now
-kept_after replicas posts passed p site some within input valid came done d replicas_now e posts_now f place at passed_now h =
+kept_after replicas posts passed p site some within input valid came done d replicas_now e posts_now f place at
+    passed_now h =
     let old : ReplicaValue = replica_from replicas (site - 1) in
     let next : Machine = (step (replica_from replicas (site - 1)).machine input).machine in
     let more : List Message = sent_by (record { site = site; input = input }) (world_value replicas posts) in
@@ -208,11 +220,13 @@ kept_after replicas posts passed p site some within input valid came done d repl
       parts = subst (λ (l : List ℕ). IsWorldParts replicas_now posts_now l) (sym passed_is)
           (subst (λ (l : List Post).
           IsWorldParts replicas_now l
-          (looked_again (reply_to (record { site = site; input = input }) (world_value replicas posts)) (site - 1) passed))
+          (looked_again (reply_to (record { site = site; input = input }) (world_value replicas posts)) (site - 1)
+          passed))
           (sym posts_is)
           (subst (λ (l : List ReplicaValue).
           IsWorldParts l (posts ++ new_posts site (length more) (length old.machine.sent))
-          (looked_again (reply_to (record { site = site; input = input }) (world_value replicas posts)) (site - 1) passed))
+          (looked_again (reply_to (record { site = site; input = input }) (world_value replicas posts)) (site - 1)
+          passed))
           (sym e) (parts_moved replicas posts passed p site some within input valid came)));
       value = (λ i. world_value (e i) (posts_is i))
           ∙ value_moved replicas posts passed p site some within input valid came;
@@ -265,7 +279,8 @@ pub record IsAt (replicas : List ReplicaValue) (posts : List Post) (k : ℕ) (p 
   pub sent : slice_get (filter_map (posted replicas) posts) k ≡ Some message
   pub from : sender message ≡ p.site
 
-pub posted_at : (replicas : List ReplicaValue) (posts : List Post) (passed : List ℕ) → IsWorldParts replicas posts passed
+pub posted_at : (replicas : List ReplicaValue) (posts : List Post) (passed : List ℕ)
+    → IsWorldParts replicas posts passed
     → (k : ℕ) (p : Post) → 1 ≤ p.site → slice_get posts k ≡ Some p → IsAt replicas posts k p
 posted_at replicas posts passed w k p some e =
     let s = some_get (posted replicas) posts (filter_map (posted replicas) posts) k p w.standing e in

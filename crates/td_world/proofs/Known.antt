@@ -1,6 +1,7 @@
 -- What it means that a machine would answer Repeat.
 use Rattle.std.proofs.lemmas.Bool.{eqb-true, eq-eqb}
-use Rattle.std.proofs.Common.{◌≡◌, Bool, true, false, if◌then◌else◌, ◌||◌, not, nat_eq, nat_lt, length, Option, Some, None, refl, sym, ap, ◌∙◌, true≢false}
+use Rattle.std.proofs.Common.{◌≡◌, Bool, true, false, if◌then◌else◌, ◌||◌, not, nat_eq, nat_lt}
+use Rattle.std.proofs.Common.{length, Option, Some, None, refl, sym, ap, ◌∙◌, true≢false}
 use Rattle.std.specs.List.{find}
 use Rattle.td_clock.specs.Vector.{vector_get}
 use Rattle.td_op.specs.declared.reply.Reply.TheVariants.{New, Repeat, Unfit, Later}
@@ -11,7 +12,8 @@ use Rattle.td_op.specs.Op.{OpValue}
 use Rattle.td_machine.specs.Decision.{Ballot, is_on, is_counted}
 use Rattle.td_machine.specs.Machine.{Machine, made}
 use Rattle.td_machine.specs.Ready.{is_had, is_ready, waits}
-use Rattle.td_machine.specs.Taking.{Stepped, stepped, misfit, keep_waiting, fit_step, op_step, vote_step, ballot_step, count}
+use Rattle.td_machine.specs.Taking.{Stepped, stepped, misfit, keep_waiting, fit_step}
+use Rattle.td_machine.specs.Taking.{op_step, vote_step, ballot_step, count}
 use Rattle.td_replica.specs.Replica.{is_repeat}
 
 -- a choice that would be a repeat on one side alone
@@ -36,14 +38,16 @@ repeat_op x m e =
     (only (not (nat_eq (length x.deps) m.size)) (stepped (Unfit Size) m)
     (if is_had m.have x || waits x.dot m.waiting then stepped Repeat m else rest) refl e)
   where
-    none : is_repeat (if nat_eq x.dot.site m.site || nat_lt (made m) (vector_get x.deps m.site) then stepped (Unfit Own) m
+    none : is_repeat (if nat_eq x.dot.site m.site || nat_lt (made m) (vector_get x.deps m.site) then stepped
+        (Unfit Own) m
         else (if not (is_ready m.have x) then stepped Later (keep_waiting x m) else fit_step (misfit x m) x m)).reply
         ≡ true → ⊥
     none k =
         let late : Stepped =
         if not (is_ready m.have x) then stepped Later (keep_waiting x m) else fit_step (misfit x m) x m in
         let a =
-        only (nat_eq x.dot.site m.site || nat_lt (made m) (vector_get x.deps m.site)) (stepped (Unfit Own) m) late refl k in
+        only (nat_eq x.dot.site m.site || nat_lt (made m) (vector_get x.deps m.site)) (stepped (Unfit Own) m) late
+        refl k in
         let b =
         only (not (is_ready m.have x)) (stepped Later (keep_waiting x m)) (fit_step (misfit x m) x m) refl a in
         true≢false (sym b ∙ fit_no_repeat (misfit x m) x m)
@@ -94,7 +98,8 @@ repeat_sized x m e = at (nat_eq (length x.deps) m.size) refl e
         → is_repeat (if not b then stepped (Unfit Size) m
         else (if is_had m.have x || waits x.dot m.waiting then stepped Repeat m
         else (if nat_eq x.dot.site m.site || nat_lt (made m) (vector_get x.deps m.site) then stepped (Unfit Own) m
-        else (if not (is_ready m.have x) then stepped Later (keep_waiting x m) else fit_step (misfit x m) x m)))).reply ≡ true
+        else (if not (is_ready m.have x) then stepped Later (keep_waiting x m) else fit_step (misfit x m) x
+        m)))).reply ≡ true
         → length x.deps ≡ m.size
     at true f k = eqb-true (length x.deps) m.size f
     at false f k = absurd (true≢false (sym k))
@@ -109,7 +114,8 @@ from_op x m sized again =
     (eq-eqb (length x.deps) m.size sized)
     ∙ ap (λ (b : Bool). is_repeat (if b then stepped Repeat m
     else (if nat_eq x.dot.site m.site || nat_lt (made m) (vector_get x.deps m.site) then stepped (Unfit Own) m
-    else (if not (is_ready m.have x) then stepped Later (keep_waiting x m) else fit_step (misfit x m) x m))).reply) again
+    else (if not (is_ready m.have x) then stepped Later (keep_waiting x m) else fit_step (misfit x m) x m))).reply)
+    again
 
 -- the vote is for so many sites, and on a proposal of this one
 pub record IsPlaced (v : Vote) (m : Machine) : Type 0 where

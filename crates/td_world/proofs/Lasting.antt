@@ -1,6 +1,7 @@
 -- In a world nothing is unfit and nothing is dropped, so what a site knows it knows from then on. After a pass all that
 -- was sent before it is known; and where all that was sent is known, a pass gives nothing.
-use Rattle.std.proofs.Common.{◌≡◌, ◌<◌, ◌≤◌, ◌-◌, ◌+◌, ◌++◌, ℕ, zero, suc, List, [], ◌∷◌, Bool, true, false, if◌then◌else◌, nat_eq, length, refl, sym, ap, ◌∙◌, subst, inl, inr, ⊎_elim, arith}
+use Rattle.std.proofs.Common.{◌≡◌, ◌<◌, ◌≤◌, ◌-◌, ◌+◌, ◌++◌, ℕ, zero, suc, List, [], ◌∷◌, Bool, true, false}
+use Rattle.std.proofs.Common.{if◌then◌else◌, nat_eq, length, refl, sym, ap, ◌∙◌, subst, inl, inr, ⊎_elim, arith}
 use Rattle.std.proofs.lemmas.Bool.{eqb-true, eqb-false}
 use Rattle.std.specs.Prelude.{IsTrue}
 use Rattle.td_base.specs.Value.{DotValue}
@@ -9,19 +10,23 @@ use Rattle.td_clock.specs.Vector.{vector_has}
 use Rattle.td_clock.proofs.VectorLemmas.{covered_dots}
 use Rattle.td_op.specs.declared.message.Message.{Message}
 use Rattle.td_op.specs.declared.reply.Reply.{Reply}
-use Rattle.td_op.specs.declared.reply.Reply.TheVariants.{Made, Cancelled, Held, Position, Gone, Limit, NotOpen, New, Later, Repeat, Unfit, Taken, Dropped, Idle}
+use Rattle.td_op.specs.declared.reply.Reply.TheVariants.{Made, Cancelled, Held, Position, Gone, Limit, NotOpen, New}
+use Rattle.td_op.specs.declared.reply.Reply.TheVariants.{Later, Repeat, Unfit, Taken, Dropped, Idle}
 use Rattle.td_op.specs.declared.reply.Why.{Why}
 use Rattle.td_machine.specs.Step.{step}
 use Rattle.td_logs.specs.Entries.{EntryOf}
 use Rattle.td_replica.specs.Replica.{ReplicaValue}
-use Rattle.td_world.specs.World.{WorldValue, Move, IsWorld, IsFit, size, replica, machine_of, family_of, reply_to, moved, moved_all}
+use Rattle.td_world.specs.World.{WorldValue, Move, IsWorld, IsFit, size, replica}
+use Rattle.td_world.specs.World.{machine_of, family_of, reply_to, moved, moved_all}
 use Rattle.td_op.specs.Message.{is_for}
-use Rattle.td_world.specs.Calls.{is_known, is_wanted, take, give_moves, nexts_after, wanted_moves, moves_of, give_all_moves, pass_from, pass}
+use Rattle.td_world.specs.Calls.{is_known, is_wanted, take, give_moves, nexts_after}
+use Rattle.td_world.specs.Calls.{wanted_moves, moves_of, give_all_moves, pass_from, pass}
 use Rattle.td_world.specs.Parts.{is_dropped}
 use Rattle.td_world.proofs.Came.{came_known}
 use Rattle.td_world.proofs.Due.{AreDue, due_fit, due_moved, due_wanted, due_moves, due_from, world_due, sent_valid}
 use Rattle.td_world.proofs.Kept.{reached_in}
-use Rattle.td_world.proofs.Moves.{size_family, size_moved, size_after, moved_here, moved_there, moved_both, still_sent, world_moved}
+use Rattle.td_world.proofs.Moves.{size_family, size_moved, size_after, moved_here}
+use Rattle.td_world.proofs.Moves.{moved_there, moved_both, still_sent, world_moved}
 use Rattle.td_world.proofs.Passed.{unwanted_known, not_wanted}
 use Rattle.td_world.proofs.Promised.{promised}
 use Rattle.td_world.proofs.Replicas.{history_from}
@@ -69,7 +74,8 @@ module _ (w : WorldValue) (i : IsWorld w) (move : Move) (fit : IsFit w move) whe
   pub not_unfit : (why : Why) → reply_to move w ≡ Unfit why → ⊥
   unfolding entry_now
   not_unfit why =
-      ((promised (moved move w) (world_moved w i move fit)).nothing_unfit entry_now (record { site = 0; seq = 0 }) why).0
+      ((promised (moved move w) (world_moved w i move fit)).nothing_unfit entry_now (record { site = 0; seq = 0 })
+      why).0
 
   not_dropped : is_dropped (reply_to move w) ≡ false
   unfolding entry_now
@@ -138,7 +144,8 @@ wanted_known site message w i some within sent to = at (is_wanted site message w
     at false e = unwanted_known site message w e to
     at true e =
         let due : AreDue (give_moves site message w) w =
-        subst (λ (b : Bool). AreDue (if b then give_moves site message w else []) w) e (due_wanted site message w some within sent) in
+        subst (λ (b : Bool). AreDue (if b then give_moves site message w else []) w) e
+        (due_wanted site message w some within sent) in
         let fit : IsFit w (take site message) = due_fit w i (take site message) due.0 in
         let same : size (moved (take site message) w) ≡ size w = size_moved w (take site message) in
         known_after (nexts_after site (moved (take site message) w)) (moved (take site message) w)
@@ -160,7 +167,8 @@ moves_known site (first ∷ messages) w i some within sent message j to =
     (sym (moved_both (wanted_moves site first w) (moves_of site messages middle) w))
     (⊎_elim
     (λ (e : message ≡ first).
-    known_after (moves_of site messages middle) middle is (due_moves site messages middle some within_now sent_now) site some
+    known_after (moves_of site messages middle) middle is (due_moves site messages middle some within_now sent_now)
+    site some
     within_now message
     (subst (λ (m : Message). is_known m (machine_of middle site) ≡ true) (sym e)
     (wanted_known site first w i some within (sent first (inl refl))
@@ -207,9 +215,11 @@ from_known (suc k) site w i some within s from to message j f =
         (moved_all (give_all_moves site w) w)) s) ≡ true
     at low is within_now true e rest =
         let here : s ≡ site = eqb-true s site e in
-        subst (λ (t : ℕ). is_known message (machine_of (moved_all (pass_from k (suc site) (moved_all (give_all_moves site w) w))
+        subst (λ (t : ℕ). is_known message (machine_of
+        (moved_all (pass_from k (suc site) (moved_all (give_all_moves site w) w))
         (moved_all (give_all_moves site w) w)) t) ≡ true) (sym here)
-        (known_after (pass_from k (suc site) (moved_all (give_all_moves site w) w)) (moved_all (give_all_moves site w) w) is
+        (known_after (pass_from k (suc site) (moved_all (give_all_moves site w) w))
+        (moved_all (give_all_moves site w) w) is
         (due_from k (suc site) (moved_all (give_all_moves site w) w) (omega arith) within_now) site some
         (low_after (give_all_moves site w) w site low) message
         (moves_known site w.sent w i some low (λ m l. l) message j (subst (λ (t : ℕ). is_for t message ≡ true) here f)))

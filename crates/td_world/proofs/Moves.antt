@@ -1,5 +1,7 @@
 -- A move that fits a world leads to a world.
-use Rattle.std.proofs.Common.{◌≡◌, ◌≢◌, ◌<◌, ◌≤◌, ◌-◌, ◌++◌, ℕ, suc, List, [], ◌∷◌, Bool, true, false, not, nat_eq, length, map, filter, drop, set, refl, sym, ap, ◌∙◌, subst, ⊎_elim, append-nil, true≢false, arith}
+use Rattle.std.proofs.Common.{◌≡◌, ◌≢◌, ◌<◌, ◌≤◌, ◌-◌, ◌++◌, ℕ, suc, List, [], ◌∷◌, Bool, true}
+use Rattle.std.proofs.Common.{false, not, nat_eq, length, map, filter, drop, set, refl, sym, ap, ◌∙◌}
+use Rattle.std.proofs.Common.{subst, ⊎_elim, append-nil, true≢false, arith}
 use Rattle.std.proofs.lemmas.Bool.{eqb-true, eqb-false, eq-eqb, and_parts}
 use Rattle.std.proofs.lemmas.List.{length-set}
 use Rattle.std.proofs.lemmas.List.Elements.{filter-append}
@@ -16,7 +18,8 @@ use Rattle.td_op.specs.Message.{sender, is_for}
 use Rattle.td_machine.proofs.Growing.{consistent_more, step_sends}
 use Rattle.td_machine.proofs.Induction.{after_both}
 use Rattle.td_replica.specs.Replica.{ReplicaValue, after_step}
-use Rattle.td_world.specs.World.{WorldValue, Move, IsWorld, IsFit, size, replica, machine_of, family_of, is_sent_by, sent_by, moved, moved_all}
+use Rattle.td_world.specs.World.{WorldValue, Move, IsWorld, IsFit, size, replica, machine_of}
+use Rattle.td_world.specs.World.{family_of, is_sent_by, sent_by, moved, moved_all}
 use Rattle.td_world.proofs.Named.{sending_end, own_named, site_is}
 use Rattle.td_world.proofs.Replicas.{set_same, set_other, history_from, with_entries}
 
@@ -79,7 +82,8 @@ module _ (w : WorldValue) (i : IsWorld w) where
       let sent : In message (machine (family_of w) (sender message)).sent =
       subst (λ (m : Machine). In message m.sent) (i.machines (sender message) from.0 from.1)
       (subst (λ (l : List Message). In message l) (i.sent (sender message) from.0 from.1)
-      (filter_In (is_sent_by (sender message)) message w.sent inside (eq-eqb (sender message) (sender message) refl))) in
+      (filter_In (is_sent_by (sender message)) message w.sent inside (eq-eqb (sender message) (sender message) refl)))
+      in
       record {
         another = p.0;
         sent = sent;
@@ -120,7 +124,8 @@ module _ (w : WorldValue) (i : IsWorld w) (move : Move) (fit : IsFit w move) whe
   family_now : family_of now ≡ with_entry (family_of w) move.site entry
   family_now =
       with_entries w.replicas (move.site - 1) (after_step move.input (replica w move.site)) entry
-      (ap (λ (m : Machine). (replica w move.site).entries ++ (record { input = move.input; reply = (step m move.input).reply }) ∷ [])
+      (ap (λ (m : Machine). (replica w move.site).entries
+      ++ (record { input = move.input; reply = (step m move.input).reply }) ∷ [])
       same_old)
 
   consistent_now : IsConsistent (family_of now)
@@ -137,7 +142,8 @@ module _ (w : WorldValue) (i : IsWorld w) (move : Move) (fit : IsFit w move) whe
   machine_now : (s : ℕ) → machine (family_of now) s ≡ after (start s (length (family_of w))) (replica now s).entries
   machine_now s =
       ap (λ (n : ℕ). after (start s n) (history (family_of now) s)) length_now
-      ∙ ap (λ (h : History). after (start s (length (family_of w))) h) (history_from (set w.replicas (move.site - 1) (after_step move.input (replica w move.site))) (s - 1))
+      ∙ ap (λ (h : History). after (start s (length (family_of w))) h)
+      (history_from (set w.replicas (move.site - 1) (after_step move.input (replica w move.site))) (s - 1))
 
   machine_was : (s : ℕ) → machine (family_of w) s ≡ after (start s (length (family_of w))) (replica w s).entries
   machine_was s = ap (λ (h : History). after (start s (length (family_of w))) h) (history_from w.replicas (s - 1))
@@ -172,8 +178,10 @@ module _ (w : WorldValue) (i : IsWorld w) (move : Move) (fit : IsFit w move) whe
 
   own_sent : (message : Message) → In message (sent_by move w) → sender message ≡ move.site
   own_sent message j =
-      let within : move.site ≤ size now = (let k : size now ≡ size w = same_size in let l : move.site ≤ size w = fit.within in omega (arith, k, l)) in
-      let few : move.site ≤ length (family_of now) = (let k : length (family_of now) ≡ size now = size_family now in omega (arith, k, within)) in
+      let within : move.site ≤ size now = (let k : size now ≡ size w = same_size in
+      let l : move.site ≤ size w = fit.within in omega (arith, k, l)) in
+      let few : move.site ≤ length (family_of now) =
+      (let k : length (family_of now) ≡ size now = size_family now in omega (arith, k, within)) in
       let end : machine (family_of now) move.site ≡ new =
       sym (machines_now move.site fit.some within) ∙ ap (λ (r : ReplicaValue). r.machine) here in
       let inside : In message new.sent = In-drop message (length old.sent) new.sent j in
@@ -193,20 +201,24 @@ module _ (w : WorldValue) (i : IsWorld w) (move : Move) (fit : IsFit w move) whe
           filter-append (is_sent_by s) w.sent (sent_by move w)
           ∙ ap (λ (l : List Message). l ++ filter (is_sent_by s) (sent_by move w)) (i.sent s up few)
           ∙ ap (λ (l : List Message). (machine_of w s).sent ++ l)
-          (filter_all (is_sent_by s) (sent_by move w) (λ message j. eq-eqb (sender message) s (own_sent message j ∙ sym same)))
+          (filter_all (is_sent_by s) (sent_by move w) (λ message j. eq-eqb (sender message) s
+          (own_sent message j ∙ sym same)))
           ∙ ap (λ (t : ℕ). (machine_of w t).sent ++ sent_by move w) same
-          ∙ sym (ap (λ (t : ℕ). (machine_of now t).sent) same ∙ ap (λ (r : ReplicaValue). r.machine.sent) here ∙ more_sent)
+          ∙ sym (ap (λ (t : ℕ). (machine_of now t).sent) same ∙ ap (λ (r : ReplicaValue). r.machine.sent) here
+          ∙ more_sent)
       at false e =
           let other : s ≢ move.site = eqb-false s move.site e in
           filter-append (is_sent_by s) w.sent (sent_by move w)
           ∙ ap (λ (l : List Message). l ++ filter (is_sent_by s) (sent_by move w)) (i.sent s up few)
           ∙ ap (λ (l : List Message). (machine_of w s).sent ++ l)
           (filter_none (is_sent_by s) (sent_by move w)
-          (λ message j. off message (λ (k : sender message ≡ s). other (sym k ∙ own_sent message j)) (nat_eq (sender message) s) refl))
+          (λ message j. off message (λ (k : sender message ≡ s). other (sym k ∙ own_sent message j))
+          (nat_eq (sender message) s) refl))
           ∙ append-nil (machine_of w s).sent
           ∙ sym (ap (λ (r : ReplicaValue). r.machine.sent) (there s up other))
         where
-          off : (message : Message) → (sender message ≡ s → ⊥) → (b : Bool) → nat_eq (sender message) s ≡ b → nat_eq (sender message) s ≡ false
+          off : (message : Message) → (sender message ≡ s → ⊥) → (b : Bool) → nat_eq (sender message) s ≡ b
+              → nat_eq (sender message) s ≡ false
           off message apart true f = absurd (apart (eqb-true (sender message) s f))
           off message apart false f = f
 

@@ -1,5 +1,7 @@
 -- A site goes on until no operation that waits can be taken; each that is taken or dropped is one fewer to wait.
-use Rattle.std.proofs.Common.{◌≡◌, ◌≢◌, ◌<◌, ◌≤◌, ◌+◌, ◌++◌, ℕ, zero, suc, List, [], ◌∷◌, Bool, true, false, if◌then◌else◌, not, nat_eq, length, filter, Option, Some, None, refl, sym, ap, ◌∙◌, subst, inl, inr, true≢false, arith}
+use Rattle.std.proofs.Common.{◌≡◌, ◌≢◌, ◌<◌, ◌≤◌, ◌+◌, ◌++◌, ℕ, zero, suc, List, [], ◌∷◌, Bool, true}
+use Rattle.std.proofs.Common.{false, if◌then◌else◌, not, nat_eq, length, filter, Option, Some, None, refl}
+use Rattle.std.proofs.Common.{sym, ap, ◌∙◌, subst, inl, inr, true≢false, arith}
 use Rattle.std.proofs.lemmas.Bool.{eqb-true, eqb-false}
 use Rattle.std.specs.List.{AllByRecursion}
 use Rattle.td_base.proofs.Equals.{same_dot_refl}
@@ -21,7 +23,8 @@ use Rattle.td_machine.proofs.StepKinds.{least_in}
 use Rattle.td_replica.specs.Replica.{ReplicaValue, is_idle}
 use Rattle.td_world.specs.World.{WorldValue, Move, size, replica, machine_of, moved, moved_all}
 use Rattle.td_op.specs.Message.{is_for}
-use Rattle.td_world.specs.Calls.{is_ready, next, take, nexts, nexts_after, give_moves, found_moves, wanted_moves, is_wanted, moves_of, give_all_moves, pass_from, pass, passes}
+use Rattle.td_world.specs.Calls.{is_ready, next, take, nexts, nexts_after, give_moves, found_moves, wanted_moves}
+use Rattle.td_world.specs.Calls.{is_wanted, moves_of, give_all_moves, pass_from, pass, passes}
 use Rattle.td_world.specs.Promises.{NobodyReady}
 use Rattle.td_world.proofs.Moves.{size_moved, size_after, moved_here, moved_there, moved_both}
 
@@ -64,7 +67,8 @@ ready_none have waiting h = ap least_op (nothing waiting h)
         → filter (is_ready_op have) ops ≡ []
     nothing [] g = refl
     nothing (y ∷ ops) g =
-        ap (λ (b : Bool). if b then y ∷ filter (is_ready_op have) ops else filter (is_ready_op have) ops) (g y (inl refl))
+        ap (λ (b : Bool). if b then y ∷ filter (is_ready_op have) ops else filter (is_ready_op have) ops)
+        (g y (inl refl))
         ∙ nothing ops (λ x i. g x (inr i))
 
 take_waiting : (slot : Option Slot) (x : OpValue) (m : Machine) → (take_as slot x m).waiting ≡ m.waiting

@@ -1,5 +1,7 @@
 -- How many messages need not be looked at again.
-use Rattle.std.proofs.Common.{◌≡◌, ◌<◌, ◌≤◌, ◌+◌, ◌-◌, ◌++◌, ℕ, zero, suc, List, [], ◌∷◌, Bool, true, false, not, ◌&&◌, ◌==◌, ◌≢◌, ⊎_elim, if◌then◌else◌, nat_eq, length, set, get_or, drop, Some, None, refl, sym, ap, ◌∙◌, subst, true≢false, arith}
+use Rattle.std.proofs.Common.{◌≡◌, ◌<◌, ◌≤◌, ◌+◌, ◌-◌, ◌++◌, ℕ, zero, suc, List, [], ◌∷◌, Bool, true, false}
+use Rattle.std.proofs.Common.{not, ◌&&◌, ◌==◌, ◌≢◌, ⊎_elim, if◌then◌else◌, nat_eq, length, set, get_or, drop}
+use Rattle.std.proofs.Common.{Some, None, refl, sym, ap, ◌∙◌, subst, true≢false, arith}
 use Rattle.std.proofs.lemmas.Bool.{eqb-true, eqb-false, and_from}
 use Rattle.std.proofs.lemmas.Bool.Decides.{eqb_tells}
 use Rattle.std.proofs.lemmas.List.{length-set}
@@ -15,7 +17,8 @@ use Rattle.td_world.specs.Calls.{is_known, is_wanted, give_moves, took, wanted_m
 use Rattle.td_world.specs.Parts.{IsPassed, ArePassed, IsWorldParts, world_value}
 use Rattle.td_world.proofs.Kept.{get_found, set_there, set_value}
 
-pub passed_at : (replicas : List ReplicaValue) (posts : List Post) (passed : List ℕ) → IsWorldParts replicas posts passed
+pub passed_at : (replicas : List ReplicaValue) (posts : List Post) (passed : List ℕ)
+    → IsWorldParts replicas posts passed
     → (w : WorldValue) → world_value replicas posts ≡ w
     → (site place count : ℕ) → place ≡ site - 1 → 1 ≤ site → site ≤ length replicas → count ≡ get_or passed place count
     → ArePassed site w count
@@ -90,12 +93,14 @@ parts_passed replicas posts passed p w is site place k e some within at less nex
             subst (λ (i : ℕ). IsPassed site (world_value replicas posts) i) (sym (eqb-true j k h)) next_here
         each j below false h = let other = eqb-false j k h in old.1 j (omega (arith, below, other))
 
-    cases : (other count : ℕ) → (b : Bool) → nat_eq place other ≡ b → slice_get (set passed place (k + 1)) other ≡ Some count
+    cases : (other count : ℕ) → (b : Bool) → nat_eq place other ≡ b → slice_get (set passed place (k + 1)) other
+        ≡ Some count
         → ArePassed (other + 1) (world_value replicas posts) count
     cases other count true h f =
         let same : place ≡ other = eqb-true place other h in
         let value : k + 1 ≡ count =
-        set_value passed place (k + 1) count (subst (λ (j : ℕ). slice_get (set passed place (k + 1)) j ≡ Some count) (sym same) f) in
+        set_value passed place (k + 1) count (subst (λ (j : ℕ). slice_get (set passed place (k + 1)) j ≡ Some count)
+        (sym same) f) in
         let here : site ≡ other + 1 = omega (arith, e, some, same) in
         subst (λ (s : ℕ). ArePassed s (world_value replicas posts) count) here
         (subst (λ (n : ℕ). ArePassed site (world_value replicas posts) n) value more)
@@ -117,12 +122,14 @@ not_wanted site message w h = at (is_for site message) refl
 -- what a site sent is not given to it
 pub own_moves : (site : ℕ) (m : Message) (w : WorldValue) → sender m ≡ site → w ≡ moved_all (wanted_moves site m w) w
 own_moves site m w own =
-    let off : is_wanted site m w ≡ false = not_wanted site m w (λ to. absurd (true≢false (sym to ∙ own_is_not_for site m own))) in
+    let off : is_wanted site m w ≡ false = not_wanted site m w
+    (λ to. absurd (true≢false (sym to ∙ own_is_not_for site m own))) in
     rw off refl
 
 pub own_answer : (site : ℕ) (m : Message) (w : WorldValue) → sender m ≡ site → None ≡ wanted_answer site m w
 own_answer site m w own =
-    let off : is_wanted site m w ≡ false = not_wanted site m w (λ to. absurd (true≢false (sym to ∙ own_is_not_for site m own))) in
+    let off : is_wanted site m w ≡ false = not_wanted site m w
+    (λ to. absurd (true≢false (sym to ∙ own_is_not_for site m own))) in
     rw off refl
 
 -- the moves for messages of which some need not be looked at

@@ -1,5 +1,6 @@
 -- A pass that gives nothing finds nothing that is wanted; so then, where nobody is ready, all is settled.
-use Rattle.std.proofs.Common.{◌≡◌, ◌<◌, ◌≤◌, ◌+◌, ◌++◌, ℕ, zero, suc, List, [], ◌∷◌, Bool, true, false, if◌then◌else◌, nat_eq, length, refl, sym, ap, ◌∙◌, subst, ⊎_elim, arith}
+use Rattle.std.proofs.Common.{◌≡◌, ◌<◌, ◌≤◌, ◌+◌, ◌++◌, ℕ, zero, suc, List, [], ◌∷◌, Bool, true, false}
+use Rattle.std.proofs.Common.{if◌then◌else◌, nat_eq, length, refl, sym, ap, ◌∙◌, subst, ⊎_elim, arith}
 use Rattle.std.proofs.lemmas.Bool.{eqb-true, eqb-false}
 use Rattle.td_base.specs.Lists.{In}
 use Rattle.td_base.proofs.Lists.{In-filter}
@@ -7,7 +8,8 @@ use Rattle.td_op.specs.declared.message.Message.{Message}
 use Rattle.td_machine.specs.Machine.{Machine, undecided}
 use Rattle.td_world.specs.World.{WorldValue, Move, IsWorld, size, machine_of, family_of, is_sent_by, moved_all}
 use Rattle.td_op.specs.Message.{is_for}
-use Rattle.td_world.specs.Calls.{is_known, is_wanted, is_ready, give_moves, wanted_moves, moves_of, give_all_moves, pass_from, pass}
+use Rattle.td_world.specs.Calls.{is_known, is_wanted, is_ready, give_moves, wanted_moves}
+use Rattle.td_world.specs.Calls.{moves_of, give_all_moves, pass_from, pass}
 use Rattle.td_world.specs.Promises.{NobodyReady, SameVectors, AllDecided}
 use Rattle.td_world.proofs.Moves.{size_family}
 use Rattle.td_world.proofs.Passed.{unwanted_known}
@@ -24,7 +26,8 @@ none_wanted site (m ∷ messages) w e message i =
     let p =
     nothing_both (wanted_moves site m w) (moves_of site messages (moved_all (wanted_moves site m w) w)) e in
     ⊎_elim
-    (λ (k : message ≡ m). subst (λ (z : Message). is_wanted site z w ≡ false) (sym k) (unwanted (is_wanted site m w) refl p.0))
+    (λ (k : message ≡ m). subst (λ (z : Message). is_wanted site z w ≡ false) (sym k)
+    (unwanted (is_wanted site m w) refl p.0))
     (λ (j : In message messages).
     none_wanted site messages w
     (subst (λ (moves : List Move). moves_of site messages (moved_all moves w) ≡ []) p.0 p.1) message j) i
@@ -65,7 +68,8 @@ module _ (w : WorldValue) (i : IsWorld w) (nobody : NobodyReady w) (still : pass
 
   none_ready_of : NoneReady (family_of w)
   none_ready_of t up low =
-      subst (λ (m : Machine). is_ready m ≡ false) (i.machines t up (within_world t low)) (nobody t up (within_world t low))
+      subst (λ (m : Machine). is_ready m ≡ false) (i.machines t up (within_world t low))
+      (nobody t up (within_world t low))
 
   all_known_of : AllKnown (family_of w)
   all_known_of s t a b up low message inside to =
@@ -80,7 +84,8 @@ module _ (w : WorldValue) (i : IsWorld w) (nobody : NobodyReady w) (still : pass
   pub settled_vectors : SameVectors w
   settled_vectors r s a b d e =
       ap (λ (m : Machine). m.have) (i.machines r a b)
-      ∙ same_vectors (family_of w) i.consistent none_ready_of all_known_of r s a (within_family r b) d (within_family s e)
+      ∙ same_vectors (family_of w) i.consistent none_ready_of all_known_of r s a (within_family r b) d
+      (within_family s e)
       ∙ sym (ap (λ (m : Machine). m.have) (i.machines s d e))
 
   pub settled_decided : AllDecided w

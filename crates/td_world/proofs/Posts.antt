@@ -1,5 +1,6 @@
 -- Messages kept by their site and their number there.
-use Rattle.std.proofs.Common.{◌≡◌, ◌<◌, ◌≤◌, ◌+◌, ◌-◌, ◌++◌, ℕ, suc, List, [], ◌∷◌, Bool, true, false, nat_eq, length, drop, set, Option, Some, None, refl, sym, ap, ◌∙◌, subst, append_assoc, arith}
+use Rattle.std.proofs.Common.{◌≡◌, ◌<◌, ◌≤◌, ◌+◌, ◌-◌, ◌++◌, ℕ, suc, List, [], ◌∷◌, Bool, true, false, nat_eq, length}
+use Rattle.std.proofs.Common.{drop, set, Option, Some, None, refl, sym, ap, ◌∙◌, subst, append_assoc, arith}
 use Rattle.std.proofs.lemmas.Bool.{eqb-true, eqb-false, eq-eqb}
 use Rattle.std.specs.Prelude.{if◌then◌else◌}
 use Rattle.std.specs.List.{filter_map, slice_get}
@@ -82,7 +83,8 @@ stand_both f (x ∷ xs) (y ∷ ys) xs2 ys2 h k = (h.0, stand_both f xs ys xs2 ys
 
 -- ---- after a step
 
-module _ (replicas : List ReplicaValue) (posts : List Post) (site : ℕ) (some : 0 < site) (within : site ≤ length replicas)
+module _ (replicas : List ReplicaValue) (posts : List Post) (site : ℕ) (some : 0 < site)
+    (within : site ≤ length replicas)
     (input : Input) where
   abbrev old : ReplicaValue
   old = replica_from replicas (site - 1)

@@ -1,5 +1,6 @@
 -- Replicas side by side: one of them changed, and their histories.
-use Rattle.std.proofs.Common.{◌≡◌, ◌≢◌, ◌<◌, ◌≤◌, ◌+◌, ◌-◌, ◌++◌, ℕ, zero, suc, List, [], ◌∷◌, length, map, set, get_or, refl, ap, ◌∙◌, arith}
+use Rattle.std.proofs.Common.{◌≡◌, ◌≢◌, ◌<◌, ◌≤◌, ◌+◌, ◌-◌, ◌++◌, ℕ, zero, suc, List, [], ◌∷◌}
+use Rattle.std.proofs.Common.{length, map, set, get_or, refl, ap, ◌∙◌, arith}
 use Rattle.std.specs.Prelude.{Some}
 use Rattle.std.specs.List.{slice_get}
 use Rattle.td_op.specs.declared.entry.Entry.{Entry}
@@ -39,8 +40,10 @@ pub with_entries : (replicas : List ReplicaValue) (k : ℕ) (r : ReplicaValue) (
     → map (λ (q : ReplicaValue). q.entries) (set replicas k r)
     ≡ with_entry_at k e (map (λ (q : ReplicaValue). q.entries) replicas)
 with_entries [] k r e more = refl
-with_entries (q ∷ replicas) zero r e more = ap (λ (h : History). h ∷ map (λ (p : ReplicaValue). p.entries) replicas) more
-with_entries (q ∷ replicas) (suc k) r e more = ap (λ (t : List History). q.entries ∷ t) (with_entries replicas k r e more)
+with_entries (q ∷ replicas) zero r e more = ap (λ (h : History). h ∷ map (λ (p : ReplicaValue). p.entries) replicas)
+    more
+with_entries (q ∷ replicas) (suc k) r e more =
+    ap (λ (t : List History). q.entries ∷ t) (with_entries replicas k r e more)
 
 pub new_length : (n k site : ℕ) → length (new_replicas n k site) ≡ k
 new_length n zero site = refl

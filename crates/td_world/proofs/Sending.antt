@@ -1,5 +1,6 @@
 -- What a machine sent: its own operations, and its votes on the proposals that it took.
-use Rattle.std.proofs.Common.{◌≡◌, ◌≢◌, ◌++◌, ℕ, List, [], ◌∷◌, Bool, true, false, None, Some, refl, sym, ap, ◌∙◌, subst, inl, inr, ⊎_elim}
+use Rattle.std.proofs.Common.{◌≡◌, ◌≢◌, ◌++◌, ℕ, List, [], ◌∷◌, Bool, true, false, None, Some}
+use Rattle.std.proofs.Common.{refl, sym, ap, ◌∙◌, subst, inl, inr, ⊎_elim}
 use Rattle.td_base.specs.Value.{DotValue}
 use Rattle.td_base.specs.Lists.{In}
 use Rattle.td_base.proofs.Lists.{In-append, In-front, In-back}
@@ -13,7 +14,8 @@ use Rattle.td_op.specs.Op.{OpValue}
 use Rattle.td_machine.specs.Log.{proposed}
 use Rattle.td_machine.specs.Machine.{Machine, next_op}
 use Rattle.td_op.specs.Message.{sender}
-use Rattle.td_machine.proofs.Parts.{IsBuilt, Part, Makes, Proposes, Counts, Takes, Agrees, Declines, Delays, Forgets, vote_here, by_parts}
+use Rattle.td_machine.proofs.Parts.{IsBuilt, Part, Makes, Proposes, Counts, Takes, Agrees}
+use Rattle.td_machine.proofs.Parts.{Declines, Delays, Forgets, vote_here, by_parts}
 
 pub proposal_of : (slot : Slot) (b : Body) → proposed b ≡ Some slot → b ≡ Propose slot
 proposal_of slot (Propose s) e = ap Propose (same s slot e)
@@ -128,8 +130,13 @@ module _ {Came : Message → Type 0} {site size : ℕ} where
       answered_voted : (y : OpValue) (says : Bool) (m : Machine) → IsSending m → (x : OpValue) (slot : Slot)
           → In x (y ∷ m.log) → x.dot.site ≢ m.site → x.body ≡ Propose slot
           → HasVoted m.site (m.sent ++ AVote (vote_here y says m) ∷ []) x.dot
-      answered_voted y says m s x slot (inl k) there asks =
-          (vote_here y says m, In-back (AVote (vote_here y says m)) m.sent (AVote (vote_here y says m) ∷ []) (inl refl), ap (λ (z : OpValue). z.dot) (sym k), refl)
+      answered_voted y says m s x slot (inl k) there asks = (
+        vote_here y says m,
+        In-back (AVote (vote_here y says m)) m.sent (AVote (vote_here y says m) ∷ [])
+            (inl refl),
+        ap (λ (z : OpValue). z.dot) (sym k),
+        refl,
+      )
       answered_voted y says m s x slot (inr i) there asks =
           more_voted m.site m.sent (AVote (vote_here y says m) ∷ []) x.dot (s.voted x slot i there asks)
 
@@ -161,7 +168,8 @@ module _ {Came : Message → Type 0} {site size : ℕ} where
             voted = λ x slot i there asks.
                 subst (λ (k : ℕ). HasVoted k n.sent x.dot) (sym at)
                 (subst (λ (l : List Message). HasVoted m.site l x.dot) (sym sent)
-                (own_voted body m s x slot (subst (λ (l : List OpValue). In x l) log i) (λ e. there (e ∙ sym at)) asks));
+                (own_voted body m s x slot (subst (λ (l : List OpValue). In x l) log i) (λ e. there (e ∙ sym at))
+                asks));
           }
 
       answered : (y : OpValue) (says : Bool) (m n : Machine) → y.dot.site ≢ m.site → n.site ≡ m.site

@@ -1,6 +1,8 @@
 -- Where nobody is ready and everybody knows what was sent, all sites have the same operations and each proposal is
 -- decided.
-use Rattle.std.proofs.Common.{◌≡◌, ◌≢◌, ◌<◌, ◌≤◌, ◌-◌, ℕ, zero, suc, List, [], ◌∷◌, Bool, true, false, not, ◌||◌, if◌then◌else◌, nat_eq, nat_le, get_or, length, Option, Some, None, refl, sym, ap, ◌∙◌, subst, inl, inr, true≢false, arith}
+use Rattle.std.proofs.Common.{◌≡◌, ◌≢◌, ◌<◌, ◌≤◌, ◌-◌, ℕ, zero, suc, List, [], ◌∷◌, Bool, true, false, not}
+use Rattle.std.proofs.Common.{◌||◌, if◌then◌else◌, nat_eq, nat_le, get_or, length, Option, Some, None, refl}
+use Rattle.std.proofs.Common.{sym, ap, ◌∙◌, subst, inl, inr, true≢false, arith}
 use Rattle.std.proofs.lemmas.Bool.{eqb-true, eqb-false, eq-eqb, leb-true, leb-false, le-leb, and_from}
 use Rattle.std.proofs.Math.ListN.{get_or-eq_default}
 use Rattle.std.specs.Prelude.{IsTrue}
@@ -100,7 +102,8 @@ module _ (family : Family) (c : IsConsistent family) where
 
   -- a number of a vector is that of an operation
   had_found : (t : ℕ) → 0 < t → t ≤ n → (u : ℕ) → 0 < u → 0 < vector_get (machine family t).have u
-      → (y : OpValue) × In y (log_of family t) × (y.dot ≡ record { site = u; seq = vector_get (machine family t).have u })
+      → (y : OpValue) × In y (log_of family t) × (y.dot
+      ≡ record { site = u; seq = vector_get (machine family t).have u })
   had_found t some within u up less = at (nat_le u n) refl
     where
       at : (b : Bool) → nat_le u n ≡ b
@@ -154,7 +157,8 @@ module _ (family : Family) (c : IsConsistent family) where
       → IsTrue (vector_covers (machine family t).have x.deps)
   covered t some within x o ih =
       covers_from_dots (machine family t).have x.deps (omega (arith, same_long))
-      (λ d has. at d (leb-true d.seq (vector_get x.deps d.site) has) (nat_eq (vector_get x.deps (suc (d.site - 1))) 0) refl)
+      (λ d has. at d (leb-true d.seq (vector_get x.deps d.site) has) (nat_eq (vector_get x.deps (suc (d.site - 1))) 0)
+      refl)
     where
       same_long : length x.deps ≡ length (machine family t).have
       same_long = size_of family c x o ∙ sym (long t some within)
@@ -257,7 +261,8 @@ module _ (family : Family) (c : IsConsistent family) (idle : NoneReady family) (
       (λ y q soon to.
       let home = made_at family c y q in
       known y.dot.site t home.0 home.1 some within (AnOp y)
-      ((sending_end family c y.dot.site home.0 home.1).made y home.2 (sym (site_is family c y.dot.site home.0 home.1))) to)
+      ((sending_end family c y.dot.site home.0 home.1).made y home.2
+      (sym (site_is family c y.dot.site home.0 home.1))) to)
       x o tt
 
   pub log_of_all : (x : OpValue) → IsOpOf family x → (t : ℕ) → 0 < t → t ≤ length family → In x (log_of family t)
@@ -270,17 +275,21 @@ module _ (family : Family) (c : IsConsistent family) (idle : NoneReady family) (
       ap (λ (v : List ℕ). vector_get v x.dot.site) (in_turn family c t some within)
       ∙ total (length family) x.dot.site (log_of family t) home.0 home.1 turn in
       let f : Found (record { site = x.dot.site; seq = x.dot.seq }) (log_of family t) =
-      found (length family) x.dot.site x.dot.seq (log_of family t) (positive x home.2 home.0 home.1) turn (omega (arith, had, all)) in
+      found (length family) x.dot.site x.dot.seq (log_of family t) (positive x home.2 home.0 home.1) turn
+      (omega (arith, had, all)) in
       subst (λ (z : OpValue). In z (log_of family t))
       (same_op family c x f.op o (op_in family c t some within f.op f.inside) f.is) f.inside
     where
-      positive : (y : OpValue) → In y (log_of family y.dot.site) → 0 < y.dot.site → y.dot.site ≤ length family → 0 < y.dot.seq
+      positive : (y : OpValue) → In y (log_of family y.dot.site) → 0 < y.dot.site → y.dot.site ≤ length family
+          → 0 < y.dot.seq
       positive y i up low = (of_sites_of y i up low)
         where
-          of_sites_of : (z : OpValue) → In z (log_of family z.dot.site) → 0 < z.dot.site → z.dot.site ≤ length family → 0 < z.dot.seq
+          of_sites_of : (z : OpValue) → In z (log_of family z.dot.site) → 0 < z.dot.site → z.dot.site ≤ length family
+              → 0 < z.dot.seq
           of_sites_of z j a b = (of_sites (machine family z.dot.site) (reached_end family c z.dot.site a b) z j).2
 
-  pub same_vectors : (r s : ℕ) → 0 < r → r ≤ length family → 0 < s → s ≤ length family → (machine family r).have ≡ (machine family s).have
+  pub same_vectors : (r s : ℕ) → 0 < r → r ≤ length family → 0 < s → s ≤ length family → (machine family r).have
+      ≡ (machine family s).have
   same_vectors r s a b d e =
       same_from_covers (machine family r).have (machine family s).have (covers r s a b d e) (covers s r d e a b)
     where
@@ -301,7 +310,8 @@ module _ (family : Family) (c : IsConsistent family) (idle : NoneReady family) (
           at d h true z =
               let none : vector_get (machine family u).have (suc (d.site - 1)) ≡ 0 =
               eqb-true (vector_get (machine family u).have (suc (d.site - 1))) 0 z in
-              let same : vector_get (machine family u).have (suc (d.site - 1)) ≡ vector_get (machine family u).have d.site =
+              let same : vector_get (machine family u).have (suc (d.site - 1))
+              ≡ vector_get (machine family u).have d.site =
               get_same (machine family u).have d.site in
               le-leb d.seq (vector_get (machine family t).have d.site) (omega (arith, none, same, h))
           at d h false z =
@@ -315,9 +325,11 @@ module _ (family : Family) (c : IsConsistent family) (idle : NoneReady family) (
               (vector_get (machine family t).have (suc (d.site - 1)))
               (subst (λ (q : DotValue). IsTrue (vector_has (machine family t).have q)) y.2
               (had_by_all y.0 (op_in family c u up low y.0 y.1) t some within)) in
-              let same : vector_get (machine family u).have (suc (d.site - 1)) ≡ vector_get (machine family u).have d.site =
+              let same : vector_get (machine family u).have (suc (d.site - 1))
+              ≡ vector_get (machine family u).have d.site =
               get_same (machine family u).have d.site in
-              let now : vector_get (machine family t).have (suc (d.site - 1)) ≡ vector_get (machine family t).have d.site =
+              let now : vector_get (machine family t).have (suc (d.site - 1))
+              ≡ vector_get (machine family t).have d.site =
               get_same (machine family t).have d.site in
               le-leb d.seq (vector_get (machine family t).have d.site) (omega (arith, h, had, same, now))
             where
@@ -327,7 +339,8 @@ module _ (family : Family) (c : IsConsistent family) (idle : NoneReady family) (
   -- ---- votes
 
   -- each site's Yes is counted on an open ballot
-  all_yes : (s : ℕ) (some : 0 < s) (within : s ≤ length family) (b : Ballot) → In b (machine family s).ballots → is_open b ≡ true
+  all_yes : (s : ℕ) (some : 0 < s) (within : s ≤ length family) (b : Ballot) → In b (machine family s).ballots
+      → is_open b ≡ true
       → (t : ℕ) → 0 < t → t ≤ length family → In t b.yes
   all_yes s some within b i opened t up low = at (nat_eq t s) refl
     where
@@ -346,7 +359,8 @@ module _ (family : Family) (c : IsConsistent family) (idle : NoneReady family) (
           let same : k.ballot ≡ b =
           one_ballot (machine family s).ballots (balloting (machine family s) built).apart k.ballot b f.0 i (f.1 ∙ e) in
           cases b.decision opened
-          (ap (λ (z : Ballot). is_some z.decision || list_any (λ (site : ℕ). nat_eq v.voter site) z.yes) (sym same) ∙ k.counted)
+          (ap (λ (z : Ballot). is_some z.decision || list_any (λ (site : ℕ). nat_eq v.voter site) z.yes) (sym same)
+          ∙ k.counted)
         where
           cases : (o : Option Bool) → is_none o ≡ true
               → (is_some o || list_any (λ (site : ℕ). nat_eq v.voter site) b.yes) ≡ true → In t b.yes
@@ -377,14 +391,17 @@ module _ (family : Family) (c : IsConsistent family) (idle : NoneReady family) (
           ((balloting (machine family s) built).own b i)
       at false e = voted (eqb-false t s e)
 
-  pub none_open : (s : ℕ) → 0 < s → s ≤ length family → (b : Ballot) → In b (machine family s).ballots → is_open b ≡ false
+  pub none_open : (s : ℕ) → 0 < s → s ≤ length family → (b : Ballot) → In b (machine family s).ballots → is_open b
+      ≡ false
   none_open s some within b i = at (is_open b) refl
     where
       at : (z : Bool) → is_open b ≡ z → is_open b ≡ false
       at false e = e
       at true e =
-          let many : length family ≤ length b.yes = as_many (length family) b.yes (λ t up low. all_yes s some within b i e t up low) in
-          let few : length b.yes < (machine family s).size = few_yes (machine family s) (reached_end family c s some within) b i e in
+          let many : length family ≤ length b.yes = as_many (length family) b.yes
+          (λ t up low. all_yes s some within b i e t up low) in
+          let few : length b.yes < (machine family s).size =
+          few_yes (machine family s) (reached_end family c s some within) b i e in
           let size : (machine family s).size ≡ length family = size_is family c s some within in
           absurd (omega (arith, many, few, size))
 

@@ -1,10 +1,13 @@
 -- Passes one after another, and the sites of one pass.
-use Rattle.std.proofs.Common.{◌≡◌, ◌≤◌, ◌+◌, ◌-◌, ◌++◌, ℕ, zero, suc, List, [], ◌∷◌, Bool, true, false, if◌then◌else◌, length, refl, sym, ap, ◌∙◌, subst, append-nil, append_assoc, arith}
+use Rattle.std.proofs.Common.{◌≡◌, ◌≤◌, ◌+◌, ◌-◌, ◌++◌, ℕ, zero, suc, List, [], ◌∷◌, Bool, true, false, if◌then◌else◌}
+use Rattle.std.proofs.Common.{length, refl, sym, ap, ◌∙◌, subst, append-nil, append_assoc, arith}
 use Rattle.std.proofs.lemmas.List.{length-append}
 use Rattle.td_op.specs.declared.message.Message.{Message}
 use Rattle.td_replica.specs.declared.given.Given.{Given}
 use Rattle.td_world.specs.World.{WorldValue, Move, IsWorld, size, machine_of, moved, moved_all}
-use Rattle.td_world.specs.Calls.{is_ready, is_wanted, next, take, nexts, give_moves, wanted_moves, wanted_given, took, moves_of, given_of, give_all_moves, give_all_given, pass_from, pass, passes, is_take, count_given, IsStopped, IsSettled, IsUnsettled}
+use Rattle.td_world.specs.Calls.{is_ready, is_wanted, next, take, nexts, give_moves, wanted_moves, wanted_given}
+use Rattle.td_world.specs.Calls.{took, moves_of, given_of, give_all_moves, give_all_given, pass_from, pass, passes}
+use Rattle.td_world.specs.Calls.{is_take, count_given, IsStopped, IsSettled, IsUnsettled}
 use Rattle.td_world.specs.Promises.{NobodyReady, SameVectors, AllDecided}
 use Rattle.td_world.proofs.Cuts.{stopped_before, stopped_after}
 use Rattle.td_world.proofs.Going.{IsDoing, doing_more, doing_stopped, doing_size}
@@ -38,7 +41,8 @@ nexts_uncounted (suc k) site w = at (is_ready (machine_of w site)) (nexts_uncoun
 
 give_counted : (site : ℕ) (message : Message) (w : WorldValue) → count_given (give_moves site message w) ≡ 1
 give_counted site message w =
-    ap suc (nexts_uncounted (length (machine_of (moved (take site message) w) site).waiting) site (moved (take site message) w))
+    ap suc (nexts_uncounted (length (machine_of (moved (take site message) w) site).waiting) site
+    (moved (take site message) w))
 
 -- one is counted for each that is told of
 moves_counted : (site number : ℕ) (messages : List Message) (w : WorldValue)
@@ -51,7 +55,8 @@ moves_counted site number (message ∷ messages) w =
     ≡ length (given_of site (suc number) messages (moved_all (wanted_moves site message w) w)) =
     moves_counted site (suc number) messages (moved_all (wanted_moves site message w) w) in
     let all : count_given (moves_of site (message ∷ messages) w)
-    ≡ count_given (wanted_moves site message w) + count_given (moves_of site messages (moved_all (wanted_moves site message w) w)) =
+    ≡ count_given (wanted_moves site message w) + count_given
+    (moves_of site messages (moved_all (wanted_moves site message w) w)) =
     count_both (wanted_moves site message w) (moves_of site messages (moved_all (wanted_moves site message w) w)) in
     let told : length (given_of site number (message ∷ messages) w)
     ≡ length (wanted_given site number message w)
@@ -74,10 +79,12 @@ none_moved : (site : ℕ) (messages : List Message) (w : WorldValue) → count_g
 none_moved site [] w e = refl
 none_moved site (message ∷ messages) w e =
     let all : count_given (moves_of site (message ∷ messages) w)
-    ≡ count_given (wanted_moves site message w) + count_given (moves_of site messages (moved_all (wanted_moves site message w) w)) =
+    ≡ count_given (wanted_moves site message w) + count_given
+    (moves_of site messages (moved_all (wanted_moves site message w) w)) =
     count_both (wanted_moves site message w) (moves_of site messages (moved_all (wanted_moves site message w) w)) in
     let front : count_given (wanted_moves site message w) ≡ 0 = omega (arith, e, all) in
-    let back : count_given (moves_of site messages (moved_all (wanted_moves site message w) w)) ≡ 0 = omega (arith, e, all) in
+    let back : count_given (moves_of site messages (moved_all (wanted_moves site message w) w))
+    ≡ 0 = omega (arith, e, all) in
     let first : wanted_moves site message w ≡ [] = at (is_wanted site message w) front in
     let rest : moves_of site messages (moved_all (wanted_moves site message w) w) ≡ [] =
     none_moved site messages (moved_all (wanted_moves site message w) w) back in
@@ -86,7 +93,8 @@ none_moved site (message ∷ messages) w e =
     at : (b : Bool) → count_given (if b then give_moves site message w else []) ≡ 0
         → (if b then give_moves site message w else []) ≡ []
     at false f = refl
-    at true f = let one : count_given (give_moves site message w) ≡ 1 = give_counted site message w in absurd (omega (arith, f, one))
+    at true f = let one : count_given (give_moves site message w) ≡ 1 = give_counted site message w in
+        absurd (omega (arith, f, one))
 
 none_passed : (k site : ℕ) (w : WorldValue) → count_given (pass_from k site w) ≡ 0 → pass_from k site w ≡ []
 none_passed zero site w e = refl
@@ -111,44 +119,50 @@ pub record IsPassing (site : ℕ) (old now : WorldValue) (count : ℕ) : Type 0 
   pub doing : IsDoing (pass old) (pass_from (size old + 1 - site) site now) old now
   pub counted : count + count_given (pass_from (size old + 1 - site) site now) ≡ count_given (pass old)
 
-module _ (site : ℕ) (old now : WorldValue) (count : ℕ) (within : site ≤ size old) (p : IsPassing site old now count) where
-  rest_is : pass_from (size old + 1 - site) site now
-      ≡ give_all_moves site now ++ pass_from (size old + 1 - (site + 1)) (site + 1) (moved_all (give_all_moves site now) now)
-  rest_is =
-      let one : size old + 1 - site ≡ suc (size old + 1 - (site + 1)) = omega (arith, within) in
-      let two : suc site ≡ site + 1 = omega arith in
-      ap (λ (k : ℕ). pass_from k site now) one
-      ∙ ap (λ (s : ℕ). give_all_moves site now ++ pass_from (size old + 1 - (site + 1)) s (moved_all (give_all_moves site now) now)) two
+module _ (site : ℕ) (old now : WorldValue) (count : ℕ) (within : site ≤ size old) (p : IsPassing site old now count)
+  where
+    rest_is : pass_from (size old + 1 - site) site now
+        ≡ give_all_moves site now ++ pass_from (size old + 1 - (site + 1)) (site + 1)
+        (moved_all (give_all_moves site now) now)
+    rest_is =
+        let one : size old + 1 - site ≡ suc (size old + 1 - (site + 1)) = omega (arith, within) in
+        let two : suc site ≡ site + 1 = omega arith in
+        ap (λ (k : ℕ). pass_from k site now) one
+        ∙ ap (λ (s : ℕ). give_all_moves site now ++ pass_from (size old + 1 - (site + 1)) s
+        (moved_all (give_all_moves site now) now)) two
 
-  doing_here : IsDoing (pass old)
-      (give_all_moves site now ++ pass_from (size old + 1 - (site + 1)) (site + 1) (moved_all (give_all_moves site now) now)) old now
-  doing_here = subst (λ (l : List Move). IsDoing (pass old) l old now) rest_is p.doing
+    doing_here : IsDoing (pass old)
+        (give_all_moves site now ++ pass_from (size old + 1 - (site + 1)) (site + 1)
+        (moved_all (give_all_moves site now) now)) old now
+    doing_here = subst (λ (l : List Move). IsDoing (pass old) l old now) rest_is p.doing
 
-  pub passing_more : (new : WorldValue) (more : ℕ) → new ≡ moved_all (give_all_moves site now) now
-      → more ≡ count + length (give_all_given site now) → IsPassing (site + 1) old new more
-  passing_more new more is told =
-      let here : count_given (give_all_moves site now) ≡ length (give_all_given site now) = all_counted site now in
-      let both : count_given (pass_from (size old + 1 - site) site now)
-      ≡ count_given (give_all_moves site now)
-      + count_given (pass_from (size old + 1 - (site + 1)) (site + 1) (moved_all (give_all_moves site now) now)) =
-      ap count_given rest_is
-      ∙ count_both (give_all_moves site now) (pass_from (size old + 1 - (site + 1)) (site + 1) (moved_all (give_all_moves site now) now)) in
-      let all : count + count_given (pass_from (size old + 1 - site) site now) ≡ count_given (pass old) = p.counted in
-      subst (λ (w : WorldValue). IsPassing (site + 1) old w more) (sym is)
-      (record {
-        doing = doing_more (pass old) (give_all_moves site now)
-            (pass_from (size old + 1 - (site + 1)) (site + 1) (moved_all (give_all_moves site now) now)) old now
-            (moved_all (give_all_moves site now) now) doing_here refl;
-        counted = omega (arith, here, both, all, told);
-      })
+    pub passing_more : (new : WorldValue) (more : ℕ) → new ≡ moved_all (give_all_moves site now) now
+        → more ≡ count + length (give_all_given site now) → IsPassing (site + 1) old new more
+    passing_more new more is told =
+        let here : count_given (give_all_moves site now) ≡ length (give_all_given site now) = all_counted site now in
+        let both : count_given (pass_from (size old + 1 - site) site now)
+        ≡ count_given (give_all_moves site now)
+        + count_given (pass_from (size old + 1 - (site + 1)) (site + 1) (moved_all (give_all_moves site now) now)) =
+        ap count_given rest_is
+        ∙ count_both (give_all_moves site now) (pass_from (size old + 1 - (site + 1)) (site + 1)
+        (moved_all (give_all_moves site now) now)) in
+        let all : count + count_given (pass_from (size old + 1 - site) site now) ≡ count_given (pass old) = p.counted in
+        subst (λ (w : WorldValue). IsPassing (site + 1) old w more) (sym is)
+        (record {
+          doing = doing_more (pass old) (give_all_moves site now)
+              (pass_from (size old + 1 - (site + 1)) (site + 1) (moved_all (give_all_moves site now) now)) old now
+              (moved_all (give_all_moves site now) now) doing_here refl;
+          counted = omega (arith, here, both, all, told);
+        })
 
-  pub passing_stopped : (new : WorldValue) → IsStopped (give_all_moves site now) now new → IsStopped (pass old) old new
-  passing_stopped new c =
-      doing_stopped (pass old)
-      (give_all_moves site now ++ pass_from (size old + 1 - (site + 1)) (site + 1) (moved_all (give_all_moves site now) now)) old now new
-      doing_here
-      (stopped_before (give_all_moves site now)
-      (pass_from (size old + 1 - (site + 1)) (site + 1) (moved_all (give_all_moves site now) now)) now new c)
+    pub passing_stopped : (new : WorldValue) → IsStopped (give_all_moves site now) now new → IsStopped (pass old) old new
+    passing_stopped new c =
+        doing_stopped (pass old)
+        (give_all_moves site now ++ pass_from (size old + 1 - (site + 1)) (site + 1)
+        (moved_all (give_all_moves site now) now)) old now new
+        doing_here
+        (stopped_before (give_all_moves site now)
+        (pass_from (size old + 1 - (site + 1)) (site + 1) (moved_all (give_all_moves site now) now)) now new c)
 
 pub passing_size : (site : ℕ) (old now : WorldValue) (count : ℕ) → IsPassing site old now count → size now ≡ size old
 passing_size site old now count p = doing_size (pass old) (pass_from (size old + 1 - site) site now) old now p.doing
@@ -159,7 +173,8 @@ pub passes_last : (k : ℕ) (w : WorldValue) → passes (suc k) w ≡ passes k w
 passes_last zero w = append-nil (pass w)
 passes_last (suc k) w =
     ap (λ (l : List Move). pass w ++ l) (passes_last k (moved_all (pass w) w))
-    ∙ sym (append_assoc (pass w) (passes k (moved_all (pass w) w)) (pass (moved_all (passes k (moved_all (pass w) w)) (moved_all (pass w) w))))
+    ∙ sym (append_assoc (pass w) (passes k (moved_all (pass w) w))
+    (pass (moved_all (passes k (moved_all (pass w) w)) (moved_all (pass w) w))))
     ∙ ap (λ (v : WorldValue). (pass w ++ passes k (moved_all (pass w) w)) ++ pass v)
     (sym (moved_both (pass w) (passes k (moved_all (pass w) w)) w))
 

@@ -1,6 +1,8 @@
 -- What a step keeps: a message that is known stays known, until an operation that waited is dropped; and no step sends
 -- more than two messages.
-use Rattle.std.proofs.Common.{◌≡◌, ◌⊎◌, ◌≤◌, ◌+◌, ◌-◌, ◌++◌, ◌||◌, ℕ, zero, suc, List, [], ◌∷◌, Bool, true, false, not, if◌then◌else◌, nat_eq, nat_le, nat_lt, get_or, set, length, Option, Some, None, refl, sym, ap, ◌∙◌, subst, inl, inr, ⊎_elim, true≢false, arith}
+use Rattle.std.proofs.Common.{◌≡◌, ◌⊎◌, ◌≤◌, ◌+◌, ◌-◌, ◌++◌, ◌||◌, ℕ, zero, suc, List, [], ◌∷◌, Bool, true, false}
+use Rattle.std.proofs.Common.{not, if◌then◌else◌, nat_eq, nat_le, nat_lt, get_or, set, length, Option, Some, None}
+use Rattle.std.proofs.Common.{refl, sym, ap, ◌∙◌, subst, inl, inr, ⊎_elim, true≢false, arith}
 use Rattle.std.proofs.lemmas.Bool.{leb-true, le-leb, and_from}
 use Rattle.std.proofs.lemmas.List.{length-append}
 use Rattle.std.specs.Prelude.{IsTrue}
@@ -329,7 +331,8 @@ resumed_more x m r i ready fit =
       have = k.have;
       waiting = λ d e.
           ⊎_elim (λ (f : waits d (without x.dot m.waiting) ≡ true). k.waiting d f)
-          (λ (f : d ≡ x.dot). inr (subst (λ (z : DotValue). IsTrue (vector_has (take x (forget x m)).have z)) (sym f) had))
+          (λ (f : d ≡ x.dot). inr (subst (λ (z : DotValue). IsTrue (vector_has (take x (forget x m)).have z)) (sym f)
+          had))
           (still d m.waiting e);
       ballots = k.ballots;
     }
@@ -416,7 +419,8 @@ one_more_sent k message m n h =
     let long : length (n.sent ++ message ∷ []) ≡ length n.sent + 1 = length-append n.sent (message ∷ []) in
     omega (arith, h, long)
 
-decide_few : (k : ℕ) (p : DotValue) (o : Option Bool) (m n : Machine) → SendsFew k m n → SendsFew (suc k) m (decide p o n)
+decide_few : (k : ℕ) (p : DotValue) (o : Option Bool) (m n : Machine) → SendsFew k m n
+    → SendsFew (suc k) m (decide p o n)
 decide_few k p None m n h = omega (arith, h)
 decide_few k p (Some true) m n h = one_more_sent k (AnOp (next_op n (Commit p))) m n h
 decide_few k p (Some false) m n h = one_more_sent k (AnOp (next_op n (Abort p))) m n h
@@ -430,23 +434,28 @@ upto_two m n h = omega (arith, h)
 perform_few : (body : Body) (m : Machine) → SendsFew 2 m (perform body m)
 perform_few (Insert slot run) m =
     upto_two m (make (Insert slot run) m) (one_more_sent 0 (AnOp (next_op m (Insert slot run))) m m (none_yet m))
-perform_few (Delete x) m = upto_two m (make (Delete x) m) (one_more_sent 0 (AnOp (next_op m (Delete x))) m m (none_yet m))
-perform_few (Commit p) m = upto_two m (make (Commit p) m) (one_more_sent 0 (AnOp (next_op m (Commit p))) m m (none_yet m))
+perform_few (Delete x) m = upto_two m (make (Delete x) m)
+    (one_more_sent 0 (AnOp (next_op m (Delete x))) m m (none_yet m))
+perform_few (Commit p) m = upto_two m (make (Commit p) m)
+    (one_more_sent 0 (AnOp (next_op m (Commit p))) m m (none_yet m))
 perform_few (Abort p) m = upto_two m (make (Abort p) m) (one_more_sent 0 (AnOp (next_op m (Abort p))) m m (none_yet m))
 perform_few (Propose slot) m =
     decide_few 1 (next_dot m) (outcome m.size true (new_ballot (next_dot m))) m (proposed_here slot m)
     (one_more_sent 0 (AnOp (next_op m (Propose slot))) m m (none_yet m))
 
 take_few : (slot : Option Slot) (x : OpValue) (m n : Machine) → n.sent ≡ m.sent → SendsFew 2 m (take_as slot x n)
-take_few None x m n e = let same : length n.sent ≡ length m.sent = ap (λ (l : List Message). length l) e in omega (arith, same)
+take_few None x m n e = let same : length n.sent ≡ length m.sent = ap (λ (l : List Message). length l) e in
+    omega (arith, same)
 take_few (Some slot) x m n e = at (vote_on x slot n)
   where
     few : SendsFew 0 m n
     few = let same : length n.sent ≡ length m.sent = ap (λ (l : List Message). length l) e in omega (arith, same)
 
     at : (says : Bool) → SendsFew 2 m (answer x.dot slot says (done x n))
-    at true = let h = one_more_sent 0 (AVote (record { proposal = x.dot; voter = n.site; yes = true })) m n few in omega (arith, h)
-    at false = let h = one_more_sent 0 (AVote (record { proposal = x.dot; voter = n.site; yes = false })) m n few in omega (arith, h)
+    at true = let h = one_more_sent 0 (AVote (record { proposal = x.dot; voter = n.site; yes = true })) m n few in
+        omega (arith, h)
+    at false = let h = one_more_sent 0 (AVote (record { proposal = x.dot; voter = n.site; yes = false })) m n few in
+        omega (arith, h)
 
 pub step_few : (m : Machine) (input : Input) → length (step m input).machine.sent ≤ length m.sent + 2
 step_few m input =

@@ -1,5 +1,6 @@
 -- What the calls of a world do: moves, made one after another. Where one finds no memory, those before it are done.
-use Rattle.std.specs.Prelude.{◌≡◌, ◌++◌, ◌&&◌, ℕ, zero, suc, List, [], ◌∷◌, Bool, true, false, not, length, Option, Some, None, if◌then◌else◌}
+use Rattle.std.specs.Prelude.{◌≡◌, ◌++◌, ◌&&◌, ℕ, zero, suc, List, [], ◌∷◌, Bool, true, false}
+use Rattle.std.specs.Prelude.{not, length, Option, Some, None, if◌then◌else◌}
 use Rattle.td_op.specs.declared.input.Input.{Input}
 use Rattle.td_op.specs.declared.input.Input.TheVariants.{Local, Take, Next}
 use Rattle.td_op.specs.declared.message.Message.{Message}

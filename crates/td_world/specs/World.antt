@@ -1,6 +1,7 @@
 -- A world: sites side by side, and the messages that they sent. What happens in it is a list of moves, each one step of
 -- one site's machine.
-use Rattle.std.specs.Prelude.{◌≡◌, ◌<◌, ◌≤◌, ◌++◌, ◌+◌, ◌-◌, ◌==◌, ℕ, zero, suc, List, [], ◌∷◌, Bool, true, length, map, filter, drop, slice_set}
+use Rattle.std.specs.Prelude.{◌≡◌, ◌<◌, ◌≤◌, ◌++◌, ◌+◌, ◌-◌, ◌==◌, ℕ, zero, suc, List, [], ◌∷◌}
+use Rattle.std.specs.Prelude.{Bool, true, length, map, filter, drop, slice_set}
 use Rattle.td_base.specs.Lists.{In}
 use Rattle.td_op.specs.Input.{IsInput}
 use Rattle.td_op.specs.declared.input.Input.{Input}

@@ -1,7 +1,7 @@
 //! Tests of replicas: what one makes and takes, how they vote, decide and merge, what is kept of it and sent.
 //!
-//! Contracts say what each call does; here stand worked examples with their expected values, as tables of steps, and that
-//! memory is found where there is some. A module is named by the library that it tries.
+//! Contracts say what each call does; here stand worked examples with their expected values, as tables of steps, and
+//! that memory is found where there is some. A module is named by the library that it tries.
 #![tactic(auto)]
 
 #[cfg(test)]

@@ -1,5 +1,6 @@
 -- A room of which one worker or one editor has gone on.
-use Rattle.std.proofs.Common.{◌≡◌, ◌++◌, ℕ, zero, suc, List, [], ◌∷◌, length, take, drop, set, get_or, refl, sym, ap, subst, arith}
+use Rattle.std.proofs.Common.{◌≡◌, ◌++◌, ℕ, zero, suc, List, [], ◌∷◌, length, take, drop}
+use Rattle.std.proofs.Common.{set, get_or, refl, sym, ap, subst, arith}
 use Rattle.std.specs.List.{AllZip}
 use Rattle.td_site.proofs.Lists.{prefix_self}
 use Rattle.td_line.specs.Editors.{EditorValue, LaterEditor}
@@ -26,12 +27,14 @@ editor_self e =
 pub worker_on : (ws : List WorkerValue) (es : List EditorValue) (i : ℕ) (w v : WorkerValue) → w ≡ get_or ws i w
     → LaterWorker w v → AreOfOneRoom ws es → AreOfOneRoom (set ws i v) es
 worker_on ws es i w v e later room =
-    room_later ws (set ws i v) es es (zip_set LaterWorker ws i w v worker_self e later) (zip_self LaterEditor es editor_self) room
+    room_later ws (set ws i v) es es (zip_set LaterWorker ws i w v worker_self e later)
+    (zip_self LaterEditor es editor_self) room
 
 pub editor_on : (ws : List WorkerValue) (es : List EditorValue) (i : ℕ) (e f : EditorValue) → e ≡ get_or es i e
     → LaterEditor e f → AreOfOneRoom ws es → AreOfOneRoom ws (set es i f)
 editor_on ws es i e f is later room =
-    room_later ws ws es (set es i f) (zip_self LaterWorker ws worker_self) (zip_set LaterEditor es i e f editor_self is later) room
+    room_later ws ws es (set es i f) (zip_self LaterWorker ws worker_self)
+    (zip_set LaterEditor es i e f editor_self is later) room
 
 pub zip_front : (ws vs us ts : List WorkerValue) → AllZip LaterWorker ws vs → AllZip LaterWorker us ts
     → AllZip LaterWorker (ws ++ us) (vs ++ ts)
@@ -64,4 +67,5 @@ written (suc n) (w ∷ ws) (v ∷ vs) l e =
 pub written_on : (n : ℕ) (ws vs : List WorkerValue) (es : List EditorValue) → n ≡ length ws → AllZip LaterWorker ws vs
     → AreOfOneRoom ws es → AreOfOneRoom (take n (vs ++ drop (length vs) ws)) es
 written_on n ws vs es e a room =
-    subst (λ (l : List WorkerValue). AreOfOneRoom l es) (sym (written n ws vs (as_many ws vs a) e)) (all_on ws vs es a room)
+    subst (λ (l : List WorkerValue). AreOfOneRoom l es) (sym (written n ws vs (as_many ws vs a) e))
+    (all_on ws vs es a room)

@@ -1,7 +1,7 @@
 //! Tests of what runs on threads: queues, views, sites, editors, rooms and the editors of a live script.
 //!
-//! No contract can say that threads ran or that a wait ended: that is seen here. A module is named by the library that it
-//! tries.
+//! No contract can say that threads ran or that a wait ended: that is seen here. A module is named by the library that
+//! it tries.
 #![tactic(auto)]
 
 #[cfg(test)]

@@ -1,8 +1,8 @@
 //! The program `treedoc_editor`, to copy from: two editors of one text, which send each other packets.
 //!
 //! Ann and Bob type at once, without asking anybody; then each hears of what the other did, and both see one text.
-//! What stands between a replica and a screen is `td_editor`; here is what an editor adds to it: a desk, which cuts what is
-//! typed into atoms and sends its packets. docs/EMBEDDING.md goes through it line by line.
+//! What stands between a replica and a screen is `td_editor`; here is what an editor adds to it: a desk, which cuts
+//! what is typed into atoms and sends its packets. docs/EMBEDDING.md goes through it line by line.
 #![tactic(auto)]
 
 mod desk;

@@ -82,7 +82,8 @@ fn lines_of<R: Threads + Wait + Copy + Send + Sync + Abort>(
     Ok(sink.held().iter().filter(|byte| **byte == b'\n').count())
 }
 
-// Runs the script of a plan so often. Whether each trace is a possible one, with a line for each of the plan's at least.
+// Runs the script of a plan so often. Whether each trace is a possible one, with a line for each of the plan's at
+// least.
 fn all_are_possible<R: Threads + Wait + Copy + Send + Sync + Abort>(
     rt: &R,
     alloc: Global,
@@ -130,8 +131,8 @@ fn each_trace_of_sixty_four_sites_is_possible(rt: HostRuntime) -> Result<(), Fai
     all_are_possible(&rt, rt.alloc(), plan, 3)
 }
 
-// Eight editors type 16,384 letters each and delete as many: as many calls as a live script may ask for. There is always
-// a letter to delete, as each has typed all of its own before.
+// Eight editors type 16,384 letters each and delete as many: as many calls as a live script may ask for. There is
+// always a letter to delete, as each has typed all of its own before.
 #[test]
 fn as_many_calls_as_there_may_be_are_made(rt: HostRuntime) -> Result<(), Fail> {
     let mut script = Bytes::new(rt.alloc());

@@ -5,8 +5,8 @@ ghost use Rattle.td_doc.specs.Answers.{IsFresh};
 
 use super::*;
 
-// An atom, by its index, the number of its run and its place there, the atom in whose slot it stands, with the side, and
-// its letter. The atom with no such atom stands at the root.
+// An atom, by its index, the number of its run and its place there, the atom in whose slot it stands, with the side,
+// and its letter. The atom with no such atom stands at the root.
 type Standing = (u32, u32, u8, Option<(u32, u8, Bit)>, u8);
 
 // "xy" is on the right of the a.

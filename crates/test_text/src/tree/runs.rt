@@ -6,8 +6,8 @@ ghost use Rattle.td_tree.specs.Parts.{doc_rows};
 
 use super::*;
 
-// An atom, by its index, the number of its run and its place there, the atom in whose slot it stands, with the side, and
-// its text. The atom with no such atom stands at the root.
+// An atom, by its index, the number of its run and its place there, the atom in whose slot it stands, with the side,
+// and its text. The atom with no such atom stands at the root.
 type Standing = (u32, u32, u8, Option<(u32, u8, Bit)>, &'static str);
 
 const ATOMS: [Standing; 6] = [

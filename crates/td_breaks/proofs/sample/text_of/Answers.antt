@@ -11,7 +11,8 @@ loop-atom-preserved c =
       can = tt;
       ends = tt;
       bytes = rw (c.in_ok-push_str.ensures.bytes, same)
-          (next_bytes (string_bytes c.loop-atom.text) c.in-Some.atom c.next.new.self c.loop-atom.atom-iterator (concat c.args.atoms.now)
+          (next_bytes (string_bytes c.loop-atom.text) c.in-Some.atom c.next.new.self c.loop-atom.atom-iterator
+          (concat c.args.atoms.now)
           c.loop-atom.invariant.bytes c.in-Some.ensures.steps);
     }
 
@@ -19,4 +20,5 @@ pub returns : goal.returns
 returns c =
     let so_far : List ℕ = string_bytes c.loop-atom.text in
     let none : c.loop-atom.atom-iterator ≡ [] = c.in-None.ensures.steps.0 in
-    sym (append-nil so_far) ∙ ap (λ (left : List (List ℕ)). so_far ++ concat left) (sym none) ∙ c.loop-atom.invariant.bytes
+    sym (append-nil so_far) ∙ ap (λ (left : List (List ℕ)). so_far ++ concat left) (sym none)
+    ∙ c.loop-atom.invariant.bytes

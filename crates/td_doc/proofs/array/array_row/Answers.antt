@@ -14,7 +14,8 @@ pub loop-path-init : goal.loop-path-init
 loop-path-init c = record {
   within = omega arith;
   few = omega arith;
-  row = ap (λ rows. slice_get rows c.args.place) (sym (array_front c.args.slot.now c.in_ok-path.path c.in_ok-path.bit c.args.atoms.now c.in_ok-path.ensures));
+  row = ap (λ rows. slice_get rows c.args.place)
+      (sym (array_front c.args.slot.now c.in_ok-path.path c.in_ok-path.bit c.args.atoms.now c.in_ok-path.ensures));
 }
 
 pub loop-path-preserved-in-Less : goal.loop-path-preserved-in-Less
@@ -23,11 +24,13 @@ loop-path-preserved-in-Less c =
     let k = c.loop-path.left in
     let less : k < length rest / 2 = ranked k (length rest / 2) Less c.in-Less.ensures in
     let len = length-take-le (length rest / 2) rest (omega arith) in
-    let pushed = c.in_ok-push.ensures.ok ∙ ap (λ (a : NamedAtom). c.loop-path.path ++ (c.loop-path.bit, a.id) ∷ []) c.node.view_is in
+    let pushed = c.in_ok-push.ensures.ok ∙ ap (λ (a : NamedAtom). c.loop-path.path ++ (c.loop-path.bit, a.id) ∷ [])
+    c.node.view_is in
     record {
       within = omega (arith, less, len);
       few = omega (arith, less, len, c.loop-path.invariant.few);
-      row = step_left rest c.index-rest-middle.result c.loop-path.path c.push.new.self c.loop-path.bit k c.loop-path.invariant.within c.index-rest-middle.is pushed less ∙ c.loop-path.invariant.row;
+      row = step_left rest c.index-rest-middle.result c.loop-path.path c.push.new.self c.loop-path.bit k
+          c.loop-path.invariant.within c.index-rest-middle.is pushed less ∙ c.loop-path.invariant.row;
     }
 
 pub returns-in-Equal : goal.returns-in-Equal
@@ -35,17 +38,21 @@ returns-in-Equal c =
     let rest = c.loop-path.rest.now in
     let k = c.loop-path.left in
     let same : k ≡ length rest / 2 = ranked k (length rest / 2) Equal c.in-Equal.ensures in
-    let pushed = c.in_ok-push.ensures.ok ∙ ap (λ (a : NamedAtom). c.loop-path.path ++ (c.loop-path.bit, a.id) ∷ []) c.node.view_is in
-    let row = c.new.ensures ∙ ap (λ (a : NamedAtom). record { path = c.push.new.self; atom = a.atom; deletes = [] }) c.node.view_is in
+    let pushed = c.in_ok-push.ensures.ok ∙ ap (λ (a : NamedAtom). c.loop-path.path ++ (c.loop-path.bit, a.id) ∷ [])
+    c.node.view_is in
+    let row = c.new.ensures ∙ ap (λ (a : NamedAtom). record { path = c.push.new.self; atom = a.atom; deletes = [] })
+    c.node.view_is in
     sym c.loop-path.invariant.row
-    ∙ arrived rest c.index-rest-middle.result c.loop-path.path c.push.new.self c.loop-path.bit k c.loop-path.invariant.within c.index-rest-middle.is pushed c.new.result same row
+    ∙ arrived rest c.index-rest-middle.result c.loop-path.path c.push.new.self c.loop-path.bit k
+    c.loop-path.invariant.within c.index-rest-middle.is pushed c.new.result same row
 
 pub loop-path-preserved : goal.loop-path-preserved
 loop-path-preserved c =
     let rest = c.loop-path.rest.now in
     let k = c.loop-path.left in
     let more : length rest / 2 < k = ranked k (length rest / 2) Greater c.in-Greater.ensures in
-    let pushed = c.in_ok-push.ensures.ok ∙ ap (λ (a : NamedAtom). c.loop-path.path ++ (c.loop-path.bit, a.id) ∷ []) c.node.view_is in
+    let pushed = c.in_ok-push.ensures.ok ∙ ap (λ (a : NamedAtom). c.loop-path.path ++ (c.loop-path.bit, a.id) ∷ [])
+    c.node.view_is in
     let tail = drop (length rest / 2 + 1) rest in
     let len = length-drop (length rest / 2 + 1) rest in
     let whole = take_all (length rest - (length rest / 2 + 1)) tail (omega (arith, len)) in
@@ -54,7 +61,9 @@ loop-path-preserved c =
       within = omega (arith, size, len, more, c.loop-path.invariant.within);
       few = omega (arith, size, len, c.loop-path.invariant.few);
       row =
-          ap (λ (q : List NamedAtom). slice_get (array (Below c.push.new.self Right) q) (k - (length rest / 2 + 1))) whole
-          ∙ step_right rest c.index-rest-middle.result c.loop-path.path c.push.new.self c.loop-path.bit k c.loop-path.invariant.within c.index-rest-middle.is pushed more
+          ap (λ (q : List NamedAtom). slice_get (array (Below c.push.new.self Right) q) (k - (length rest / 2 + 1)))
+          whole
+          ∙ step_right rest c.index-rest-middle.result c.loop-path.path c.push.new.self c.loop-path.bit k
+          c.loop-path.invariant.within c.index-rest-middle.is pushed more
           ∙ c.loop-path.invariant.row;
     }

@@ -10,6 +10,8 @@ pub returns-then-is_at-clause-ok : goal.returns-then-is_at-clause-ok
 returns-then-is_at-clause-ok c =
     let dot = c.args.dot in
     let dots = c.args.dots.now.items in
-    let place = c.place_of-place.ensures.value ∙ ap (λ (q : List DotValue). position_or_len (λ (d : DotValue). is_le (dot_cmp dot d)) q) c.deref.ensures.value in
+    let place = c.place_of-place.ensures.value ∙ ap
+    (λ (q : List DotValue). position_or_len (λ (d : DotValue). is_le (dot_cmp dot d)) q) c.deref.ensures.value in
     let here = c.is_at.ensures.0 c.if-is_at.true in
-    there dot dots (ap (slice_get dots) (sym place) ∙ ap (λ (q : List DotValue). slice_get q c.place_of-place.result) (sym c.deref-2.ensures.value) ∙ here)
+    there dot dots (ap (slice_get dots) (sym place)
+    ∙ ap (λ (q : List DotValue). slice_get q c.place_of-place.result) (sym c.deref-2.ensures.value) ∙ here)

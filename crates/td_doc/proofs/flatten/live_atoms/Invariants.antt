@@ -6,4 +6,5 @@ use Rattle.td_doc.proofs.flatten.live_atoms.Given as goal
 
 -- with the atoms of the rows that are left they are those of all rows
 abbrev pub invariant-loop-row : goal.invariant-loop-row
-invariant-loop-row l = l.atoms.items ++ map named (live_rows (rows_below (drop l.row-index l.rows) (Some l.slot))) ≡ map named (live_rows (rows_below l.rows (Some l.slot)))
+invariant-loop-row l = l.atoms.items ++ map named (live_rows (rows_below (drop l.row-index l.rows) (Some l.slot)))
+    ≡ map named (live_rows (rows_below l.rows (Some l.slot)))

@@ -13,7 +13,8 @@ pub returns-in-Root : goal.returns-in-Root
 returns-in-Root c =
     let rows = c.args.rows.now in
     let v = c.args.v.now in
-    c.are_known.ensures ∙ all_among (λ (r : DocRow). true) (is_known_row v) rows ∙ ap (λ (slot : Slot). is_known rows slot v) (sym c.in-Root.is)
+    c.are_known.ensures ∙ all_among (λ (r : DocRow). true) (is_known_row v) rows
+    ∙ ap (λ (slot : Slot). is_known rows slot v) (sym c.in-Root.is)
 
 pub returns-in-Some : goal.returns-in-Some
 returns-in-Some c =
@@ -22,5 +23,6 @@ returns-in-Some c =
     let bit = c.in-At.bit in
     c.is_known_below.ensures
     ∙ all_among (λ (r : DocRow). goes_on c.row.inside.path bit r.path) (is_known_row v) rows
-    ∙ ap (λ (o : Option DocRow). list_all (is_known_row v) (rows_below rows (option_map (λ (r : DocRow). Below r.path bit) o))) (ap Some c.row.view_is ∙ c.in-Some.ensures)
+    ∙ ap (λ (o : Option DocRow). list_all (is_known_row v)
+    (rows_below rows (option_map (λ (r : DocRow). Below r.path bit) o))) (ap Some c.row.view_is ∙ c.in-Some.ensures)
     ∙ ap (λ (slot : Slot). is_known rows slot v) (sym c.in-At.is)

@@ -20,5 +20,7 @@ returns-in-Some c =
     let bit = c.in-At.bit in
     c.has_id_below.ensures
     ∙ find_among (λ (r : DocRow). goes_on c.row.inside.path bit r.path) (has_id id) rows
-    ∙ ap (λ (o : Option DocRow). is_some (find (has_id id) (rows_below rows (option_map (λ (r : DocRow). Below r.path bit) o)))) (ap Some c.row.view_is ∙ c.in-Some.ensures)
+    ∙ ap (λ (o : Option DocRow). is_some (find (has_id id)
+    (rows_below rows (option_map (λ (r : DocRow). Below r.path bit) o))))
+    (ap Some c.row.view_is ∙ c.in-Some.ensures)
     ∙ ap (is_within rows id) (sym c.in-At.is)

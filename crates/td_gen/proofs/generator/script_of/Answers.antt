@@ -20,5 +20,6 @@ loop-done-preserved c =
     let now : c.turn.new.self ≡ turn (i + 1) c.loop-done.progress = rw c.in_ok-turn.was at c.turn.ensures in
     record {
       made = now ∙ ap (turn (i + 1)) c.loop-done.invariant.made ∙ next_turn c.args.number i;
-      within = subst (λ (q : Progress). AreWithin (i + 1) q.least) (sym now) (turns_within i c.loop-done.progress c.loop-done.invariant.within);
+      within = subst (λ (q : Progress). AreWithin (i + 1) q.least) (sym now)
+          (turns_within i c.loop-done.progress c.loop-done.invariant.within);
     }

@@ -5,7 +5,8 @@ use Rattle.td_io.proofs.put_whole.put_all.Given as goal
 -- the first of the bytes were put
 abbrev pub invariant-loop-done : goal.invariant-loop-done
 invariant-loop-done g l =
-    (l.done ≤ length l.bytes) × Appends (g.K.Sink.held l.fn.sink) (g.K.Sink.held l.sink) (take l.done l.bytes) × (g.K.Sink.faults l.fn.sink ≤ g.K.Sink.faults l.sink)
+    (l.done ≤ length l.bytes) × Appends (g.K.Sink.held l.fn.sink) (g.K.Sink.held l.sink) (take l.done l.bytes)
+    × (g.K.Sink.faults l.fn.sink ≤ g.K.Sink.faults l.sink)
 
 abbrev pub decreases-loop-done : goal.decreases-loop-done
 decreases-loop-done g l = length l.bytes - l.done

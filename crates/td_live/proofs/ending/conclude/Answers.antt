@@ -6,15 +6,20 @@ use Rattle.td_live.proofs.ending.conclude.Goals as goal
 
 pub bring_all_up-requires : goal.bring_all_up-requires
 bring_all_up-requires g c =
-    can_all c.args.workers.items c.args.desks.items c.in_ok-replicas.field-0.replicas.items c.in_ok-replicas.field-0.answers.items
-    c.in-Ok.editors.items c.in-Ok.books.items c.requires c.in-Ok.ensures.editors c.in-Ok.ensures.books c.in-Ok.ensures.desks
+    can_all c.args.workers.items c.args.desks.items c.in_ok-replicas.field-0.replicas.items
+    c.in_ok-replicas.field-0.answers.items
+    c.in-Ok.editors.items c.in-Ok.books.items c.requires c.in-Ok.ensures.editors c.in-Ok.ensures.books
+    c.in-Ok.ensures.desks
     c.in_ok-replicas.ensures.sites c.in_ok-replicas.ensures.all c.in_ok-replicas.ensures.answered
 
 pub wind_up-requires-clause-homes : goal.wind_up-requires-clause-homes
 wind_up-requires-clause-homes g c =
-    homes_there c.args.workers.items c.args.desks.items c.in_ok-replicas.field-0.replicas.items c.in_ok-replicas.field-0.answers.items
-    c.in-Ok.editors.items c.in-Ok.books.items c.requires c.in-Ok.ensures.editors c.in-Ok.ensures.books c.in-Ok.ensures.desks
-    c.in_ok-replicas.ensures.sites c.in_ok-replicas.ensures.all c.in_ok-replicas.ensures.answered c.in_ok-books.books.items
+    homes_there c.args.workers.items c.args.desks.items c.in_ok-replicas.field-0.replicas.items
+    c.in_ok-replicas.field-0.answers.items
+    c.in-Ok.editors.items c.in-Ok.books.items c.requires c.in-Ok.ensures.editors c.in-Ok.ensures.books
+    c.in-Ok.ensures.desks
+    c.in_ok-replicas.ensures.sites c.in_ok-replicas.ensures.all c.in_ok-replicas.ensures.answered
+    c.in_ok-books.books.items
     c.in_ok-world.world c.in_ok-books.ensures c.in_ok-world.ensures.sites c.in_ok-replicas.ensures.only
     c.in_ok-replicas.ensures.looks
 
@@ -24,8 +29,11 @@ wind_up-requires-clause-nobody g c =
 
 pub returns : goal.returns
 returns g c =
-    concluded c.args.workers.items c.args.desks.items c.in_ok-replicas.field-0.replicas.items c.in_ok-replicas.field-0.answers.items
-    c.in-Ok.editors.items c.in-Ok.books.items c.requires c.in-Ok.ensures.editors c.in-Ok.ensures.books c.in-Ok.ensures.desks
-    c.in_ok-replicas.ensures.sites c.in_ok-replicas.ensures.all c.in_ok-replicas.ensures.answered c.in_ok-books.books.items
+    concluded c.args.workers.items c.args.desks.items c.in_ok-replicas.field-0.replicas.items
+    c.in_ok-replicas.field-0.answers.items
+    c.in-Ok.editors.items c.in-Ok.books.items c.requires c.in-Ok.ensures.editors c.in-Ok.ensures.books
+    c.in-Ok.ensures.desks
+    c.in_ok-replicas.ensures.sites c.in_ok-replicas.ensures.all c.in_ok-replicas.ensures.answered
+    c.in_ok-books.books.items
     c.in_ok-world.world c.in_ok-books.ensures c.in_ok-world.ensures.sites c.in_ok-replicas.ensures.only
     c.in_ok-replicas.ensures.looks c.in_ok-bytes.bytes c.in_ok-replicas.ensures.goes_on c.in_ok-bytes.ensures

@@ -16,5 +16,6 @@ returns g c =
     c.in_ok-logs.logs.items c.in_ok-logs.ensures.finished c.in_ok-settle.ensures.given c.in_ok-bytes.bytes
     c.settle.ensures.world (c.in_ok-settle.ensures.vectors (c.in_ok-logs.ensures.nobody c.requires.nobody))
     (c.in_ok-settle.ensures.decided (c.in_ok-logs.ensures.nobody c.requires.nobody))
-    (subst (λ (ls : List EditorLog). IsTraced (family_of c.settle.new.self) ls c.in_ok-bytes.bytes) c.deref.ensures.value
+    (subst (λ (ls : List EditorLog). IsTraced (family_of c.settle.new.self) ls c.in_ok-bytes.bytes)
+    c.deref.ensures.value
     c.in_ok-bytes.ensures)

@@ -28,5 +28,6 @@ loop-alloc-preserved g c =
 pub returns-clause-finished : goal.returns-clause-finished
 returns-clause-finished g c =
     let none : length c.loop-alloc.books.items ≡ 0 = search rules in
-    finishing_last (family_of c.args.world.now) c.args.books.items (family_of c.loop-alloc.world) c.loop-alloc.logs.items
+    finishing_last (family_of c.args.world.now) c.args.books.items (family_of c.loop-alloc.world)
+    c.loop-alloc.logs.items
     c.loop-alloc.books.items none c.loop-alloc.invariant.finishing

@@ -14,10 +14,13 @@ use Rattle.td_live.proofs.live.in_room.Goals as goal
 pub conclude-requires : goal.conclude-requires
 conclude-requires g c =
     let worked : AllZip LaterWorker c.args.workers.items c.work.new.workers =
-    subst (λ (ws : List WorkerValue). AllZip LaterWorker ws c.work.new.workers) c.deref_mut.ensures.value c.work.ensures.workers in
+    subst (λ (ws : List WorkerValue). AllZip LaterWorker ws c.work.new.workers) c.deref_mut.ensures.value
+    c.work.ensures.workers in
     let turned : AllZip LaterDesk c.in-Ok.desks.items c.work.new.desks =
-    subst (λ (ds : List DeskValue). AllZip LaterDesk ds c.work.new.desks) c.deref_mut-2.ensures.value c.work.ensures.desks in
-    let ws = all_lent LaterWorker c.work.new.workers c.args.workers.items c.args.workers.len c.args.workers.ok.0 worked in
+    subst (λ (ds : List DeskValue). AllZip LaterDesk ds c.work.new.desks) c.deref_mut-2.ensures.value
+    c.work.ensures.desks in
+    let ws = all_lent LaterWorker c.work.new.workers c.args.workers.items c.args.workers.len c.args.workers.ok.0
+    worked in
     let ds = all_lent LaterDesk c.work.new.desks c.in-Ok.desks.items c.in-Ok.desks.len c.in-Ok.desks.ok.0 turned in
     subst (λ (x : List WorkerValue × List DeskValue). AreOfOneRoom x.0 (map (λ (d : DeskValue). d.editor) x.1))
     (λ i. (sym ws i, sym ds i))
@@ -27,12 +30,16 @@ conclude-requires g c =
 pub returns : goal.returns
 returns g c =
     let worked : AllZip LaterWorker c.args.workers.items c.work.new.workers =
-    subst (λ (ws : List WorkerValue). AllZip LaterWorker ws c.work.new.workers) c.deref_mut.ensures.value c.work.ensures.workers in
+    subst (λ (ws : List WorkerValue). AllZip LaterWorker ws c.work.new.workers) c.deref_mut.ensures.value
+    c.work.ensures.workers in
     let turned : AllZip LaterDesk c.in-Ok.desks.items c.work.new.desks =
-    subst (λ (ds : List DeskValue). AllZip LaterDesk ds c.work.new.desks) c.deref_mut-2.ensures.value c.work.ensures.desks in
-    let ws = all_lent LaterWorker c.work.new.workers c.args.workers.items c.args.workers.len c.args.workers.ok.0 worked in
+    subst (λ (ds : List DeskValue). AllZip LaterDesk ds c.work.new.desks) c.deref_mut-2.ensures.value
+    c.work.ensures.desks in
+    let ws = all_lent LaterWorker c.work.new.workers c.args.workers.items c.args.workers.len c.args.workers.ok.0
+    worked in
     let ds = all_lent LaterDesk c.work.new.desks c.in-Ok.desks.items c.in-Ok.desks.len c.in-Ok.desks.ok.0 turned in
-    if_ok _ (IsTraceAmong (length c.args.workers.items) (homes_of c.args.editors.items) c.args.lines.items) c.conclude.result
+    if_ok _ (IsTraceAmong (length c.args.workers.items) (homes_of c.args.editors.items) c.args.lines.items)
+    c.conclude.result
     (λ bytes ended.
     traced_after c.args.workers.items c.work.new.workers c.args.editors.items c.args.lines.items c.in-Ok.desks.items
     c.work.new.desks bytes c.requires.can c.in-Ok.ensures worked turned

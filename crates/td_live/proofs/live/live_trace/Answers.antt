@@ -32,7 +32,8 @@ in_room-requires-clause-can g c κs within =
     let same : length c.args.script.lines ≡ length c.as_slice-2.result.now =
     lines_fit c.requires.0 c.args.script c.requires.1 ∙ sym (ap (λ (l : List ℕ). length l) c.as_slice-2.ensures) in
     subst (λ (lines : List (List EditorLine)). AllZip CanSit c.in-Ok.editors.items lines) (sym c.into_vec-lines.ensures)
-    (all_can c.args.script.sites c.as_slice-2.result.now c.deref.result.now _ c.in-Ok.workers.items c.in-Ok.editors.items
+    (all_can c.args.script.sites c.as_slice-2.result.now c.deref.result.now _ c.in-Ok.workers.items
+    c.in-Ok.editors.items
     c.args.script.lines c.in-Ok.ensures.room counts same)
 
 pub returns-in-Ok : goal.returns-in-Ok
@@ -43,7 +44,8 @@ returns-in-Ok g c =
     lines_fit c.requires.0 c.args.script c.requires.1 ∙ sym (ap (λ (l : List ℕ). length l) c.as_slice-2.ensures) in
     if_ok _ (IsLiveTraceOf c.args.script) c.in_room.result
     (λ bytes is.
-    inr (subst (λ (homes : List ℕ). IsTraceAmong c.args.script.sites homes c.args.script.lines bytes) c.as_slice-2.ensures
+    inr (subst (λ (homes : List ℕ). IsTraceAmong c.args.script.sites homes c.args.script.lines bytes)
+    c.as_slice-2.ensures
     (traced_room c.args.script.sites c.as_slice-2.result.now c.deref.result.now _ c.in-Ok.workers.items
     c.in-Ok.editors.items c.args.script.lines c.in-Ok.ensures.room counts same bytes
     (subst (λ (lines : List (List EditorLine)).
@@ -53,7 +55,8 @@ returns-in-Ok g c =
 
 pub conclude_alone-requires-clause-homes : goal.conclude_alone-requires-clause-homes
 conclude_alone-requires-clause-homes g c =
-    subst (λ (homes : List ℕ). AllByRecursion (IsSiteOf c.args.script.sites) homes) (sym c.as_slice-in-Err-Refused.ensures)
+    subst (λ (homes : List ℕ). AllByRecursion (IsSiteOf c.args.script.sites) homes)
+    (sym c.as_slice-in-Err-Refused.ensures)
     (editors_fit c.requires.0 c.args.script c.requires.1)
 
 pub conclude_alone-requires-clause-each : goal.conclude_alone-requires-clause-each

@@ -11,10 +11,12 @@ loop-i-preserved c =
     elim c.if-eq.branch [
       | then-eq w ↦ rw w.at-is record {
         bound = omega arith;
-        place = last_here (same_id c.args.atom) list c.loop-i.at n c.index-list-i.result c.index-list-i.is c.loop-i-test.true (sym c.eq.ensures ∙ w.if-eq.true);
+        place = last_here (same_id c.args.atom) list c.loop-i.at n c.index-list-i.result c.index-list-i.is
+            c.loop-i-test.true (sym c.eq.ensures ∙ w.if-eq.true);
       }
       | else-eq w ↦ rw w.at-is record {
         bound = omega (arith, c.loop-i.invariant.bound);
-        place = last_there (same_id c.args.atom) list c.loop-i.at n c.index-list-i.result c.index-list-i.is c.loop-i-test.true c.loop-i.invariant.bound c.loop-i.invariant.place (sym c.eq.ensures ∙ w.if-eq.false);
+        place = last_there (same_id c.args.atom) list c.loop-i.at n c.index-list-i.result c.index-list-i.is
+            c.loop-i-test.true c.loop-i.invariant.bound c.loop-i.invariant.place (sym c.eq.ensures ∙ w.if-eq.false);
       }
     ]

@@ -8,5 +8,6 @@ use Rattle.td_order.proofs.beside.after_atom.Given as goal
 abbrev pub invariant-loop-i : goal.invariant-loop-i
 invariant-loop-i l = record {
   bound : l.at ≤ l.i;
-  place : (ids : List AtomIdValue) → put_after_last (same_id l.atom) ids (take l.i l.list) ≡ take l.at l.list ++ (ids ++ drop l.at (take l.i l.list));
+  place : (ids : List AtomIdValue) → put_after_last (same_id l.atom) ids (take l.i l.list) ≡ take l.at l.list
+      ++ (ids ++ drop l.at (take l.i l.list));
 }

@@ -13,4 +13,5 @@ returns c =
     let line = c.sort_unstable_by_key.new.self.items in
     line_up_of_sorted c.args.ops.now line c.requires
     (subst (λ (ops : List OpValue). IsPermutation ops line) copy c.sort_unstable_by_key.ensures.permutation)
-    (c.sort_unstable_by_key.ensures.sorted (λ (o : OpValue). record { 0 = (op_sum o, o.dot) }) (answers_always _ _ _ (λ f a r g h. search rules)))
+    (c.sort_unstable_by_key.ensures.sorted (λ (o : OpValue). record { 0 = (op_sum o, o.dot) })
+    (answers_always _ _ _ (λ f a r g h. search rules)))

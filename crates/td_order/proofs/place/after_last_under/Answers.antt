@@ -11,10 +11,13 @@ loop-i-preserved c =
     elim c.if-is_under_any.branch [
       | then-is_under_any w ↦ rw w.at-is record {
         bound = omega arith;
-        place = last_here (is_under_any c.args.placed.now c.args.tops.now) list c.loop-i.at n c.index-list-i.result c.index-list-i.is c.loop-i-test.true (sym c.is_under_any.ensures ∙ w.if-is_under_any.true);
+        place = last_here (is_under_any c.args.placed.now c.args.tops.now) list c.loop-i.at n c.index-list-i.result
+            c.index-list-i.is c.loop-i-test.true (sym c.is_under_any.ensures ∙ w.if-is_under_any.true);
       }
       | else-is_under_any w ↦ rw w.at-is record {
         bound = omega (arith, c.loop-i.invariant.bound);
-        place = last_there (is_under_any c.args.placed.now c.args.tops.now) list c.loop-i.at n c.index-list-i.result c.index-list-i.is c.loop-i-test.true c.loop-i.invariant.bound c.loop-i.invariant.place (sym c.is_under_any.ensures ∙ w.if-is_under_any.false);
+        place = last_there (is_under_any c.args.placed.now c.args.tops.now) list c.loop-i.at n c.index-list-i.result
+            c.index-list-i.is c.loop-i-test.true c.loop-i.invariant.bound c.loop-i.invariant.place
+            (sym c.is_under_any.ensures ∙ w.if-is_under_any.false);
       }
     ]

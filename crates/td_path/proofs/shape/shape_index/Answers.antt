@@ -13,17 +13,26 @@ loop-bit-preserved c =
     let some : 0 < c.loop-bit.count = omega arith in
     elim c.match-bit.branch [
       | in-Left w ↦
-          let next : drop i bits ≡ Left ∷ drop (i + 1) bits = drop_more bits i Left (omega (arith, c.loop-bit-test.true)) ∙ (λ k. w.in-Left.is k ∷ drop (i + 1) bits) in
+          let next : drop i bits ≡ Left ∷ drop (i + 1) bits =
+          drop_more bits i Left (omega (arith, c.loop-bit-test.true)) ∙ (λ k. w.in-Left.is k ∷ drop (i + 1) bits) in
           rw (w.before-is, w.count-is)
-          (found_left c.args.k bits c.loop-bit.before c.loop-bit.count (drop (i + 1) bits) (subst (λ (rest : Bits). FoundAfter c.args.k bits c.loop-bit.before c.loop-bit.count rest) next c.loop-bit.invariant) some)
+          (found_left c.args.k bits c.loop-bit.before c.loop-bit.count (drop (i + 1) bits)
+          (subst (λ (rest : Bits). FoundAfter c.args.k bits c.loop-bit.before c.loop-bit.count rest) next
+          c.loop-bit.invariant) some)
       | in-Right w ↦
-          let next : drop i bits ≡ Right ∷ drop (i + 1) bits = drop_more bits i Left (omega (arith, c.loop-bit-test.true)) ∙ (λ k. w.in-Right.is k ∷ drop (i + 1) bits) in
+          let next : drop i bits ≡ Right ∷ drop (i + 1) bits =
+          drop_more bits i Left (omega (arith, c.loop-bit-test.true))
+          ∙ (λ k. w.in-Right.is k ∷ drop (i + 1) bits) in
           rw (w.before-is, w.count-is)
-          (found_right c.args.k bits c.loop-bit.before c.loop-bit.count (drop (i + 1) bits) (subst (λ (rest : Bits). FoundAfter c.args.k bits c.loop-bit.before c.loop-bit.count rest) next c.loop-bit.invariant) some)
+          (found_right c.args.k bits c.loop-bit.before c.loop-bit.count (drop (i + 1) bits)
+          (subst (λ (rest : Bits). FoundAfter c.args.k bits c.loop-bit.before c.loop-bit.count rest) next
+          c.loop-bit.invariant) some)
     ]
 
 pub returns-then-count-gt0 : goal.returns-then-count-gt0
 returns-then-count-gt0 c =
     let bits = c.args.bits.now in
     let end : drop c.loop-bit.bit-index bits ≡ [] = drop_all c.loop-bit.bit-index bits (omega arith) in
-    found_here c.args.k bits c.loop-bit.before c.loop-bit.count (subst (λ (rest : Bits). FoundAfter c.args.k bits c.loop-bit.before c.loop-bit.count rest) end c.loop-bit.invariant) (omega arith)
+    found_here c.args.k bits c.loop-bit.before c.loop-bit.count
+    (subst (λ (rest : Bits). FoundAfter c.args.k bits c.loop-bit.before c.loop-bit.count rest) end
+    c.loop-bit.invariant) (omega arith)

@@ -9,7 +9,8 @@ use Rattle.td_report.proofs.summary.push_head.Goals as goal
 pub loop-index-preserved : goal.loop-index-preserved
 loop-index-preserved g c =
     printed_behind (flat_map escaped) (c.args.lines.now ++ codes "head \"") c.loop-index.lines c.push_atom.new.lines
-    (live_atoms (g.D.Doc.rows c.args.doc.now)) c.loop-index.index _ c.in_ok-push_atom.ensures refl c.loop-index.invariant
+    (live_atoms (g.D.Doc.rows c.args.doc.now)) c.loop-index.index _ c.in_ok-push_atom.ensures refl
+    c.loop-index.invariant
 
 pub returns : goal.returns
 returns g c =

@@ -6,4 +6,5 @@ use Rattle.td_report.proofs.summary.push_head.Given as goal
 
 abbrev pub invariant-loop-index : goal.invariant-loop-index
 invariant-loop-index g l =
-    l.lines ≡ (l.fn.lines ++ codes "head \"") ++ flat_map (flat_map escaped) (take l.index (live_atoms (g.D.Doc.rows l.doc)))
+    l.lines ≡ (l.fn.lines ++ codes "head \"") ++ flat_map (flat_map escaped)
+    (take l.index (live_atoms (g.D.Doc.rows l.doc)))

@@ -9,7 +9,8 @@ use Rattle.td_report.proofs.summary.summary_lines.Goals as goal
 
 pub push_head-requires : goal.push_head-requires
 push_head-requires g c =
-    subst IsDocument (sym c.doc.ensures) (rules_of c.args.one.now.machine (reached c.args.one.now c.entries.ensures.replica))
+    subst IsDocument (sym c.doc.ensures) (rules_of c.args.one.now.machine
+    (reached c.args.one.now c.entries.ensures.replica))
 
 pub returns : goal.returns
 returns g c =
@@ -19,5 +20,6 @@ returns g c =
     five_behind (summary_head size c.args.number c.args.commands) (site_line one) (site_line c.args.two.now.machine)
     (site_line c.args.three.now.machine) (head_line (live_atoms one.doc)) c.new-lines.result
     c.push_summary_head.new.lines c.push_site.new.lines c.push_site-2.new.lines last c.push_head.new.lines
-    c.new-lines.ensures c.in_ok-push_summary_head.ensures c.in_ok-push_site.ensures c.in_ok-push_site-2.ensures c.in_ok-push_site-3.ensures
+    c.new-lines.ensures c.in_ok-push_summary_head.ensures c.in_ok-push_site.ensures c.in_ok-push_site-2.ensures
+    c.in_ok-push_site-3.ensures
     (c.in_ok-push_head.ensures ∙ ap (λ (rows : List DocRow). last ++ head_line (live_atoms rows)) c.doc.ensures)

@@ -19,10 +19,12 @@ loop-preserved g c =
       all = c.loop.invariant.all;
       row = λ (y : AtomIdValue) e. subst (IsRow rows) (same_Some x y e) (comes_to_a_row rows c.loop.last x next);
       at = λ (d : IsDocument rows). (come d).goes_on;
-      printed = λ (d : IsDocument rows). printed_behind row_line c.args.lines.now c.loop.lines c.push_row.new.lines rows k _
+      printed = λ (d : IsDocument rows). printed_behind row_line c.args.lines.now c.loop.lines c.push_row.new.lines
+          rows k _
           c.in_ok-push_row.ensures (come d).found (c.loop.invariant.printed d);
     }
 
 pub returns-in_default : goal.returns-in_default
 returns-in_default g c = λ (d : IsDocument (g.D.Doc.rows c.args.doc.now)).
-    absurd (goes_to_the_end (g.D.Doc.rows c.args.doc.now) c.loop.counter c.after.result (omega (arith, c.loop.invariant.all)) (c.after.ensures ∙ c.loop.invariant.at d) c.in_default.not-Some)
+    absurd (goes_to_the_end (g.D.Doc.rows c.args.doc.now) c.loop.counter c.after.result
+    (omega (arith, c.loop.invariant.all)) (c.after.ensures ∙ c.loop.invariant.at d) c.in_default.not-Some)

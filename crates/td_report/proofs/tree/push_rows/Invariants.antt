@@ -11,6 +11,8 @@ abbrev pub invariant-loop : goal.invariant-loop
 invariant-loop g l = record {
   all : l.end ≡ length (g.D.Doc.rows l.doc);
   row : ForSome l.last (IsRow (g.D.Doc.rows l.doc));
-  at : IsDocument (g.D.Doc.rows l.doc) → id_after (g.D.Doc.rows l.doc) l.last ≡ first_id (drop l.counter (g.D.Doc.rows l.doc));
-  printed : IsDocument (g.D.Doc.rows l.doc) → l.lines ≡ l.fn.lines ++ flat_map row_line (take l.counter (g.D.Doc.rows l.doc));
+  at : IsDocument (g.D.Doc.rows l.doc) → id_after (g.D.Doc.rows l.doc) l.last
+      ≡ first_id (drop l.counter (g.D.Doc.rows l.doc));
+  printed : IsDocument (g.D.Doc.rows l.doc) → l.lines ≡ l.fn.lines
+      ++ flat_map row_line (take l.counter (g.D.Doc.rows l.doc));
 }

@@ -11,7 +11,8 @@ use Rattle.td_room.proofs.closing.close.Goals as goal
 pub meet_all-requires : goal.meet_all-requires
 meet_all-requires g c =
     let o = c.in-Ok-end_each in
-    linked_rows c.args.editors.items c.args.workers.items o.replicas.items o.answers.items o.rows.items o.ensures.ended c.requires
+    linked_rows c.args.editors.items c.args.workers.items o.replicas.items o.answers.items o.rows.items
+    o.ensures.ended c.requires
 
 pub gather-requires : goal.gather-requires
 gather-requires g c =
@@ -25,7 +26,8 @@ gather-requires g c =
 pub returns-clause-sites : goal.returns-clause-sites
 returns-clause-sites g c =
     let o = c.in-Ok-end_each in
-    closed_sites c.args.editors.items c.args.workers.items o.replicas.items o.answers.items o.rows.items c.requires o.ensures.ended
+    closed_sites c.args.editors.items c.args.workers.items o.replicas.items o.answers.items o.rows.items c.requires
+    o.ensures.ended
 
 pub returns-clause-all : goal.returns-clause-all
 returns-clause-all g c =
@@ -35,12 +37,14 @@ returns-clause-all g c =
 pub returns-clause-nobody : goal.returns-clause-nobody
 returns-clause-nobody g c =
     let o = c.in-Ok-end_each in
-    closed_nobody c.args.editors.items c.args.workers.items o.replicas.items o.answers.items o.rows.items c.requires o.ensures.ended
+    closed_nobody c.args.editors.items c.args.workers.items o.replicas.items o.answers.items o.rows.items c.requires
+    o.ensures.ended
 
 pub returns-clause-consistent : goal.returns-clause-consistent
 returns-clause-consistent g c =
     let o = c.in-Ok-end_each in
-    closed c.args.editors.items c.args.workers.items o.replicas.items o.answers.items o.rows.items c.requires o.ensures.ended
+    closed c.args.editors.items c.args.workers.items o.replicas.items o.answers.items o.rows.items c.requires
+    o.ensures.ended
     c.in_ok-meet_all.ensures
 
 pub returns-clause-goes_on : goal.returns-clause-goes_on
@@ -68,7 +72,8 @@ returns-clause-only g c =
     c.in_ok-answers.ensures ∙ ap (λ (hs : List ℕ). gathered hs o.answers.items) homes in
     λ (place k : ℕ) l.
     ap (λ (all : List (List Answer)). all_at k (answers_of (place + 1) es all)) same
-    ∙ only_these es c.args.workers.items o.replicas.items o.answers.items o.rows.items c.requires o.ensures.ended place k l
+    ∙ only_these es c.args.workers.items o.replicas.items o.answers.items o.rows.items c.requires o.ensures.ended
+    place k l
 
 pub returns-clause-looks : goal.returns-clause-looks
 returns-clause-looks g c =

@@ -10,7 +10,8 @@ index_mut-site-requires c =
     let hs : List ℕ = c.args.homes.now.items in
     let bs = c.args.sites.now.items in
     let h : ℕ = c.remove-home.result in
-    let p = first_out hs c.remove-home.new.self.items h c.requires.some c.remove-home.ensures.value c.remove-home.ensures.items in
+    let p = first_out hs c.remove-home.new.self.items h c.requires.some c.remove-home.ensures.value
+    c.remove-home.ensures.items in
     let can = subst (λ (l : List ℕ). CanGather l bs) p c.requires.can in
     let there : c.place-place.result < length bs =
     subst (λ (k : ℕ). k < length bs) (sym c.place-place.ensures.place) (place_there (h - 1) bs can.1) in
@@ -21,9 +22,11 @@ take_first-answers-requires c =
     let hs : List ℕ = c.args.homes.now.items in
     let bs = c.args.sites.now.items in
     let h : ℕ = c.remove-home.result in
-    let p = first_out hs c.remove-home.new.self.items h c.requires.some c.remove-home.ensures.value c.remove-home.ensures.items in
+    let p = first_out hs c.remove-home.new.self.items h c.requires.some c.remove-home.ensures.value
+    c.remove-home.ensures.items in
     let can = subst (λ (l : List ℕ). CanGather l bs) p c.requires.can in
-    let has : HasFirst c.place-place.result bs = subst (λ (k : ℕ). HasFirst k bs) (sym c.place-place.ensures.place) can.1 in
+    let has : HasFirst c.place-place.result bs = subst (λ (k : ℕ). HasFirst k bs) (sym c.place-place.ensures.place)
+    can.1 in
     some_there c.place-place.result bs c.index_mut-site.result.now has c.index_mut-site.ensures.value
 
 pub returns-clause-can : goal.returns-clause-can
@@ -31,13 +34,17 @@ returns-clause-can c =
     let hs : List ℕ = c.args.homes.now.items in
     let bs = c.args.sites.now.items in
     let h : ℕ = c.remove-home.result in
-    let p = first_out hs c.remove-home.new.self.items h c.requires.some c.remove-home.ensures.value c.remove-home.ensures.items in
+    let p = first_out hs c.remove-home.new.self.items h c.requires.some c.remove-home.ensures.value
+    c.remove-home.ensures.items in
     let can = subst (λ (l : List ℕ). CanGather l bs) p c.requires.can in
-    let has : HasFirst c.place-place.result bs = subst (λ (k : ℕ). HasFirst k bs) (sym c.place-place.ensures.place) can.1 in
-    let is = first_is c.place-place.result bs c.index_mut-site.result.now c.take_first-answers.new.self c.take_first-answers.result
+    let has : HasFirst c.place-place.result bs = subst (λ (k : ℕ). HasFirst k bs) (sym c.place-place.ensures.place)
+    can.1 in
+    let is = first_is c.place-place.result bs c.index_mut-site.result.now c.take_first-answers.new.self
+    c.take_first-answers.result
     (place_there c.place-place.result bs has) c.index_mut-site.ensures.value c.take_first-answers.ensures in
     subst (λ (l : List (List (List Answer))). CanGather c.remove-home.new.self.items l) is.1
-    (subst (λ (k : ℕ). CanGather c.remove-home.new.self.items (without_first k bs)) (sym c.place-place.ensures.place) can.2)
+    (subst (λ (k : ℕ). CanGather c.remove-home.new.self.items (without_first k bs)) (sym c.place-place.ensures.place)
+    can.2)
 
 pub returns-clause-all : goal.returns-clause-all
 returns-clause-all c =
@@ -48,8 +55,10 @@ returns-clause-all c =
     let a : List Answer = c.take_first-answers.result in
     let p = first_out hs rest h c.requires.some c.remove-home.ensures.value c.remove-home.ensures.items in
     let can = subst (λ (l : List ℕ). CanGather l bs) p c.requires.can in
-    let has : HasFirst c.place-place.result bs = subst (λ (k : ℕ). HasFirst k bs) (sym c.place-place.ensures.place) can.1 in
+    let has : HasFirst c.place-place.result bs = subst (λ (k : ℕ). HasFirst k bs) (sym c.place-place.ensures.place)
+    can.1 in
     let is = first_is c.place-place.result bs c.index_mut-site.result.now c.take_first-answers.new.self a
     (place_there c.place-place.result bs has) c.index_mut-site.ensures.value c.take_first-answers.ensures in
     one_more c.args.all.now.items c.push.new.self.items hs rest h c.place-place.result bs
-    (set bs c.place-place.result c.take_first-answers.new.self) a c.in_ok-push.ensures.items p c.place-place.ensures.place is.0 is.1
+    (set bs c.place-place.result c.take_first-answers.new.self) a c.in_ok-push.ensures.items p
+    c.place-place.ensures.place is.0 is.1

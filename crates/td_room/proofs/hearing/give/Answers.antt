@@ -8,7 +8,8 @@ returns-in_err-catch_up-clause-heard g c =
     let u = c.catch_up.new.self in
     let q = c.take.new.peer in
     heard_then c.args.site.now t u c.args.peer.now q q c.take.ensures.heard
-    (heard_went t u q (nexts_went t u c.catch_up.ensures.later c.catch_up.ensures.nexts) (nexts_locals t u c.catch_up.ensures.nexts))
+    (heard_went t u q (nexts_went t u c.catch_up.ensures.later c.catch_up.ensures.nexts)
+    (nexts_locals t u c.catch_up.ensures.nexts))
 
 pub returns-in_ok-catch_up-clause-heard : goal.returns-in_ok-catch_up-clause-heard
 returns-in_ok-catch_up-clause-heard g c =
@@ -16,4 +17,5 @@ returns-in_ok-catch_up-clause-heard g c =
     let u = c.catch_up.new.self in
     let q = c.take.new.peer in
     heard_then c.args.site.now t u c.args.peer.now q q c.take.ensures.heard
-    (heard_went t u q (nexts_went t u c.catch_up.ensures.later c.catch_up.ensures.nexts) (nexts_locals t u c.catch_up.ensures.nexts))
+    (heard_went t u q (nexts_went t u c.catch_up.ensures.later c.catch_up.ensures.nexts)
+    (nexts_locals t u c.catch_up.ensures.nexts))

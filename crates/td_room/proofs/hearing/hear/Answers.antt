@@ -11,7 +11,8 @@ returns-clause-heard g c =
     let q = c.give.new.peer in
     let r = c.take_packet.new.self in
     let two : Heard s p u r =
-    heard_then s u u p q r c.give.ensures.heard (heard_packet u q r c.take_packet.ensures.later c.take_packet.ensures.same c.take_packet.ensures.hears) in
+    heard_then s u u p q r c.give.ensures.heard (heard_packet u q r c.take_packet.ensures.later
+    c.take_packet.ensures.same c.take_packet.ensures.hears) in
     heard_then s u c.give-2.new.site p r c.give-2.new.peer two c.give-2.ensures.heard
 
 pub returns-clause-took : goal.returns-clause-took

@@ -11,7 +11,9 @@ returns-clause-heard g c =
     let s = c.args.site.now in
     let t = c.step.new.self in
     let w = c.requires.waits in
-    let i : IsReplica s.replica = subst (λ (r : ReplicaValue). IsReplica r) c.replica.ensures c.entries.ensures.replica in
+    let i : IsReplica s.replica = subst (λ (r : ReplicaValue). IsReplica r) c.replica.ensures
+    c.entries.ensures.replica in
     let replica : t.replica ≡ after_step (Take w.0) s.replica =
     ap (λ (x : SiteValue). x.replica) c.in_ok-step.ensures.ok ∙ ap (λ (x : Input). after_step x s.replica) w.1 in
-    heard_take s t c.args.peer.now c.done.new.self w.0 i c.step.ensures.later replica c.done.ensures c.requires.own w.2 w.3 w.4
+    heard_take s t c.args.peer.now c.done.new.self w.0 i c.step.ensures.later replica c.done.ensures c.requires.own
+    w.2 w.3 w.4

@@ -12,5 +12,6 @@ returns g c =
       last = last;
       goes_on = prefix_then c.args.told.list c.learn.new.self.known last c.learn.ensures.told c.look_once.ensures.known;
       legal = c.look_once.ensures.legal;
-      seen = subst (λ (l : List Publish). IsPrefix l last) (ap (λ (r : ReaderValue). r.seen) c.learn.ensures.same) c.look_once.ensures.seen;
+      seen = subst (λ (l : List Publish). IsPrefix l last) (ap (λ (r : ReaderValue). r.seen) c.learn.ensures.same)
+          c.look_once.ensures.seen;
     }

@@ -1,8 +1,10 @@
-use Rattle.std.proofs.Common.{◌≡◌, ◌<◌, ◌≤◌, ◌+◌, ◌∙◌, ◌++◌, ◌∷◌, [], ℕ, List, length, take, drop, get_or, refl, sym, ap, subst, arith}
+use Rattle.std.proofs.Common.{◌≡◌, ◌<◌, ◌≤◌, ◌+◌, ◌∙◌, ◌++◌, ◌∷◌, [], ℕ, List, length, take}
+use Rattle.std.proofs.Common.{drop, get_or, refl, sym, ap, subst, arith}
 use Rattle.td_meeting.specs.Thin.{Loss}
 use Rattle.td_line.specs.Editors.{EditorValue}
 use Rattle.td_room.specs.Opening.{AreOpen, AreOpened}
-use Rattle.td_room.proofs.Opens.{take_one, drop_one, take_length, take_whole, drop_whole, opened_more, all_get, as_many_workers}
+use Rattle.td_room.proofs.Opens.{take_one, drop_one, take_length, take_whole, drop_whole}
+use Rattle.td_room.proofs.Opens.{opened_more, all_get, as_many_workers}
 use Rattle.td_room.proofs.opening.open_editors.Goals as goal
 
 pub loop-i-init : goal.loop-i-init
@@ -13,7 +15,8 @@ loop-i-init g c =
       peers = refl;
       opened = subst (λ (es : List EditorValue). AreOpened [] [] es) (sym e) tt;
       opens = λ (size : ℕ) (lost : Loss) o.
-          subst (λ (es : List EditorValue). AreOpen [] c.args.homes.now size lost es 1 c.args.workers.now.items c.args.readers.items) (sym e) o;
+          subst (λ (es : List EditorValue). AreOpen [] c.args.homes.now size lost es 1 c.args.workers.now.items
+          c.args.readers.items) (sym e) o;
     }
 
 pub open_editor-requires : goal.open_editor-requires
@@ -37,8 +40,10 @@ open_editor-requires g c =
         size = c.requires.opens.0;
         lost = c.requires.opens.1;
         number_is = ap (λ (k : ℕ). k + 1) (sym (take_length hs i before));
-        are_open = subst (λ (l : List ℕ). AreOpen (take i hs) l c.requires.opens.0 c.requires.opens.1 c.loop-i.editors.items 1
-            c.loop-i.workers.items c.loop-i.readers.items) front (v.opens c.requires.opens.0 c.requires.opens.1 c.requires.opens.2);
+        are_open = subst (λ (l : List ℕ). AreOpen (take i hs) l c.requires.opens.0 c.requires.opens.1
+            c.loop-i.editors.items 1
+            c.loop-i.workers.items c.loop-i.readers.items) front
+            (v.opens c.requires.opens.0 c.requires.opens.1 c.requires.opens.2);
       };
     }
 
@@ -72,7 +77,8 @@ loop-i-preserved g c =
           c.open_editor.new.workers.items c.open_editor.new.readers.items) (sym more)
           (c.in_ok-open_editor.ensures.opens (take i hs) (drop (i + 1) hs) size lost
           (ap (λ (k : ℕ). k + 1) (sym (take_length hs i before)))
-          (subst (λ (l : List ℕ). AreOpen (take i hs) l size lost c.loop-i.editors.items 1 c.loop-i.workers.items c.loop-i.readers.items)
+          (subst (λ (l : List ℕ). AreOpen (take i hs) l size lost c.loop-i.editors.items 1 c.loop-i.workers.items
+          c.loop-i.readers.items)
           front (v.opens size lost o)));
     }
 
@@ -88,7 +94,8 @@ returns g c =
     record {
       opens = λ (size : ℕ) (lost : Loss) o. (
         c.loop-i.readers.items,
-        subst (λ (x : List ℕ × List ℕ). AreOpen x.0 x.1 size lost c.loop-i.editors.items 1 c.loop-i.workers.items c.loop-i.readers.items)
+        subst (λ (x : List ℕ × List ℕ). AreOpen x.0 x.1 size lost c.loop-i.editors.items 1 c.loop-i.workers.items
+            c.loop-i.readers.items)
             (λ j. (take_whole hs i all j, drop_whole hs i all j)) (v.opens size lost o),
       );
       opened = subst (λ (x : List ℕ × List ℕ). AreOpened x.0 x.1 c.loop-i.editors.items)

@@ -13,13 +13,15 @@ returns-clause-next g c =
     let its : List ReaderValue = c.in_ok-worker.its in
     let n : c.len.result ≡ length ws = search rules in
     let site : c.at-site.result ≡ length ws + 1 = c.at-site.ensures ∙ ap (λ (k : ℕ). k + 1) n in
-    let next : OpenedNext c.args.homes.now c.args.n (length ws + 1) c.first_row-row.result ws c.push_reserved.new.self.items
+    let next : OpenedNext c.args.homes.now c.args.n (length ws + 1) c.first_row-row.result ws
+    c.push_reserved.new.self.items
     c.args.readers.now.items c.push_reserved-2.new.self.items =
     record {
       worker = w;
       its = its;
       last = c.push_reserved.ensures.items ∙ ap (λ (xs : List WorkerValue). xs ++ w ∷ []) c.reserve.ensures.items;
-      theirs = c.push_reserved-2.ensures.items ∙ ap (λ (xs : List (List ReaderValue)). xs ++ its ∷ []) c.reserve-2.ensures.items;
+      theirs = c.push_reserved-2.ensures.items ∙ ap (λ (xs : List (List ReaderValue)). xs ++ its ∷ [])
+          c.reserve-2.ensures.items;
       peers = c.in_ok-worker.ensures.peers;
       opened = λ (lost : Loss) fresh.
           subst (λ (k : ℕ). IsOpen [] c.args.homes.now c.args.n lost [] k w its) site

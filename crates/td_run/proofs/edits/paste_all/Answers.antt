@@ -21,7 +21,8 @@ loop-run-init g c =
       ends = tt;
       same = refl;
       asked = none_before (ask_all c.args.site (pastes c.args.index (runs_of atoms)) c.args.world.now)
-          ∙ ap (λ (runs : List (List (List ℕ))). done_before 0 (ask_all c.args.site (pastes c.args.index runs) c.args.world.now)) (sym all);
+          ∙ ap (λ (runs : List (List (List ℕ))). done_before 0
+          (ask_all c.args.site (pastes c.args.index runs) c.args.world.now)) (sym all);
       counted = omega (arith, ap atoms_in all, ap length (atoms_of_runs atoms));
     }
 
@@ -31,14 +32,25 @@ loop-run-preserved g c =
     let rest : List (List (List ℕ)) = c.next.new.self in
     let left : c.loop-run.run-iterator ≡ run ∷ rest = c.in-Some.ensures.steps in
     let size : c.from-len.result ≡ length run = search rules in
-    let made : is_made (reply_to (ask c.args.site (Paste c.loop-run.index run)) c.loop-run.world) ≡ true = search rules in
-    let after : c.call.new.self ≡ moved (ask c.args.site (Paste c.loop-run.index run)) c.loop-run.world = search rules in
+    let made : is_made (reply_to (ask c.args.site (Paste c.loop-run.index run)) c.loop-run.world)
+    ≡ true = search rules in
+    let after : c.call.new.self ≡ moved (ask c.args.site (Paste c.loop-run.index run)) c.loop-run.world =
+    search rules in
     record {
       can = tt;
       ends = tt;
       same = search rules;
-      asked = pasted c.args.site c.loop-run.index c.loop-run.done c.from-len.result c.in_ok-index.index run rest c.loop-run.run-iterator
-          c.loop-run.world c.call.new.self (ask_all c.args.site (pastes c.args.index (runs_of c.args.atoms.now)) c.args.world.now)
+      asked = pasted c.args.site c.loop-run.index c.loop-run.done c.from-len.result c.in_ok-index.index run rest
+          c.loop-run.run-iterator
+          c.loop-run.world c.call.new.self (ask_all c.args.site (pastes c.args.index (runs_of c.args.atoms.now))
+          c.args.world.now)
           left made after size c.in_ok-index.ensures c.loop-run.invariant.asked;
-      counted = omega (arith, c.loop-run.invariant.counted, ap atoms_in left, size, length-append run (flat_map (λ (r : List (List ℕ)). r) rest));
+      counted = omega (
+        arith,
+        c.loop-run.invariant.counted,
+        ap atoms_in left,
+        size,
+        length-append run
+            (flat_map (λ (r : List (List ℕ)). r) rest),
+      );
     }

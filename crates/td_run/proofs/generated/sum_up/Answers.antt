@@ -13,6 +13,7 @@ returns-clause-taken g c =
     let same : live_atoms (machine_of w 1).doc ≡ shown_atoms (machine_of w 1).log =
     atoms_shown w c.replica.ensures.world 1 (omega arith) (omega (arith, c.requires)) in
     let own : IfOk c.summary_lines.result (λ lines. lines
-    ≡ summary_of c.args.size c.args.number c.args.commands (machines w) (live_atoms (machine_of w 1).doc)) = search rules in
+    ≡ summary_of c.args.size c.args.number c.args.commands (machines w) (live_atoms (machine_of w 1).doc)) =
+    search rules in
     subst (λ (atoms : List (List ℕ)). IfOk c.summary_lines.result (λ lines. lines
     ≡ summary_of c.args.size c.args.number c.args.commands (machines w) atoms)) same own

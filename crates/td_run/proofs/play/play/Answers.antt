@@ -53,14 +53,16 @@ returns-clause-played g c =
     let left : List Command = drop c.loop-command.command-index commands in
     let past : length commands ≤ c.loop-command.command-index = omega (arith, c.loop-command-test.false) in
     let none : left ≡ [] = drop_of_length-le commands past in
-    let e = ends n commands left (g.K.Sink.held c.args.sink.now) (g.K.Sink.held c.loop-command.sink) c.loop-command.player
+    let e = ends n commands left (g.K.Sink.held c.args.sink.now) (g.K.Sink.held c.loop-command.sink)
+    c.loop-command.player
     none c.loop-command.invariant.way in
     let new = c.in_ok-put_rest.ensures.new in
     record {
       end = e.0;
       played = record {
         own = subst (λ (all : List Command). PrintsAll own_text (start_of n) all e.0) c.as_slice-commands.ensures e.1;
-        taken = subst (λ (all : List Command). PrintsAll taken_text (start_of n) all e.0) c.as_slice-commands.ensures e.2;
+        taken = subst (λ (all : List Command). PrintsAll taken_text (start_of n) all e.0) c.as_slice-commands.ensures
+            e.2;
         promises = λ some. subst IsPromised (ap (λ (p : Printed). p.world) new ∙ sym e.3) c.keeps_promises.ensures;
       };
       world_is = ap (λ (p : Printed). p.world) (c.player-2.view_is ∙ new) ∙ sym e.3;
@@ -93,7 +95,8 @@ returns-in_err-put_piece-clause-halted g c =
     let way = one_more n commands before now now c.loop-command.player next next c.loop-command.command-index
     c.command-item.result c.loop-command-test.true c.command-item.is c.in_ok-perform.ensures.own
     c.in_ok-perform.ensures.taken (none_out now next) c.loop-command.invariant.way in
-    err_always _ (halts c.args.script.now left before now (g.K.Sink.held c.put_piece.new.sink) next c.in_err-put_piece.ensures.part
+    err_always _ (halts c.args.script.now left before now (g.K.Sink.held c.put_piece.new.sink) next
+    c.in_err-put_piece.ensures.part
     (subst (λ (all : List Command). IsUnderWay n all left before now next) c.as_slice-commands.ensures way))
 
 pub returns-in_err-put_rest-clause-halted : goal.returns-in_err-put_rest-clause-halted
@@ -103,6 +106,7 @@ returns-in_err-put_rest-clause-halted g c =
     let before = g.K.Sink.held c.args.sink.now in
     let now = g.K.Sink.held c.loop-command.sink in
     let held : Printed = c.loop-command.player in
-    err_always _ (halts c.args.script.now left before now (g.K.Sink.held c.put_rest.new.sink) held c.in_err-put_rest.ensures.part
+    err_always _ (halts c.args.script.now left before now (g.K.Sink.held c.put_rest.new.sink) held
+    c.in_err-put_rest.ensures.part
     (subst (λ (all : List Command). IsUnderWay c.args.script.now.sites all left before now held)
     c.as_slice-commands.ensures c.loop-command.invariant.way))

@@ -15,7 +15,8 @@ returns-in-Ok g c =
       answer = p.answer;
       is = script_answered_to g.S.Source c.args.source.now c.read_all.new.source c.in-Ok.input p.answer
           c.read_all.ensures.turns c.in-Ok.ensures.all c.in-Ok.ensures.ended
-          (subst (λ (input : List ℕ). IfOk p.answer (λ a. IsPlayedOr Play input a.status a.bytes)) c.as_slice.ensures p.is)
+          (subst (λ (input : List ℕ). IfOk p.answer (λ a. IsPlayedOr Play input a.status a.bytes)) c.as_slice.ensures
+          p.is)
           p.read;
       ended = p.ended;
     }

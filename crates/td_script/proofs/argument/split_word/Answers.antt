@@ -6,4 +6,5 @@ use Rattle.td_script.proofs.argument.split_word.Goals as goal
 pub returns : goal.returns
 returns c =
     rw (c.split_at.ensures.front, c.split_at.ensures.back, c.unwrap_or-end.ensures)
-    (word_cut c.args.text.now c.find.result (find_char 32 c.args.text.now c.find.result c.find.ensures.cases (omega arith)))
+    (word_cut c.args.text.now c.find.result (find_char 32 c.args.text.now c.find.result c.find.ensures.cases
+    (omega arith)))

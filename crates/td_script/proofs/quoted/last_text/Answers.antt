@@ -9,7 +9,9 @@ use Rattle.td_script.proofs.quoted.last_text.Goals as goal
 pub returns-in_default : goal.returns-in_default
 returns-in_default c =
     let all = c.in_ok-argument.argument.now in
-    ap (λ (r : Reading (List (List ℕ))). behind r last) (no_opening c.args.rest.now all c.in_ok-argument.ensures (strip_prefix_char 34 all None c.in_default.ensures.cases (omega arith)))
+    ap (λ (r : Reading (List (List ℕ))). behind r last)
+    (no_opening c.args.rest.now all c.in_ok-argument.ensures
+    (strip_prefix_char 34 all None c.in_default.ensures.cases (omega arith)))
 
 pub returns-in-Err-Long : goal.returns-in-Err-Long
 returns-in-Err-Long c =
@@ -21,7 +23,8 @@ returns-in-Err-Long c =
     let opens = strip_prefix_char 34 all (Some c.in-Some.quoted) c.in-Some.ensures.cases (omega arith) in
     let read = rw c.in-Some-2.is at c.in_ok-text.ensures.some in
     let long = rw c.in-Err-Long.field-0-is at c.in-Err-Long.ensures.fault in
-    long_text rest text left c.in-Err-Long.field-0-0 (read_text rest all inner text left c.in_ok-argument.ensures opens read.1)
+    long_text rest text left c.in-Err-Long.field-0-0
+    (read_text rest all inner text left c.in_ok-argument.ensures opens read.1)
     (subst (λ (bs : List ℕ). IsFirstLong (graphemes true bs) c.in-Err-Long.field-0-0) c.deref.ensures long)
 
 pub returns-in-Ok : goal.returns-in-Ok
@@ -33,7 +36,8 @@ returns-in-Ok c =
     let left = drop c.in-Some-2.len inner in
     let opens = strip_prefix_char 34 all (Some c.in-Some.quoted) c.in-Some.ensures.cases (omega arith) in
     let read = rw c.in-Some-2.is at c.in_ok-text.ensures.some in
-    text_then_last rest text left c.in-Ok.field-0 (read_text rest all inner text left c.in_ok-argument.ensures opens read.1) (c.in-Ok.ensures.ok ∙ ap (graphemes true) c.deref.ensures) c.in-Ok.ensures.atoms
+    text_then_last rest text left c.in-Ok.field-0 (read_text rest all inner text left c.in_ok-argument.ensures opens
+    read.1) (c.in-Ok.ensures.ok ∙ ap (graphemes true) c.deref.ensures) c.in-Ok.ensures.atoms
     ∙ last_left c.in-Ok.field-0 left (omega (arith, c.if-len-quoted.true, length-drop c.in-Some-2.len inner))
 
 pub returns : goal.returns
@@ -45,5 +49,6 @@ returns c =
     let left = drop c.in-Some-2.len inner in
     let opens = strip_prefix_char 34 all (Some c.in-Some.quoted) c.in-Some.ensures.cases (omega arith) in
     let read = rw c.in-Some-2.is at c.in_ok-text.ensures.some in
-    text_then_last rest text left c.in-Ok.field-0 (read_text rest all inner text left c.in_ok-argument.ensures opens read.1) (c.in-Ok.ensures.ok ∙ ap (graphemes true) c.deref.ensures) c.in-Ok.ensures.atoms
+    text_then_last rest text left c.in-Ok.field-0 (read_text rest all inner text left c.in_ok-argument.ensures opens
+    read.1) (c.in-Ok.ensures.ok ∙ ap (graphemes true) c.deref.ensures) c.in-Ok.ensures.atoms
     ∙ last_done c.in-Ok.field-0 left (omega (arith, c.if-len-quoted.false, length-drop c.in-Some-2.len inner))

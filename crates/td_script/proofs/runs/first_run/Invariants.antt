@@ -6,5 +6,6 @@ abbrev pub invariant-loop-len : goal.invariant-loop-len
 invariant-loop-len l = record {
   counted : l.count ≡ l.len-index;
   bytes : l.room + sum (take l.count l.lengths) ≡ 64;
-  same : (atoms : List (List ℕ)) → map length atoms ≡ l.lengths → runs_of atoms ≡ runs_on (take l.count atoms) l.room (drop l.count atoms);
+  same : (atoms : List (List ℕ)) → map length atoms ≡ l.lengths → runs_of atoms
+      ≡ runs_on (take l.count atoms) l.room (drop l.count atoms);
 }

@@ -3,8 +3,10 @@ use Rattle.td_script.proofs.runs.runs_of.Goals as goal
 
 pub invariant_of-result : goal.invariant_of-result
 invariant_of-result c =
-    (runs_kept c.args.atoms.now c.lengths.result.now c.bytes.result.now c.requires.each c.requires.few c.lengths.ensures c.bytes.ensures).0
+    (runs_kept c.args.atoms.now c.lengths.result.now c.bytes.result.now c.requires.each c.requires.few
+    c.lengths.ensures c.bytes.ensures).0
 
 pub returns : goal.returns
 returns c =
-    (runs_kept c.args.atoms.now c.lengths.result.now c.bytes.result.now c.requires.each c.requires.few c.lengths.ensures c.bytes.ensures).1
+    (runs_kept c.args.atoms.now c.lengths.result.now c.bytes.result.now c.requires.each c.requires.few
+    c.lengths.ensures c.bytes.ensures).1

@@ -12,12 +12,16 @@ loop-rest-preserved c =
     let before = c.loop-rest.before in
     let number = c.loop-rest.number in
     let command = c.in-Ok-Some.command in
-    let said : judged (length c.args.bytes.now) before c.split_line.result.0.now ≡ Ok (Some command) = rw c.in-Ok-Some.field-0-is at c.in-Ok-Some.ensures in
-    let more = one_more c.args.bytes.now c.loop-rest.rest.now c.split_line.result.0.now c.split_line.result.1.now c.loop-rest.commands before number command c.loop-rest.invariant.read c.split_line.ensures.lines said in
+    let said : judged (length c.args.bytes.now) before c.split_line.result.0.now
+    ≡ Ok (Some command) = rw c.in-Ok-Some.field-0-is at c.in-Ok-Some.ensures in
+    let more = one_more c.args.bytes.now c.loop-rest.rest.now c.split_line.result.0.now c.split_line.result.1.now
+    c.loop-rest.commands before number command c.loop-rest.invariant.read c.split_line.ensures.lines said in
     record {
       read =
-          subst (λ (b : Before). IsReadTo c.args.bytes.now c.split_line.result.1.now c.push.new.self b (number + 1)) (sym c.after-before.ensures.after)
-          (subst (λ (cs : List Command). IsReadTo c.args.bytes.now c.split_line.result.1.now cs (after before command) (number + 1)) (sym c.in_ok-push-in-Ok-Some.ensures.ok) more);
+          subst (λ (b : Before). IsReadTo c.args.bytes.now c.split_line.result.1.now c.push.new.self b (number + 1))
+          (sym c.after-before.ensures.after)
+          (subst (λ (cs : List Command). IsReadTo c.args.bytes.now c.split_line.result.1.now cs (after before command)
+          (number + 1)) (sym c.in_ok-push-in-Ok-Some.ensures.ok) more);
       count = omega (arith, c.split_line.ensures.shorter, c.loop-rest.invariant.count);
       requests = omega (arith, c.after-before.ensures.bound, c.loop-rest.invariant.requests);
     }
@@ -26,6 +30,10 @@ pub returns-clause-ok : goal.returns-clause-ok
 returns-clause-ok c =
     let bytes = c.args.bytes.now in
     let read = c.loop-rest.invariant.read in
-    let none : length c.loop-rest.rest.now ≡ 0 = eqb-true (length c.loop-rest.rest.now) 0 (sym c.is_empty.ensures ∙ c.loop-rest-test.false) in
-    let spelled = spelled_of_lines bytes c.loop-rest.commands c.if-bytes-gt-MAX_SCRIPT.false (all_read bytes c.loop-rest.rest.now c.loop-rest.commands c.loop-rest.before c.loop-rest.number read (omega arith)) in
-    subst (λ (b : Before). Spells bytes (record { sites = b.sites; commands = c.loop-rest.commands })) (sym read.before_is) spelled
+    let none : length c.loop-rest.rest.now ≡ 0 = eqb-true (length c.loop-rest.rest.now) 0
+    (sym c.is_empty.ensures ∙ c.loop-rest-test.false) in
+    let spelled = spelled_of_lines bytes c.loop-rest.commands c.if-bytes-gt-MAX_SCRIPT.false
+    (all_read bytes c.loop-rest.rest.now c.loop-rest.commands c.loop-rest.before c.loop-rest.number read
+    (omega arith)) in
+    subst (λ (b : Before). Spells bytes (record { sites = b.sites; commands = c.loop-rest.commands }))
+    (sym read.before_is) spelled

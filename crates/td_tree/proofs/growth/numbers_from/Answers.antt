@@ -8,4 +8,5 @@ use Rattle.td_tree.proofs.growth.numbers_from.Goals as goal
 pub returns : goal.returns
 returns c =
     subst (λ r. IfOk r (λ numbers. vec_items numbers ≡ range_with_len c.args.first c.args.count)) c.in_ok-collect.was
-    (items_from_collect c.collect.result c.collect.ensures.ran (YieldsList-from_range c.args.first (c.args.first + c.args.count) c.args.count refl (omega arith)))
+    (items_from_collect c.collect.result c.collect.ensures.ran
+    (YieldsList-from_range c.args.first (c.args.first + c.args.count) c.args.count refl (omega arith)))

@@ -13,7 +13,9 @@ loop-index-preserved c =
     record {
       room = omega (arith, c.loop-index.invariant.room, c.push_state.ensures.room, c.push_state.ensures.long);
       there =
-          c.push_state.ensures.state ∙ ap (λ (xs : List RowState). xs ++ InArray c.args.array c.loop-index.index ∷ []) c.loop-index.invariant.there
+          c.push_state.ensures.state ∙ ap (λ (xs : List RowState). xs ++ InArray c.args.array c.loop-index.index ∷ [])
+          c.loop-index.invariant.there
           ∙ append_assoc before so_far (InArray c.args.array c.loop-index.index ∷ [])
-          ∙ ap (λ (xs : List RowState). before ++ xs) (sym (map-range_with_len_more (InArray c.args.array) 0 c.loop-index.index c.loop-index.index (omega arith)));
+          ∙ ap (λ (xs : List RowState). before ++ xs) (sym
+          (map-range_with_len_more (InArray c.args.array) 0 c.loop-index.index c.loop-index.index (omega arith)));
     }

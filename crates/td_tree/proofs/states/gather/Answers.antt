@@ -7,7 +7,8 @@ use Rattle.td_tree.proofs.states.gather.Goals as goal
 
 pub set_state-requires-clause-row : goal.set_state-requires-clause-row
 set_state-requires-clause-row c =
-    let known = c.requires.known (get_or c.args.numbers.now c.loop-k.k 0) (in_place c.args.numbers.now 0 c.loop-k.k c.loop-k-test.true) in
+    let known = c.requires.known (get_or c.args.numbers.now c.loop-k.k 0)
+    (in_place c.args.numbers.now 0 c.loop-k.k c.loop-k-test.true) in
     let long = c.loop-k.invariant.long in
     omega arith
 
@@ -25,6 +26,8 @@ loop-k-preserved c =
     let s : RowState = InArray c.args.array k in
     record {
       long = step_long states (get_or numbers k 0) s l now c.set_state.ensures ∙ i.long;
-      inside = λ j b. own_state states now numbers k (λ n. InArray c.args.array n) low l c.set_state.ensures c.requires.apart i.inside j b;
-      others = λ r n. step_other states (get_or numbers k 0) s l now c.set_state.ensures r (away numbers k r low n) ∙ i.others r n;
+      inside = λ j b. own_state states now numbers k (λ n. InArray c.args.array n) low l c.set_state.ensures
+          c.requires.apart i.inside j b;
+      others = λ r n. step_other states (get_or numbers k 0) s l now c.set_state.ensures r (away numbers k r low n)
+          ∙ i.others r n;
     }

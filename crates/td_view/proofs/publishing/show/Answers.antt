@@ -34,5 +34,6 @@ returns-clause-stands g c =
     let y = c.publish_as.result.0.desk.shown.value in
     if_ok c.publish_as.result.1 _ _ _
     (λ v. stands_next y a.upto a.last a.count (changed_all a.changes.now x.atoms) a.next.now
-    (all_done (state_of y) (state_of x) _ a.changes.now a.upto a.last a.count a.next.now v.0 r.pending) r.counted r.legal r.ends)
+    (all_done (state_of y) (state_of x) _ a.changes.now a.upto a.last a.count a.next.now v.0 r.pending) r.counted
+    r.legal r.ends)
     c.publish_as.ensures.values

@@ -19,11 +19,14 @@ returns-in-Some-clause-legal c =
     let x = c.args.press.now.desk.shown.value in
     let owes = r.owed c.in-Some.next c.in-Some.is in
     subst IsLegal (sym owes.0)
-    (may_follow x c.args.past.now (publish c.args.upto (changed_all c.args.changes.now x.atoms) 0) p.shown p.rested p.stands r.rises)
+    (may_follow x c.args.past.now (publish c.args.upto (changed_all c.args.changes.now x.atoms) 0) p.shown p.rested
+    p.stands r.rises)
 
 pub returns-in_ok-next-in-None-clause-legal : goal.returns-in_ok-next-in-None-clause-legal
 returns-in_ok-next-in-None-clause-legal c =
     let r = c.requires in
     let p = r.parts in
     subst IsLegal (sym c.in_ok-next-in-None.ensures.log)
-    (may_follow c.args.press.now.desk.shown.value c.args.past.now (publish c.args.upto (changed_all c.args.changes.now c.published.result.now.atoms) 0) p.shown p.rested p.stands r.rises)
+    (may_follow c.args.press.now.desk.shown.value c.args.past.now
+    (publish c.args.upto (changed_all c.args.changes.now c.published.result.now.atoms) 0) p.shown p.rested
+    p.stands r.rises)

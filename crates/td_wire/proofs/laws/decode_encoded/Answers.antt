@@ -4,4 +4,5 @@ use Rattle.td_wire.specs.Spelling.{Spells}
 use Rattle.td_wire.proofs.laws.decode_encoded.Goals as goal
 
 pub returns : goal.returns
-returns c = c.decode.ensures.only c.args.message.now (Two, subst (Spells Two c.args.message.now) (sym c.bytes.ensures.bytes) c.encode.ensures)
+returns c = c.decode.ensures.only c.args.message.now
+    (Two, subst (Spells Two c.args.message.now) (sym c.bytes.ensures.bytes) c.encode.ensures)

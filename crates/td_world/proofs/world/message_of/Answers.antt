@@ -29,8 +29,10 @@ message-requires-clause-within g c =
     let s = some_of (posted c.args.replicas.now post) c.requires in
     let below = past_sites c.args.replicas.now (post.site - 1) post.number s.0 s.1 in
     let within : post.site ≤ length c.args.replicas.now = omega (arith, c.place.ensures.least) in
-    let is = at_site c.args.replicas.now post.site c.place.result r c.place.ensures.place c.place.ensures.least within c.index-replicas-place.is in
-    let there = kth_get post.number r.machine.sent s.0 (ap (λ (q : ReplicaValue). kth post.number q.machine.sent) is ∙ s.1) in
+    let is = at_site c.args.replicas.now post.site c.place.result r c.place.ensures.place c.place.ensures.least within
+    c.index-replicas-place.is in
+    let there = kth_get post.number r.machine.sent s.0
+    (ap (λ (q : ReplicaValue). kth post.number q.machine.sent) is ∙ s.1) in
     let some = there.0 in
     let few = slice_get_within r.machine.sent (post.number - 1) s.0 there.1 in
     omega (arith, c.from.ensures)
@@ -42,6 +44,8 @@ returns-clause-message g c =
     let s = some_of (posted c.args.replicas.now post) c.requires in
     let below = past_sites c.args.replicas.now (post.site - 1) post.number s.0 s.1 in
     let within : post.site ≤ length c.args.replicas.now = omega (arith, c.place.ensures.least) in
-    let is = at_site c.args.replicas.now post.site c.place.result r c.place.ensures.place c.place.ensures.least within c.index-replicas-place.is in
-    sym (ap (λ (q : ReplicaValue). kth post.number q.machine.sent) is) ∙ sym (ap (λ (k : ℕ). kth k r.machine.sent) c.from.ensures)
+    let is = at_site c.args.replicas.now post.site c.place.result r c.place.ensures.place c.place.ensures.least within
+    c.index-replicas-place.is in
+    sym (ap (λ (q : ReplicaValue). kth post.number q.machine.sent) is)
+    ∙ sym (ap (λ (k : ℕ). kth k r.machine.sent) c.from.ensures)
     ∙ c.message.ensures

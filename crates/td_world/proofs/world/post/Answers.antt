@@ -13,5 +13,11 @@ loop-number-preserved c =
           ∙ ap (λ (l : List Post). c.loop-number.posts.items ++ l)
           (sym (posts_next c.args.site k c.args.after c.loop-number-test.true))
           ∙ c.loop-number.invariant.0,
-      omega (arith, c.loop-number.invariant.1, c.push_reserved.ensures.len, c.push_reserved.ensures.capacity, c.loop-number-test.true),
+      omega (
+        arith,
+        c.loop-number.invariant.1,
+        c.push_reserved.ensures.len,
+        c.push_reserved.ensures.capacity,
+        c.loop-number-test.true,
+      ),
     )

@@ -13,13 +13,16 @@ module _ (y : ℕ) (piece items : List Item) where
 
   kept : (x : ℕ) → IsItem x items → IsItem x (put_before y piece items)
   kept x h =
-      ⊎_elim (λ (i : IsItem x before). item-front x (before ++ piece) from (item-front x before piece i)) (λ (i : IsItem x from). item-back x (before ++ piece) from i)
+      ⊎_elim (λ (i : IsItem x before). item-front x (before ++ piece) from (item-front x before piece i))
+      (λ (i : IsItem x from). item-back x (before ++ piece) from i)
       (item-append x before from (subst (IsItem x) (sym (parts y items)) h))
 
   old_or_new : (x : ℕ) → IsItem x (put_before y piece items) → IsItem x items ⊎ IsItem x piece
   old_or_new x h =
       ⊎_elim
-      (λ (k : IsItem x (before ++ piece)). ⊎_elim (λ (i : IsItem x before). inl (subst (IsItem x) (parts y items) (item-front x before from i))) (λ (i : IsItem x piece). inr i) (item-append x before piece k))
+      (λ (k : IsItem x (before ++ piece)). ⊎_elim (λ (i : IsItem x before). inl
+      (subst (IsItem x) (parts y items) (item-front x before from i))) (λ (i : IsItem x piece). inr i)
+      (item-append x before piece k))
       (λ (i : IsItem x from). inl (subst (IsItem x) (parts y items) (item-back x before from i)))
       (item-append x (before ++ piece) from h)
 
@@ -48,7 +51,9 @@ loop-name-preserved c =
     record {
       there = λ x h. subst (IsItem x) (sym is) (kept y piece items x (c.loop-name.invariant.there x h));
       used = λ x h. ⊎_elim (λ (i : IsItem x items). let u = c.loop-name.invariant.used x i in omega arith)
-          (λ (i : IsItem x piece). ⊎_elim (λ (e : x ≡ c.new-in-loop-name.result.name). omega arith) (λ (z : ⊥). absurd z) i)
+          (λ (i : IsItem x piece). ⊎_elim (λ (e : x ≡ c.new-in-loop-name.result.name). omega arith)
+          (λ (z : ⊥). absurd z) i)
           (old_or_new y piece items x (subst (IsItem x) is h));
-      weight = let w = ap weight_of is in let v = heavier y piece items in let was = c.loop-name.invariant.weight in omega arith;
+      weight = let w = ap weight_of is in let v = heavier y piece items in let was = c.loop-name.invariant.weight in
+          omega arith;
     }

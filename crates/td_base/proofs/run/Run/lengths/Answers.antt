@@ -7,15 +7,18 @@ loop-i-init c = record { lengths = refl; ends = rw (← c.self.view_is) c.self.i
 
 pub bounds-lengths-i : goal.bounds-lengths-i
 bounds-lengths-i c =
-    (next_length 64 c.args.self.now c.loop-i.i c.loop-i.lengths c.loop-i.ends (omega arith) c.len-i-end.ensures.run (omega arith) c.loop-i.invariant.lengths c.loop-i.invariant.ends).within
+    (next_length 64 c.args.self.now c.loop-i.i c.loop-i.lengths c.loop-i.ends (omega arith) c.len-i-end.ensures.run
+    (omega arith) c.loop-i.invariant.lengths c.loop-i.invariant.ends).within
 
 pub overflow_shr-ends : goal.overflow_shr-ends
 overflow_shr-ends c =
-    (next_length 64 c.args.self.now c.loop-i.i c.loop-i.lengths c.loop-i.ends (omega arith) c.len-i-end.ensures.run (omega arith) c.loop-i.invariant.lengths c.loop-i.invariant.ends).shift
+    (next_length 64 c.args.self.now c.loop-i.i c.loop-i.lengths c.loop-i.ends (omega arith) c.len-i-end.ensures.run
+    (omega arith) c.loop-i.invariant.lengths c.loop-i.invariant.ends).shift
 
 pub loop-i-preserved : goal.loop-i-preserved
 loop-i-preserved c =
-    let next = next_length 64 c.args.self.now c.loop-i.i c.loop-i.lengths c.loop-i.ends (omega arith) c.len-i-end.ensures.run (omega arith) c.loop-i.invariant.lengths c.loop-i.invariant.ends in
+    let next = next_length 64 c.args.self.now c.loop-i.i c.loop-i.lengths c.loop-i.ends (omega arith)
+    c.len-i-end.ensures.run (omega arith) c.loop-i.invariant.lengths c.loop-i.invariant.ends in
     record { lengths = next.lengths_next; ends = next.ends_next }
 
 pub returns : goal.returns

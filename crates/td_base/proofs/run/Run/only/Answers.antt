@@ -7,16 +7,20 @@ overflow_shr-self-inside c = last_within c.self.inside.bytes c.self.inside.ends 
 
 pub returns-then-self-last-ne0-clause-only : goal.returns-then-self-last-ne0-clause-only
 returns-then-self-last-ne0-clause-only c =
-    several c.self.inside.bytes c.self.inside.ends c.args.self.now c.self.invariant c.self.view_is c.if-self-last-ne0.true
+    several c.self.inside.bytes c.self.inside.ends c.args.self.now c.self.invariant c.self.view_is
+    c.if-self-last-ne0.true
 
 pub padded_to-requires : goal.padded_to-requires
 padded_to-requires c =
-    (only_one c.self.inside.bytes c.self.inside.ends c.args.self.now c.self.invariant c.self.view_is c.if-self-last-ne0.false).parts
+    (only_one c.self.inside.bytes c.self.inside.ends c.args.self.now c.self.invariant c.self.view_is
+    c.if-self-last-ne0.false).parts
 
 pub returns-clause-only : goal.returns-clause-only
 returns-clause-only c = ap Some c.padded_to.ensures
-    ∙ (only_one c.self.inside.bytes c.self.inside.ends c.args.self.now c.self.invariant c.self.view_is c.if-self-last-ne0.false).atom
+    ∙ (only_one c.self.inside.bytes c.self.inside.ends c.args.self.now c.self.invariant c.self.view_is
+    c.if-self-last-ne0.false).atom
 
 pub returns-clause-run : goal.returns-clause-run
 returns-clause-run c = rw c.padded_to.ensures
-    (only_one c.self.inside.bytes c.self.inside.ends c.args.self.now c.self.invariant c.self.view_is c.if-self-last-ne0.false).run
+    (only_one c.self.inside.bytes c.self.inside.ends c.args.self.now c.self.invariant c.self.view_is
+    c.if-self-last-ne0.false).run

@@ -22,7 +22,8 @@ returns-in_default c =
 
 pub returns-in-None : goal.returns-in-None
 returns-in-None c =
-    ap is_some (found_ready c.args.have.now c.args.self.now c.requires.waiting c.args.site c.get.result c.in-Some.dot None
+    ap is_some (found_ready c.args.have.now c.args.self.now c.requires.waiting c.args.site c.get.result c.in-Some.dot
+    None
     c.get.ensures.number c.in-Some.ensures.1
     (c.in-None.ensures.value ∙ lookup_found c.in-Some.dot c.self.inside.waiting.entries c.self.invariant.keyed
     ∙ ap (find (has_dot c.in-Some.dot)) c.self.view_is))

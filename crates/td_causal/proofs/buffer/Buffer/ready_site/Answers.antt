@@ -1,8 +1,10 @@
-use Rattle.std.proofs.Common.{◌≡◌, ◌+◌, ◌<◌, ℕ, refl, sym, ap, ◌∙◌, subst, find, length, Option, Some, None, is_some, false, arith}
+use Rattle.std.proofs.Common.{◌≡◌, ◌+◌, ◌<◌, ℕ, refl, sym, ap, ◌∙◌, subst, find, length}
+use Rattle.std.proofs.Common.{Option, Some, None, is_some, false, arith}
 use Rattle.td_causal.proofs.Least.{NoneBelow, least_of, none_ready, none_more}
 use Rattle.td_causal.specs.Waiting.{is_ready_of, AreWaiting}
 use Rattle.td_causal.specs.declared.waiting.Waiting.{Waiting}
-use Rattle.td_causal.proofs.buffer.Buffer.ready_site.Goals.{else-loop-n-test, then-loop-n-test+in_ok-site+else-is_next_ready+else-n-n-end}
+use Rattle.td_causal.proofs.buffer.Buffer.ready_site.Goals.{else-loop-n-test}
+use Rattle.td_causal.proofs.buffer.Buffer.ready_site.Goals.{then-loop-n-test+in_ok-site+else-is_next_ready+else-n-n-end}
 use Rattle.td_causal.proofs.buffer.Buffer.ready_site.Goals as goal
 
 pub returns-then-is_next_ready-clause-least : goal.returns-then-is_next_ready-clause-least

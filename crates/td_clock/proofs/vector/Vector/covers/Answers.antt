@@ -9,5 +9,6 @@ returns c =
     let v = c.args.self.now in
     let w = c.args.other.now in
     all_from_yields_List (λ p. nat_le p.1 p.0) c.all.new.self _ c.all.result c.all.ensures.ran
-    (YieldsList-from_zip {s = c.zip.result} (YieldsList-from_slice v cc) (YieldsList-from_slice w cc)) (λ x b q k. search (rules, tests))
+    (YieldsList-from_zip {s = c.zip.result} (YieldsList-from_slice v cc) (YieldsList-from_slice w cc))
+    (λ x b q k. search (rules, tests))
     ∙ all_covered v w c.requires

@@ -14,11 +14,13 @@ loop-i-preserved c =
     let inside : i < length c.other.inside.numbers = omega (arith, within) in
     record {
       size = c.loop-i.invariant.size;
-      numbers = join_more i c.self.inside.numbers c.other.inside.numbers c.loop-i.self-inside.numbers c.max.result within inside c.loop-i.invariant.numbers c.max.ensures;
+      numbers = join_more i c.self.inside.numbers c.other.inside.numbers c.loop-i.self-inside.numbers c.max.result
+          within inside c.loop-i.invariant.numbers c.max.ensures;
     }
 
 -- what is kept after the loop
-all_joined : (n m i : ℕ) (own others v w now : List ℕ) (size : ℕ) → IsVectorParts n own → IsVectorParts m others → take n own ≡ v → take m others ≡ w → length v ≡ length w
+all_joined : (n m i : ℕ) (own others v w now : List ℕ) (size : ℕ) → IsVectorParts n own → IsVectorParts m others
+    → take n own ≡ v → take m others ≡ w → length v ≡ length w
     → i ≡ n → size ≡ n → now ≡ joined_to i own others → IsVectorParts size now × (take size now ≡ vector_join v w)
 all_joined n m i own others v w now size left right is_v is_w same end long done =
     let one_size : m ≡ n = right.size_again ∙ ap length is_w ∙ sym same ∙ sym (ap length is_v) ∙ sym left.size_again in
@@ -27,10 +29,14 @@ all_joined n m i own others v w now size left right is_v is_w same end long done
 
 pub invariant_of-self : goal.invariant_of-self
 invariant_of-self c =
-    (all_joined c.self.inside.size c.other.inside.size c.loop-i.i c.self.inside.numbers c.other.inside.numbers c.args.self.now c.args.other.now c.loop-i.self-inside.numbers
-    c.loop-i.self-inside.size c.self.invariant c.other.invariant c.self.view_is c.other.view_is c.requires (omega arith) c.loop-i.invariant.size c.loop-i.invariant.numbers).0
+    (all_joined c.self.inside.size c.other.inside.size c.loop-i.i c.self.inside.numbers c.other.inside.numbers
+    c.args.self.now c.args.other.now c.loop-i.self-inside.numbers
+    c.loop-i.self-inside.size c.self.invariant c.other.invariant c.self.view_is c.other.view_is c.requires
+    (omega arith) c.loop-i.invariant.size c.loop-i.invariant.numbers).0
 
 pub returns : goal.returns
 returns c =
-    (all_joined c.self.inside.size c.other.inside.size c.loop-i.i c.self.inside.numbers c.other.inside.numbers c.args.self.now c.args.other.now c.loop-i.self-inside.numbers
-    c.loop-i.self-inside.size c.self.invariant c.other.invariant c.self.view_is c.other.view_is c.requires (omega arith) c.loop-i.invariant.size c.loop-i.invariant.numbers).1
+    (all_joined c.self.inside.size c.other.inside.size c.loop-i.i c.self.inside.numbers c.other.inside.numbers
+    c.args.self.now c.args.other.now c.loop-i.self-inside.numbers
+    c.loop-i.self-inside.size c.self.invariant c.other.invariant c.self.view_is c.other.view_is c.requires
+    (omega arith) c.loop-i.invariant.size c.loop-i.invariant.numbers).1

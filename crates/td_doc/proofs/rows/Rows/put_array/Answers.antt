@@ -14,4 +14,5 @@ invariant_of-self-2 c =
     let all = c.put_rows.ensures ∙ (λ i. put_rows (made i) (c.make_room.ensures.rows i)) in
     let few = c.in_ok-make_room.ensures.few in
     let new : AreNew rows atoms = subst (λ (q : List DocRow). AreNew q atoms) (sym c.self.view_is) c.requires in
-    subst IsRowParts (sym all) (put_parts slot atoms rows c.self.invariant new (omega (arith, few, c.len.ensures, ap length made, c.in_ok-new.new.ok.0)))
+    subst IsRowParts (sym all) (put_parts slot atoms rows c.self.invariant new
+    (omega (arith, few, c.len.ensures, ap length made, c.in_ok-new.new.ok.0)))

@@ -16,7 +16,8 @@ loop-count-preserved g c =
     let on : is_ready c.loop-count.self.replica.machine ≡ true =
     ap (λ (r : ReplicaValue). is_ready r.machine) (sym c.replica-in-loop-count.ensures) ∙ sym c.ready.ensures
     ∙ c.if-not-ready.false in (
-      more g.S.Screen.heard c.waiting-waiting.result c.args.self.now c.loop-count.count c.loop-count.self c.step.new.self
+      more g.S.Screen.heard c.waiting-waiting.result c.args.self.now c.loop-count.count c.loop-count.self
+          c.step.new.self
           c.loop-count-test.true c.loop-count.invariant.0 on c.in_ok-step.ensures.ok,
       c.loop-count.invariant.1,
     )
@@ -46,9 +47,11 @@ returns-in_err-step-clause-err g c =
     ap (λ (r : ReplicaValue). is_ready r.machine) (sym c.replica-in-loop-count.ensures) ∙ sym c.ready.ensures
     ∙ c.if-not-ready.false in
     err_always c.from_residual.result
-    (subst (λ (k : ℕ). IsStopped g.S.Screen.heard (nexts k c.args.self.now.replica.machine) c.args.self.now c.step.new.self)
+    (subst (λ (k : ℕ). IsStopped g.S.Screen.heard (nexts k c.args.self.now.replica.machine) c.args.self.now
+    c.step.new.self)
     c.loop-count.invariant.1
-    (stopped g.S.Screen.heard c.waiting-waiting.result c.args.self.now c.loop-count.count c.loop-count.self c.step.new.self
+    (stopped g.S.Screen.heard c.waiting-waiting.result c.args.self.now c.loop-count.count c.loop-count.self
+    c.step.new.self
     c.loop-count-test.true c.loop-count.invariant.0 on c.in_err-step.ensures.err))
 
 pub returns-clause-count : goal.returns-clause-count
@@ -69,7 +72,8 @@ returns-clause-ok g c =
 
 pub returns-clause-ready : goal.returns-clause-ready
 returns-clause-ready g c =
-    let after : c.loop-count.self ≡ after_inputs g.S.Screen.heard (all_nexts c.args.self.now.replica.machine) c.args.self.now =
+    let after : c.loop-count.self ≡ after_inputs g.S.Screen.heard (all_nexts c.args.self.now.replica.machine)
+    c.args.self.now =
     (all_done g.S.Screen.heard c.waiting-waiting.result c.args.self.now c.loop-count.count c.loop-count.self
     c.loop-count.invariant.0 c.loop-count-test.false).after
     ∙ ap (λ (k : ℕ). after_inputs g.S.Screen.heard (nexts k c.args.self.now.replica.machine) c.args.self.now)

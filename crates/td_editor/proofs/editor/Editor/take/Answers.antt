@@ -16,7 +16,8 @@ returns-in_err-reply-clause-err g c =
 pub returns-in_err-next-clause-err : goal.returns-in_err-next-clause-err
 returns-in_err-next-clause-err g c =
     err_always c.from_residual-in_err-next.result
-    (stopped_later g.S.Screen.heard (Take c.args.message.now) c.args.self.now all_nexts c.step.new.self c.catch_up.new.self
+    (stopped_later g.S.Screen.heard (Take c.args.message.now) c.args.self.now all_nexts c.step.new.self
+    c.catch_up.new.self
     c.in_ok-reply.ensures.ok c.in_err-next.ensures.err)
 
 pub returns-clause-took : goal.returns-clause-took

@@ -10,5 +10,6 @@ returns c =
     let a : ℕ = c.next_word-a.result in
     let b : ℕ = c.next_word-b.result in
     let made = c.in_ok-done.ensures ∙ ap (λ (least : ℕ). edit_at site least a b) c.at.ensures in
-    edit_made c.args.number p site a b c.next_word-a.new.self c.next_word-b.new.self c.in_ok-done.done c.set.new.self c.push.new.self
+    edit_made c.args.number p site a b c.next_word-a.new.self c.next_word-b.new.self c.in_ok-done.done c.set.new.self
+    c.push.new.self
     c.next_word-a.ensures c.next_word-b.ensures c.site_at-site.ensures made c.set.ensures c.in_ok-push.ensures.ok

@@ -10,4 +10,5 @@ settle-requires c =
     let p : Progress = c.args.self.now in
     let edited_within = edits_within c.args.done p c.requires.within in
     let now = rw c.in_ok-edit.was at c.edit.ensures in
-    subst (λ (q : Progress). AreWithin MAX_SIZE q.least) (sym now) (more_edits (c.args.done + 1) MAX_SIZE _ (omega (arith, c.requires.few)) edited_within)
+    subst (λ (q : Progress). AreWithin MAX_SIZE q.least) (sym now)
+    (more_edits (c.args.done + 1) MAX_SIZE _ (omega (arith, c.requires.few)) edited_within)

@@ -10,10 +10,12 @@ use Rattle.td_history.proofs.history.History.enter.Goals as goal
 
 entering : (c : goal.After-self-1)
     → StandFor (entry_of c.self.inside.log.ops c.push.new.self) c.push.new.self.entries
-    (entries_of c.self.inside.log.ops c.self.inside.entries ++ record { input = c.args.input.now; reply = c.args.reply.now } ∷ [])
+    (entries_of c.self.inside.log.ops c.self.inside.entries
+    ++ record { input = c.args.input.now; reply = c.args.reply.now } ∷ [])
 entering c =
     c.push.ensures.entries _
-    (subst (λ (past : Past). IfSome c.args.number (IsDoneAs past.ops c.args.input.now)) (sym c.self.view_is) c.requires.done)
+    (subst (λ (past : Past). IfSome c.args.number (IsDoneAs past.ops c.args.input.now)) (sym c.self.view_is)
+    c.requires.done)
     c.self.invariant.entering
 
 pub invariant_of-self : goal.invariant_of-self

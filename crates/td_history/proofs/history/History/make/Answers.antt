@@ -12,14 +12,17 @@ grown : (c : goal.After-self-1) → IsGrown c.self.inside.log.ops c.add-number.n
 grown c = rw (ap (λ l. l.ops) c.add-number.ensures.log) (grown_push c.self.inside.log.ops c.args.op.now)
 
 sending : (c : goal.After-self-1)
-    → StandFor (message_of c.add-number.new.self.ops) c.push_reserved.new.self.items (sent_of c.self.inside.log.ops c.self.inside.sent.items ++ Op c.args.op.now ∷ [])
+    → StandFor (message_of c.add-number.new.self.ops) c.push_reserved.new.self.items
+    (sent_of c.self.inside.log.ops c.self.inside.sent.items ++ Op c.args.op.now ∷ [])
 sending c =
     let kept = push_get c.self.inside.log.ops c.args.op.now in
     rw c.push_reserved.ensures.items
-    (stand_push _ _ _ _ _ (sent_on _ _ _ (grown c) c.self.invariant.sending) (rw (ap (λ l. l.ops) c.add-number.ensures.log, c.add-number.ensures.number, kept)))
+    (stand_push _ _ _ _ _ (sent_on _ _ _ (grown c) c.self.invariant.sending)
+    (rw (ap (λ l. l.ops) c.add-number.ensures.log, c.add-number.ensures.number, kept)))
 
 entering : (c : goal.After-self-1)
-    → StandFor (entry_of c.add-number.new.self.ops c.self.inside.entries) c.self.inside.entries.entries (entries_of c.self.inside.log.ops c.self.inside.entries)
+    → StandFor (entry_of c.add-number.new.self.ops c.self.inside.entries) c.self.inside.entries.entries
+    (entries_of c.self.inside.log.ops c.self.inside.entries)
 entering c = entries_on _ _ c.self.inside.entries (grown c) c.self.invariant.entering
 
 pub invariant_of-self : goal.invariant_of-self
@@ -29,7 +32,14 @@ invariant_of-self c =
       sending = told _ _ _ (sending c);
       entering = told _ _ _ (entering c);
       log_room = omega (arith, ap (λ l. l.room) c.add-number.ensures.log, c.self.invariant.log_room);
-      sent_room = omega (arith, c.push_reserved.ensures.len, c.push_reserved.ensures.capacity, c.self.invariant.sent_room, c.requires.room, ap (λ v. v.room) c.self.view_is);
+      sent_room = omega (
+        arith,
+        c.push_reserved.ensures.len,
+        c.push_reserved.ensures.capacity,
+        c.self.invariant.sent_room,
+        c.requires.room,
+        ap (λ v. v.room) c.self.view_is,
+      );
       entries_room = omega (arith, c.self.invariant.entries_room);
     }
 

@@ -18,7 +18,8 @@ pub returns-in-Vote : goal.returns-in-Vote
 returns-in-Vote c =
     let at = sym c.compact_at.ensures ∙ ap (λ q. slice_get q (c.args.k - 1)) c.deref.ensures.value in
     sym (ap (λ v. Some (Vote v)) c.vote.ensures
-    ∙ (sent_is _ _ c.args.k (Some (CompactVote c.in-Vote.vote)) c.requires.some c.self.invariant.sending (sym (ap Some c.in-Vote.is) ∙ at)
+    ∙ (sent_is _ _ c.args.k (Some (CompactVote c.in-Vote.vote)) c.requires.some c.self.invariant.sending
+    (sym (ap Some c.in-Vote.is) ∙ at)
     ∙ ap (λ v. kth c.args.k v.sent) c.self.view_is))
 
 pub at-requires : goal.at-requires
@@ -30,5 +31,6 @@ pub returns : goal.returns
 returns c =
     let at = sym c.compact_at.ensures ∙ ap (λ q. slice_get q (c.args.k - 1)) c.deref.ensures.value in
     sym (sym (ap (option_map Op) c.at.ensures)
-    ∙ (sent_is _ _ c.args.k (Some (CompactOp c.in-Op.number)) c.requires.some c.self.invariant.sending (sym (ap Some c.in-Op.is) ∙ at)
+    ∙ (sent_is _ _ c.args.k (Some (CompactOp c.in-Op.number)) c.requires.some c.self.invariant.sending
+    (sym (ap Some c.in-Op.is) ∙ at)
     ∙ ap (λ v. kth c.args.k v.sent) c.self.view_is))

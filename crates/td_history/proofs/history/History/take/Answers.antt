@@ -11,11 +11,13 @@ grown : (c : goal.After-self-1) → IsGrown c.self.inside.log.ops c.add-number.n
 grown c = rw (ap (λ l. l.ops) c.add-number.ensures.log) (grown_push c.self.inside.log.ops c.args.op.now)
 
 sending : (c : goal.After-self-1)
-    → StandFor (message_of c.add-number.new.self.ops) c.self.inside.sent.items (sent_of c.self.inside.log.ops c.self.inside.sent.items)
+    → StandFor (message_of c.add-number.new.self.ops) c.self.inside.sent.items
+    (sent_of c.self.inside.log.ops c.self.inside.sent.items)
 sending c = sent_on _ _ _ (grown c) c.self.invariant.sending
 
 entering : (c : goal.After-self-1)
-    → StandFor (entry_of c.add-number.new.self.ops c.self.inside.entries) c.self.inside.entries.entries (entries_of c.self.inside.log.ops c.self.inside.entries)
+    → StandFor (entry_of c.add-number.new.self.ops c.self.inside.entries) c.self.inside.entries.entries
+    (entries_of c.self.inside.log.ops c.self.inside.entries)
 entering c = entries_on _ _ c.self.inside.entries (grown c) c.self.invariant.entering
 
 pub invariant_of-self : goal.invariant_of-self

@@ -9,7 +9,8 @@ use Rattle.td_history.proofs.history.History.vote.Goals as goal
 
 sending : (c : goal.After-self-1)
     → StandFor (message_of c.self.inside.log.ops) c.push_reserved.new.self.items
-    (sent_of c.self.inside.log.ops c.self.inside.sent.items ++ Vote (record { proposal = c.args.proposal; voter = c.self.inside.site; yes = c.args.yes }) ∷ [])
+    (sent_of c.self.inside.log.ops c.self.inside.sent.items
+    ++ Vote (record { proposal = c.args.proposal; voter = c.self.inside.site; yes = c.args.yes }) ∷ [])
 sending c =
     rw c.push_reserved.ensures.items
     (stand_push _ _ _ _ _ c.self.invariant.sending (ap (λ v. Some (Vote v)) c.new-vote.ensures))
@@ -21,7 +22,14 @@ invariant_of-self c =
       sending = told _ _ _ (sending c);
       entering = c.self.invariant.entering;
       log_room = omega (arith, c.self.invariant.log_room);
-      sent_room = omega (arith, c.push_reserved.ensures.len, c.push_reserved.ensures.capacity, c.self.invariant.sent_room, c.requires, ap (λ v. v.room) c.self.view_is);
+      sent_room = omega (
+        arith,
+        c.push_reserved.ensures.len,
+        c.push_reserved.ensures.capacity,
+        c.self.invariant.sent_room,
+        c.requires,
+        ap (λ v. v.room) c.self.view_is,
+      );
       entries_room = omega (arith, c.self.invariant.entries_room);
     }
 

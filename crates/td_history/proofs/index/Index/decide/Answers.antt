@@ -12,9 +12,11 @@ returns-clause-lists c =
           let seq : c.proposal.inside.seq ≡ c.args.proposal.seq = ap (λ d. d.seq) c.proposal.view_is in
           let site : c.proposal.inside.site ≡ c.args.proposal.site = ap (λ d. d.site) c.proposal.view_is in
           let got = w.in-Some.ensures in
-          let within : c.place.result < length c.self.inside.lists.items = omega (arith, got.variant.0 refl, c.self.inside.lists.ok.0) in
+          let within : c.place.result < length c.self.inside.lists.items =
+          omega (arith, got.variant.0 refl, c.self.inside.lists.ok.0) in
           rw (w.self-inside-is, ← site, ← seq, ← c.place.ensures.place, ← c.self.view_is)
-          (replaced _ (decided_in (c.proposal.inside.seq - 1) c.args.yes) _ _ w.in-Some.list.now _ within got.value w.decide_in.ensures.items)
+          (replaced _ (decided_in (c.proposal.inside.seq - 1) c.args.yes) _ _ w.in-Some.list.now _ within got.value
+          w.decide_in.ensures.items)
       | in_default w ↦
           let site : c.proposal.inside.site ≡ c.args.proposal.site = ap (λ d. d.site) c.proposal.view_is in
           let past : length c.self.inside.lists.items ≤ c.place.result =

@@ -16,7 +16,8 @@ returns-clause-lists c =
 pub invariant_of-self-2 : goal.invariant_of-self-2
 invariant_of-self-2 c =
     let lists = c.self.inside.lists.items in
-    let as_many : length c.args.self.now.lists ≡ length lists = ap (λ v. length v.lists) (sym c.self.view_is) ∙ length-map lists (λ v. v.items) in
+    let as_many : length c.args.self.now.lists ≡ length lists = ap (λ v. length v.lists) (sym c.self.view_is)
+    ∙ length-map lists (λ v. v.items) in
     let within : c.args.of ≤ length lists = omega arith in
     let place : c.place.result < length lists = omega (arith, c.place.ensures.place, c.place.ensures.least) in
     (rw length-set within, rw (← c.place.ensures.place) (set_some _ _ _ _ place c.in_ok-reserve.ensures.ok))

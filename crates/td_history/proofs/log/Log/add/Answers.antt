@@ -6,7 +6,8 @@ use Rattle.td_history.proofs.Logs.{log_after, log_is, as_told}
 use Rattle.td_history.proofs.log.Log.add.Goals as goal
 
 after : (c : goal.After-self-1)
-    → IsLog c.self.inside.size c.push.new.self.ops c.note.new.numbers.items c.note.new.index.lists (c.args.op.now ∷ log_of c.self.inside.ops.ops c.self.inside.numbers.items)
+    → IsLog c.self.inside.size c.push.new.self.ops c.note.new.numbers.items c.note.new.index.lists
+    (c.args.op.now ∷ log_of c.self.inside.ops.ops c.self.inside.numbers.items)
 after c =
     let l = c.self.inside in
     let next = subst (λ v. IsNextIn v.size v.room_site v.log c.args.op.now) (sym c.self.view_is) c.requires.next in
@@ -22,7 +23,14 @@ invariant_of-self c =
       size = c.push.ensures.size ∙ c.self.invariant.size;
       site = omega (arith, c.note.ensures.site, c.self.invariant.site);
       ops_room = omega (arith, c.push.ensures.room, c.self.invariant.ops_room);
-      numbers_room = omega (arith, c.note.ensures.len, c.note.ensures.capacity, c.self.invariant.numbers_room, c.requires.room, ap (λ v. v.room) c.self.view_is);
+      numbers_room = omega (
+        arith,
+        c.note.ensures.len,
+        c.note.ensures.capacity,
+        c.self.invariant.numbers_room,
+        c.requires.room,
+        ap (λ v. v.room) c.self.view_is,
+      );
       index_room = omega (arith, c.note.ensures.room, c.self.invariant.index_room);
     }
 

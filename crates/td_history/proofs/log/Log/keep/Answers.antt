@@ -5,9 +5,11 @@ use Rattle.td_history.proofs.Logs.{log_grown, log_is, as_told}
 use Rattle.td_history.proofs.log.Log.keep.Goals as goal
 
 after : (c : goal.After-self-1)
-    → IsLog c.self.inside.size c.push.new.self.ops c.self.inside.numbers.items c.self.inside.index.lists (log_of c.self.inside.ops.ops c.self.inside.numbers.items)
+    → IsLog c.self.inside.size c.push.new.self.ops c.self.inside.numbers.items c.self.inside.index.lists
+    (log_of c.self.inside.ops.ops c.self.inside.numbers.items)
 after c =
-    log_grown _ c.self.inside.ops.ops _ _ _ _ (rw c.push.ensures.ops (grown_push c.self.inside.ops.ops c.args.op.now)) c.self.invariant.log
+    log_grown _ c.self.inside.ops.ops _ _ _ _ (rw c.push.ensures.ops (grown_push c.self.inside.ops.ops c.args.op.now))
+    c.self.invariant.log
 
 pub invariant_of-self : goal.invariant_of-self
 invariant_of-self c =

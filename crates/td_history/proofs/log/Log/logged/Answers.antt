@@ -7,5 +7,6 @@ returns c =
     (let found = at_dot _ _ _ _ _ _ c.self.invariant.log c.get.ensures.dot in
     record {
       found = rw c.get.ensures.logged found;
-      none = rw c.get.ensures.logged (if_none _ _ (λ e. undecided _ _ _ c.self.invariant.log.orderly (agree_none _ _ _ found e)));
+      none = rw c.get.ensures.logged (if_none _ _ (λ e. undecided _ _ _ c.self.invariant.log.orderly
+          (agree_none _ _ _ found e)));
     })

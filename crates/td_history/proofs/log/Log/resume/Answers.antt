@@ -7,7 +7,8 @@ use Rattle.td_history.proofs.Logs.{log_after, log_is, as_told}
 use Rattle.td_history.proofs.log.Log.resume.Goals as goal
 
 after : (c : goal.After-self-1)
-    → IsLog c.self.inside.size c.self.inside.ops.ops c.note.new.numbers.items c.note.new.index.lists (c.args.op.now ∷ log_of c.self.inside.ops.ops c.self.inside.numbers.items)
+    → IsLog c.self.inside.size c.self.inside.ops.ops c.note.new.numbers.items c.note.new.index.lists
+    (c.args.op.now ∷ log_of c.self.inside.ops.ops c.self.inside.numbers.items)
 after c =
     let l = c.self.inside in
     let kept = subst (λ v. slice_get v.ops c.args.number ≡ Some c.args.op.now) (sym c.self.view_is) c.requires.kept in
@@ -23,7 +24,14 @@ invariant_of-self c =
       size = c.self.invariant.size;
       site = omega (arith, c.note.ensures.site, c.self.invariant.site);
       ops_room = omega (arith, c.self.invariant.ops_room);
-      numbers_room = omega (arith, c.note.ensures.len, c.note.ensures.capacity, c.self.invariant.numbers_room, c.requires.room, ap (λ v. v.room) c.self.view_is);
+      numbers_room = omega (
+        arith,
+        c.note.ensures.len,
+        c.note.ensures.capacity,
+        c.self.invariant.numbers_room,
+        c.requires.room,
+        ap (λ v. v.room) c.self.view_is,
+      );
       index_room = omega (arith, c.note.ensures.room, c.self.invariant.index_room);
     }
 

@@ -11,5 +11,6 @@ returns c =
     let strays = c.args.self.now.strays.items in
     let sites = c.args.self.now.sites.items in
     c.number_or.ensures ∙ ap (λ (l : List Stray). with_strays l c.args.id c.nth.result) c.deref.ensures.value
-    ∙ ap (with_strays strays c.args.id) (c.nth.ensures ∙ ap (λ (n : NumbersValue). nth n c.id.inside.offset) c.insert_of-numbers.ensures)
+    ∙ ap (with_strays strays c.args.id) (c.nth.ensures
+    ∙ ap (λ (n : NumbersValue). nth n c.id.inside.offset) c.insert_of-numbers.ensures)
     ∙ ap (λ (x : AtomIdValue). with_strays strays c.args.id (nth (insert_of sites x.dot) x.offset)) c.id.view_is

@@ -20,9 +20,12 @@ returns-then-is_unused c = λ x.
     put_first sites c.set_insert.new.sites.items strays c.args.id c.new-numbers.result
     (sym (ap (λ (y : AtomIdValue). y.offset) id) ∙ c.if-id-eq0.true)
     (ap (λ (y : AtomIdValue). (insert_of sites y.dot).count) (sym id) ∙ free.rows refl)
-    (λ s i. ap (λ (y : AtomIdValue). same_dot s.id.dot y.dot) (sym id) ∙ any_none (λ (t : Stray). same_dot t.id.dot c.id.inside.dot) strays s (free.strays refl) i)
-    (λ d. c.set_insert.ensures d ∙ ap (λ (y : AtomIdValue). if same_dot y.dot d then c.new-numbers.result else insert_of sites d) id) x
-    ∙ ap (λ (n : NumbersValue). with_run c.args.id n x (with_strays strays x (nth (insert_of sites x.dot) x.offset))) c.new-numbers.ensures
+    (λ s i. ap (λ (y : AtomIdValue). same_dot s.id.dot y.dot) (sym id)
+    ∙ any_none (λ (t : Stray). same_dot t.id.dot c.id.inside.dot) strays s (free.strays refl) i)
+    (λ d. c.set_insert.ensures d ∙ ap (λ (y : AtomIdValue). if same_dot y.dot d then c.new-numbers.result else
+    insert_of sites d) id) x
+    ∙ ap (λ (n : NumbersValue). with_run c.args.id n x (with_strays strays x (nth (insert_of sites x.dot) x.offset)))
+    c.new-numbers.ensures
 
 pub returns-else-id-eq0 : goal.returns-else-id-eq0
 unfolding number_of
@@ -30,7 +33,9 @@ returns-else-id-eq0 c = λ x.
     let sites = c.args.self.now.sites.items in
     let strays = c.args.self.now.strays.items in
     let s : Stray = record { id = c.args.id; numbers = c.new-numbers.result } in
-    let pushed : c.push.new.self.items ≡ strays ++ s ∷ [] = grind (arith, common_steps, c.push.ensures.items, c.unwrap.ensures) in
+    let pushed : c.push.new.self.items ≡ strays ++ s ∷ [] =
+    grind (arith, common_steps, c.push.ensures.items, c.unwrap.ensures) in
     ap (λ (l : List Stray). with_strays l x (nth (insert_of sites x.dot) x.offset)) pushed
     ∙ put_stray sites strays s x
-    ∙ ap (λ (n : NumbersValue). with_run c.args.id n x (with_strays strays x (nth (insert_of sites x.dot) x.offset))) c.new-numbers.ensures
+    ∙ ap (λ (n : NumbersValue). with_run c.args.id n x (with_strays strays x (nth (insert_of sites x.dot) x.offset)))
+    c.new-numbers.ensures

@@ -9,7 +9,8 @@ pop_as-requires-clause-rule g c =
     let may = c.self.invariant.1.0 in
     (takes g.T.Item.fits _ _ may, next_held g.T.Item.fits _ _ may)
 
-empty_case : {T : Type 0} (r : Option T) (A E W : Type 0) (B : T → Type 0) → (E → W) → MatchOption r (A × E) B → IfNone r W
+empty_case : {T : Type 0} (r : Option T) (A E W : Type 0) (B : T → Type 0) → (E → W) → MatchOption r (A × E) B
+    → IfNone r W
 empty_case None A E W B f h = f h.1
 empty_case (Some x) A E W B f h = tt
 

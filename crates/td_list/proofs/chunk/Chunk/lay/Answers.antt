@@ -6,14 +6,16 @@ use Rattle.td_list.proofs.chunk.Chunk.lay.Goals as goal
 pub weight_of-gone-requires : goal.weight_of-gone-requires
 weight_of-gone-requires c =
     let items = c.self.inside.items.items in
-    let read = ap (λ (q : List Item). weight_of (take (c.args.to - c.args.from) (drop c.args.from q))) c.deref.ensures.value in
+    let read = ap (λ (q : List Item). weight_of (take (c.args.to - c.args.from) (drop c.args.from q)))
+    c.deref.ensures.value in
     let parts = weight-cut c.args.from c.args.to items (omega (arith, c.requires.long)) in
     omega (arith, c.self.invariant.0, c.self.ranges)
 
 pub overflow_sub-self : goal.overflow_sub-self
 overflow_sub-self c =
     let items = c.self.inside.items.items in
-    let read = ap (λ (q : List Item). weight_of (take (c.args.to - c.args.from) (drop c.args.from q))) c.deref.ensures.value in
+    let read = ap (λ (q : List Item). weight_of (take (c.args.to - c.args.from) (drop c.args.from q)))
+    c.deref.ensures.value in
     let parts = weight-cut c.args.from c.args.to items (omega (arith, c.requires.long)) in
     omega (arith, c.self.invariant.0, c.weight_of-gone.ensures)
 
@@ -25,7 +27,8 @@ overflow_add-self c =
 pub invariant_of-self : goal.invariant_of-self
 invariant_of-self c =
     let items = c.self.inside.items.items in
-    let read = ap (λ (q : List Item). weight_of (take (c.args.to - c.args.from) (drop c.args.from q))) c.deref.ensures.value in
+    let read = ap (λ (q : List Item). weight_of (take (c.args.to - c.args.from) (drop c.args.from q)))
+    c.deref.ensures.value in
     let parts = weight-lay c.args.from c.args.to items c.args.over.now (omega (arith, c.requires.long)) in
     let less = weight-cut c.args.from c.args.to items (omega (arith, c.requires.long)) in
     let now = ap weight_of c.lay_over.ensures in

@@ -13,6 +13,7 @@ invariant_of-self-2 c =
     let whole = weight-put c.args.place items piece in
     let heavy = ap weight_of c.self.view_is in (
       omega (arith, c.weight_of.ensures, c.self.invariant.0),
-      c.is_marked_with-self-inside.ensures ∙ ap (λ (b : Bool). b || has_mark piece) c.self.invariant.1 ∙ mark-put c.args.place items piece ∙ sym (ap has_mark now),
+      c.is_marked_with-self-inside.ensures ∙ ap (λ (b : Bool). b || has_mark piece) c.self.invariant.1
+          ∙ mark-put c.args.place items piece ∙ sym (ap has_mark now),
       omega (arith, c.weight_of.ensures, c.self.invariant.0, c.requires.light),
     )

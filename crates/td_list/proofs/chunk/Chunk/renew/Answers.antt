@@ -11,7 +11,9 @@ pub overflow_sub-self : goal.overflow_sub-self
 overflow_sub-self c =
     let items = c.self.inside.items.items in
     let below = ap (λ (q : List Item). length q) c.self.view_is in
-    let read = c.weight.ensures ∙ ap (λ (i : Item). i.weight) (c.index.ensures ∙ get_or_default items c.args.place c.index.result.now nothing (omega (arith, c.requires.place))) in
+    let read = c.weight.ensures ∙ ap (λ (i : Item). i.weight)
+    (c.index.ensures ∙ get_or_default items c.args.place c.index.result.now nothing
+    (omega (arith, c.requires.place))) in
     let s = weight-renew items c.args.place nothing (omega (arith, c.requires.place)) in
     omega (arith, c.self.invariant.0)
 
@@ -20,7 +22,9 @@ overflow_add-self c =
     let items = c.self.inside.items.items in
     let below = ap (λ (q : List Item). length q) c.self.view_is in
     let heavy = ap weight_of c.self.view_is in
-    let read = c.weight.ensures ∙ ap (λ (i : Item). i.weight) (c.index.ensures ∙ get_or_default items c.args.place c.index.result.now nothing (omega (arith, c.requires.place))) in
+    let read = c.weight.ensures ∙ ap (λ (i : Item). i.weight)
+    (c.index.ensures ∙ get_or_default items c.args.place c.index.result.now nothing
+    (omega (arith, c.requires.place))) in
     let s = weight-renew items c.args.place nothing (omega (arith, c.requires.place)) in
     let same = ap (λ (q : List Item). (get_or q c.args.place nothing).weight) c.self.view_is in
     omega (arith, c.self.invariant.0, c.weight-2.ensures, c.requires.light)
@@ -46,7 +50,9 @@ invariant_of-self c =
       | else-marked w ↦ rw w.self-inside-is (
         omega (arith, c.self.invariant.0, c.weight-2.ensures),
         c.self.invariant.1
-            ∙ mark-renew items c.args.place c.args.item nothing within (sym c.marked.ensures ∙ same_marks c.marked.result c.marked-2.result w.if-marked.false ∙ c.marked-2.ensures ∙ ap (λ (i : Item). i.marked) was),
+            ∙ mark-renew items c.args.place c.args.item nothing within
+            (sym c.marked.ensures ∙ same_marks c.marked.result c.marked-2.result w.if-marked.false
+            ∙ c.marked-2.ensures ∙ ap (λ (i : Item). i.marked) was),
         omega (arith, c.self.invariant.0, c.weight-2.ensures, c.requires.light),
       )
     ]

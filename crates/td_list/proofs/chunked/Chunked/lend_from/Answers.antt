@@ -16,7 +16,8 @@ returns-clause-parts g c =
     let lent : drop n (chunk_at p.chunks c.seat-seat.result.chunk) ≡ take (length xs - n) (drop n xs) =
     ap (λ (ys : List Item). drop n ys) (sym c.items_of.ensures) ∙ sym (take_rest xs n) in (
       behind,
-      ap (items_from x) (sym c.self.view_is) ∙ sym (back_here p c.self.invariant c.seat-seat.result.chunk s.chunk x s.there n s.place)
+      ap (items_from x) (sym c.self.view_is) ∙ sym (back_here p c.self.invariant c.seat-seat.result.chunk s.chunk x
+          s.there n s.place)
           ∙ ap (λ (ys : List Item). ys ++ behind) lent,
       c.head_after.ensures,
     )

@@ -12,11 +12,14 @@ splice-requires-clause-new g c =
     let n : ℕ = c.in_ok-seat.seat.place in
     let here : List Item = chunk_at p.chunks ch in
     let front : chunks_before ch p ++ take n here ≡ items_before c.args.name c.args.self.now =
-    front_here p s.index ch s.chunk c.args.name s.there n s.place ∙ ap (items_before c.args.name) (s.all ∙ c.self.view_is) in
+    front_here p s.index ch s.chunk c.args.name s.there n s.place
+    ∙ ap (items_before c.args.name) (s.all ∙ c.self.view_is) in
     let back : drop (n + 1) here ++ chunks_after ch p ≡ items_after c.args.name c.args.self.now =
-    rest_here p s.index ch s.chunk c.args.name s.there n s.place ∙ ap (items_after c.args.name) (s.all ∙ c.self.view_is) in
+    rest_here p s.index ch s.chunk c.args.name s.there n s.place
+    ∙ ap (items_after c.args.name) (s.all ∙ c.self.view_is) in
     subst (AreNew c.args.piece.now)
-    ((λ i. sym front i ++ sym back i) ∙ regroup (chunks_before ch p) (take n here) (drop (n + 1) here) (chunks_after ch p))
+    ((λ i. sym front i ++ sym back i) ∙ regroup (chunks_before ch p) (take n here) (drop (n + 1) here)
+    (chunks_after ch p))
     c.requires.new
   where
     regroup : (a b d e : List Item) → (a ++ b) ++ (d ++ e) ≡ a ++ (b ++ d) ++ e
@@ -31,12 +34,15 @@ returns-clause-ok g c =
     let here : List Item = chunk_at p.chunks ch in
     let piece = c.args.piece.now in
     let front : chunks_before ch p ++ take n here ≡ items_before c.args.name c.args.self.now =
-    front_here p s.index ch s.chunk c.args.name s.there n s.place ∙ ap (items_before c.args.name) (s.all ∙ c.self.view_is) in
+    front_here p s.index ch s.chunk c.args.name s.there n s.place
+    ∙ ap (items_before c.args.name) (s.all ∙ c.self.view_is) in
     let back : drop (n + 1) here ++ chunks_after ch p ≡ items_after c.args.name c.args.self.now =
-    rest_here p s.index ch s.chunk c.args.name s.there n s.place ∙ ap (items_after c.args.name) (s.all ∙ c.self.view_is) in
+    rest_here p s.index ch s.chunk c.args.name s.there n s.place
+    ∙ ap (items_after c.args.name) (s.all ∙ c.self.view_is) in
     let e : chunks_before ch p ++ (take n here ++ piece ++ drop (n + 1) here) ++ chunks_after ch p
     ≡ items_before c.args.name c.args.self.now ++ (piece ++ items_after c.args.name c.args.self.now) =
-    regroup (chunks_before ch p) (take n here) piece (drop (n + 1) here) (chunks_after ch p) ∙ (λ i. front i ++ (piece ++ back i)) in
+    regroup (chunks_before ch p) (take n here) piece (drop (n + 1) here) (chunks_after ch p)
+    ∙ (λ i. front i ++ (piece ++ back i)) in
     rw (← e) c.splice.ensures.ok
   where
     regroup : (a b x d e : List Item) → a ++ (b ++ x ++ d) ++ e ≡ (a ++ b) ++ (x ++ (d ++ e))

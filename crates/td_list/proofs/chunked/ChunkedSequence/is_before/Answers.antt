@@ -9,7 +9,8 @@ returns-then-left-right g c =
     let a = c.seat-left.ensures in
     let b = c.seat-right.ensures in
     (λ i. nat_lt (a.place i) (b.place i))
-    ∙ same_chunk p c.self.invariant c.seat-left.result.chunk c.seat-right.result.chunk a.chunk c.if-left-right.true c.args.first c.args.second a.there b.there
+    ∙ same_chunk p c.self.invariant c.seat-left.result.chunk c.seat-right.result.chunk a.chunk c.if-left-right.true
+    c.args.first c.args.second a.there b.there
     ∙ ap (λ (xs : List Item). nat_lt (place_of c.args.first xs) (place_of c.args.second xs)) c.self.view_is
 
 pub returns-else-left-right : goal.returns-else-left-right
@@ -18,5 +19,6 @@ returns-else-left-right g c =
     let a = c.seat-left.ensures in
     let b = c.seat-right.ensures in
     c.is_chunk_before.ensures
-    ∙ other_chunk p c.self.invariant c.seat-left.result.chunk c.seat-right.result.chunk c.args.first c.args.second a.chunk b.chunk c.if-left-right.false a.there b.there
+    ∙ other_chunk p c.self.invariant c.seat-left.result.chunk c.seat-right.result.chunk c.args.first c.args.second
+    a.chunk b.chunk c.if-left-right.false a.there b.there
     ∙ ap (λ (xs : List Item). nat_lt (place_of c.args.first xs) (place_of c.args.second xs)) c.self.view_is

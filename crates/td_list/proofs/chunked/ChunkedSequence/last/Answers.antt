@@ -7,12 +7,14 @@ use Rattle.td_list.proofs.chunked.ChunkedSequence.last.Goals as goal
 pub end-requires-clause-chunk : goal.end-requires-clause-chunk
 end-requires-clause-chunk g c =
     let p : Parts = c.self.inside.index in
-    (last_in p.chunks p.order (λ i m. (c.self.invariant.each i m).some) c.in-Some.chunk (sym c.in-Some.is ∙ c.last_chunk.ensures)).0
+    (last_in p.chunks p.order (λ i m. (c.self.invariant.each i m).some) c.in-Some.chunk
+    (sym c.in-Some.is ∙ c.last_chunk.ensures)).0
 
 pub returns-in-Some : goal.returns-in-Some
 returns-in-Some g c =
     let p : Parts = c.self.inside.index in
-    let r = last_in p.chunks p.order (λ i m. (c.self.invariant.each i m).some) c.in-Some.chunk (sym c.in-Some.is ∙ c.last_chunk.ensures) in
+    let r = last_in p.chunks p.order (λ i m. (c.self.invariant.each i m).some) c.in-Some.chunk
+    (sym c.in-Some.is ∙ c.last_chunk.ensures) in
     sym c.end.ensures ∙ sym r.1 ∙ ap last_name c.self.view_is
 
 pub returns-in-None : goal.returns-in-None

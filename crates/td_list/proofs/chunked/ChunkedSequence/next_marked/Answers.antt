@@ -14,7 +14,9 @@ returns-in-Some g c =
     let xs = c.items_of.result.now in
     let n = c.seat-seat.result.place + 1 in
     let found : Some c.in-Some.found ≡ first_marked (drop n xs) = sym c.in-Some.is ∙ c.first_marked.ensures in
-    let after : drop n xs ≡ items_after x (chunk_at p.chunks c.seat-seat.result.chunk) = (λ i. drop (s.place i + 1) (c.items_of.ensures i)) ∙ drop_after x (chunk_at p.chunks c.seat-seat.result.chunk) s.there in
+    let after : drop n xs ≡ items_after x (chunk_at p.chunks c.seat-seat.result.chunk) =
+    (λ i. drop (s.place i + 1) (c.items_of.ensures i))
+    ∙ drop_after x (chunk_at p.chunks c.seat-seat.result.chunk) s.there in
     found
     ∙ sym (marked_here (drop n xs) (chunks_after c.seat-seat.result.chunk p) c.in-Some.found found)
     ∙ ap (λ (ys : List Item). first_marked (ys ++ chunks_after c.seat-seat.result.chunk p)) after
@@ -29,7 +31,9 @@ returns-in-None g c =
     let xs = c.items_of.result.now in
     let n = c.seat-seat.result.place + 1 in
     let found : None ≡ first_marked (drop n xs) = sym c.in-None.is ∙ c.first_marked.ensures in
-    let after : drop n xs ≡ items_after x (chunk_at p.chunks c.seat-seat.result.chunk) = (λ i. drop (s.place i + 1) (c.items_of.ensures i)) ∙ drop_after x (chunk_at p.chunks c.seat-seat.result.chunk) s.there in
+    let after : drop n xs ≡ items_after x (chunk_at p.chunks c.seat-seat.result.chunk) =
+    (λ i. drop (s.place i + 1) (c.items_of.ensures i))
+    ∙ drop_after x (chunk_at p.chunks c.seat-seat.result.chunk) s.there in
     c.mark_after.ensures
     ∙ sym (marked_past (drop n xs) (chunks_after c.seat-seat.result.chunk p) found)
     ∙ ap (λ (ys : List Item). first_marked (ys ++ chunks_after c.seat-seat.result.chunk p)) after

@@ -9,14 +9,17 @@ pub returns-then-items_of-eq1 : goal.returns-then-items_of-eq1
 returns-then-items_of-eq1 g c =
     let p : Parts = c.self.inside.index in
     let s = c.seat-seat.ensures in
-    let one : length (chunk_at p.chunks c.seat-seat.result.chunk) ≡ 1 = ap (λ (xs : List Item). length xs) (sym c.items_of.ensures) ∙ c.if-items_of-eq1.true in
+    let one : length (chunk_at p.chunks c.seat-seat.result.chunk)
+    ≡ 1 = ap (λ (xs : List Item). length xs) (sym c.items_of.ensures) ∙ c.if-items_of-eq1.true in
     (λ i. joined (c.drop_chunk.ensures.chunks i) (c.drop_chunk.ensures.order i))
     ∙ dropped_all p c.self.invariant c.seat-seat.result.chunk s.chunk
-    ∙ remove_sole p c.self.invariant c.seat-seat.result.chunk s.chunk c.args.name s.there c.seat-seat.result.place s.place one
+    ∙ remove_sole p c.self.invariant c.seat-seat.result.chunk s.chunk c.args.name s.there c.seat-seat.result.place
+    s.place one
     ∙ ap (without c.args.name) c.self.view_is
 
 pub returns-else-items_of-eq1 : goal.returns-else-items_of-eq1
 returns-else-items_of-eq1 g c =
     let p : Parts = c.self.inside.index in
     let s = c.seat-seat.ensures in
-    c.cut.ensures.all ∙ remove_here p c.self.invariant c.seat-seat.result.chunk s.chunk c.args.name s.there c.seat-seat.result.place s.place ∙ ap (without c.args.name) c.self.view_is
+    c.cut.ensures.all ∙ remove_here p c.self.invariant c.seat-seat.result.chunk s.chunk c.args.name s.there
+    c.seat-seat.result.place s.place ∙ ap (without c.args.name) c.self.view_is

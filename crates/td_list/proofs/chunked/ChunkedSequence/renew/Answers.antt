@@ -20,7 +20,8 @@ renew-requires-clause-light g c =
     let there = subst (λ (x : ℕ). IsItem x old) c.name.ensures s.there in
     let place = s.place ∙ ap (λ (x : ℕ). place_of x old) c.name.ensures in
     subst (λ (xs : List Item). weight_of xs < 2 ^ 31)
-    (sym (renew_here p c.self.invariant c.seat-seat.result.chunk s.chunk c.args.item.name there c.seat-seat.result.place place c.args.item refl ∙ ap (renew c.args.item) c.self.view_is))
+    (sym (renew_here p c.self.invariant c.seat-seat.result.chunk s.chunk c.args.item.name there
+    c.seat-seat.result.place place c.args.item refl ∙ ap (renew c.args.item) c.self.view_is))
     c.requires.light
 
 pub returns : goal.returns
@@ -30,4 +31,5 @@ returns g c =
     let old = chunk_at p.chunks c.seat-seat.result.chunk in
     let there = subst (λ (x : ℕ). IsItem x old) c.name.ensures s.there in
     let place = s.place ∙ ap (λ (x : ℕ). place_of x old) c.name.ensures in
-    c.renew.ensures.all ∙ renew_here p c.self.invariant c.seat-seat.result.chunk s.chunk c.args.item.name there c.seat-seat.result.place place c.args.item refl ∙ ap (renew c.args.item) c.self.view_is
+    c.renew.ensures.all ∙ renew_here p c.self.invariant c.seat-seat.result.chunk s.chunk c.args.item.name there
+    c.seat-seat.result.place place c.args.item refl ∙ ap (renew c.args.item) c.self.view_is

@@ -18,7 +18,8 @@ overflow_add-result g c =
     let s = c.seat-seat.ensures in
     let w = weight_seat p c.self.invariant c.seat-seat.result.chunk s.chunk c.args.name s.there in
     let m = weight-before c.args.name (all_items p) in
-    let t = ap weight_of (take_here p c.self.invariant c.seat-seat.result.chunk s.chunk c.args.name s.there c.seat-seat.result.place s.place) in
+    let t = ap weight_of (take_here p c.self.invariant c.seat-seat.result.chunk s.chunk c.args.name s.there
+    c.seat-seat.result.place s.place) in
     let l = c.self.invariant.light in
     omega (arith, c.weight_before.ensures, c.weight_to.ensures)
 
@@ -27,6 +28,7 @@ returns g c =
     let p : Parts = c.self.inside.index in
     let s = c.seat-seat.ensures in
     (λ i. c.weight_before.ensures i + (c.weight_to.ensures
-    ∙ ap weight_of (take_here p c.self.invariant c.seat-seat.result.chunk s.chunk c.args.name s.there c.seat-seat.result.place s.place)) i)
+    ∙ ap weight_of (take_here p c.self.invariant c.seat-seat.result.chunk s.chunk c.args.name s.there
+    c.seat-seat.result.place s.place)) i)
     ∙ sym (weight_seat p c.self.invariant c.seat-seat.result.chunk s.chunk c.args.name s.there)
     ∙ ap (λ (xs : List Item). weight_of (items_before c.args.name xs)) c.self.view_is

@@ -20,4 +20,5 @@ returns g c =
     let items : List Item = g.S.Sequence.items c.self.inside.list in
     let alike = alike_now c.self.inside.pending items c.args.self.now c.self.invariant c.self.view_is in
     c.is_before.ensures
-    ∙ (λ i. nat_lt (place_alike items c.args.self.now alike c.args.first i) (place_alike items c.args.self.now alike c.args.second i))
+    ∙ (λ i. nat_lt (place_alike items c.args.self.now alike c.args.first i)
+    (place_alike items c.args.self.now alike c.args.second i))

@@ -11,9 +11,23 @@ overflow_sub-result g c =
 pub overflow_add-result : goal.overflow_add-result
 overflow_add-result g c =
     let items : List Item = g.S.Sequence.items c.args.list.now in
-    omega (arith, c.weight.ensures, c.requires.light, c.weight-2.ensures, weight_now c.args.self items c.requires, weight_told c.args.self items c.requires)
+    omega (
+      arith,
+      c.weight.ensures,
+      c.requires.light,
+      c.weight-2.ensures,
+      weight_now c.args.self items c.requires,
+      weight_told c.args.self items c.requires,
+    )
 
 pub returns-clause-value : goal.returns-clause-value
 returns-clause-value g c =
     let items : List Item = g.S.Sequence.items c.args.list.now in
-    omega (arith, c.weight.ensures, c.weight-2.ensures, weight_now c.args.self items c.requires, weight_told c.args.self items c.requires)
+    omega (
+      arith,
+      c.weight.ensures,
+      c.weight-2.ensures,
+      weight_now c.args.self items c.requires,
+      weight_told
+          c.args.self items c.requires,
+    )

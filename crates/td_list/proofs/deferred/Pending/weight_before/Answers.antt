@@ -9,18 +9,28 @@ pub returns-then-is_told : goal.returns-then-is_told
 returns-then-is_told g c =
     let items : List Item = g.S.Sequence.items c.args.list.now in
     c.weight_before-before.ensures
-    ∙ ap (λ (all : List Item). weight_of (items_before c.args.name all)) (told_all c.args.self items c.requires.pending (c.is_told.ensures c.if-is_told.true))
+    ∙ ap (λ (all : List Item). weight_of (items_before c.args.name all))
+    (told_all c.args.self items c.requires.pending (c.is_told.ensures c.if-is_told.true))
 
 pub overflow_sub-result : goal.overflow_sub-result
 overflow_sub-result g c =
     let items : List Item = g.S.Sequence.items c.args.list.now in
-    let l = ltb-true (place_of c.args.self.item.name items) (place_of c.args.name items) (ap (λ (n : ℕ). nat_lt (place_of n items) (place_of c.args.name items)) (sym c.name.ensures) ∙ sym c.is_before.ensures ∙ c.if-is_before.true) in
-    omega (arith, c.weight_before-before.ensures, before_told c.args.self items c.requires.pending c.args.name c.requires.there l)
+    let l = ltb-true (place_of c.args.self.item.name items) (place_of c.args.name items)
+    (ap (λ (n : ℕ). nat_lt (place_of n items) (place_of c.args.name items)) (sym c.name.ensures)
+    ∙ sym c.is_before.ensures ∙ c.if-is_before.true) in
+    omega (
+      arith,
+      c.weight_before-before.ensures,
+      before_told c.args.self items c.requires.pending c.args.name
+          c.requires.there l,
+    )
 
 pub overflow_add-result : goal.overflow_add-result
 overflow_add-result g c =
     let items : List Item = g.S.Sequence.items c.args.list.now in
-    let l = ltb-true (place_of c.args.self.item.name items) (place_of c.args.name items) (ap (λ (n : ℕ). nat_lt (place_of n items) (place_of c.args.name items)) (sym c.name.ensures) ∙ sym c.is_before.ensures ∙ c.if-is_before.true) in
+    let l = ltb-true (place_of c.args.self.item.name items) (place_of c.args.name items)
+    (ap (λ (n : ℕ). nat_lt (place_of n items) (place_of c.args.name items)) (sym c.name.ensures)
+    ∙ sym c.is_before.ensures ∙ c.if-is_before.true) in
     let told = before_told c.args.self items c.requires.pending c.args.name c.requires.there l in
     let more = before_more c.args.self items c.requires.pending c.args.name c.requires.there l in
     let most = weight-before c.args.name (renew c.args.self.item items) in
@@ -29,7 +39,9 @@ overflow_add-result g c =
 pub returns-then-is_before : goal.returns-then-is_before
 returns-then-is_before g c =
     let items : List Item = g.S.Sequence.items c.args.list.now in
-    let l = ltb-true (place_of c.args.self.item.name items) (place_of c.args.name items) (ap (λ (n : ℕ). nat_lt (place_of n items) (place_of c.args.name items)) (sym c.name.ensures) ∙ sym c.is_before.ensures ∙ c.if-is_before.true) in
+    let l = ltb-true (place_of c.args.self.item.name items) (place_of c.args.name items)
+    (ap (λ (n : ℕ). nat_lt (place_of n items) (place_of c.args.name items)) (sym c.name.ensures)
+    ∙ sym c.is_before.ensures ∙ c.if-is_before.true) in
     let told = before_told c.args.self items c.requires.pending c.args.name c.requires.there l in
     let more = before_more c.args.self items c.requires.pending c.args.name c.requires.there l in
     omega (arith, c.weight_before-before.ensures, c.weight.ensures)
@@ -37,5 +49,7 @@ returns-then-is_before g c =
 pub returns-else-is_before : goal.returns-else-is_before
 returns-else-is_before g c =
     let items : List Item = g.S.Sequence.items c.args.list.now in
-    let l = ltb-false (place_of c.args.self.item.name items) (place_of c.args.name items) (ap (λ (n : ℕ). nat_lt (place_of n items) (place_of c.args.name items)) (sym c.name.ensures) ∙ sym c.is_before.ensures ∙ c.if-is_before.false) in
+    let l = ltb-false (place_of c.args.self.item.name items) (place_of c.args.name items)
+    (ap (λ (n : ℕ). nat_lt (place_of n items) (place_of c.args.name items)) (sym c.name.ensures)
+    ∙ sym c.is_before.ensures ∙ c.if-is_before.false) in
     c.weight_before-before.ensures ∙ before_same c.args.self items c.requires.pending c.args.name c.requires.there l

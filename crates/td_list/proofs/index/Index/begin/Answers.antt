@@ -1,4 +1,5 @@
-use Rattle.std.proofs.Common.{◌≡◌, ◌<◌, ◌-◌, ◌∙◌, ◌++◌, ◌∷◌, ℕ, List, [], length, get_or, set, ap, sym, subst, arith, ⊎_elim, Some}
+use Rattle.std.proofs.Common.{◌≡◌, ◌<◌, ◌-◌, ◌∙◌, ◌++◌, ◌∷◌, ℕ, List, [], length, get_or}
+use Rattle.std.proofs.Common.{set, ap, sym, subst, arith, ⊎_elim, Some}
 use Rattle.std.proofs.lemmas.List.{append-nil}
 use Rattle.td_base.specs.Lists.{In}
 use Rattle.td_list.specs.Items.{Item, IsItem, weight_of}

@@ -1,4 +1,5 @@
-use Rattle.std.proofs.Common.{◌≡◌, ◌<◌, ◌≤◌, ◌∙◌, ◌++◌, ℕ, List, length, take, drop, sym, subst, ap, arith, append_assoc}
+use Rattle.std.proofs.Common.{◌≡◌, ◌<◌, ◌≤◌, ◌∙◌, ◌++◌, ℕ, List, length, take, drop}
+use Rattle.std.proofs.Common.{sym, subst, ap, arith, append_assoc}
 use Rattle.td_list.specs.Items.{Item, IsItem, AreNew}
 use Rattle.td_list.specs.Index.{Parts, chunk_at, chunks_before, chunks_after}
 use Rattle.td_list.proofs.Joined.{within}

@@ -1,4 +1,5 @@
-use Rattle.std.proofs.Common.{◌≡◌, ◌<◌, ◌-◌, ◌^◌, ◌∙◌, ◌++◌, ◌∷◌, ℕ, List, [], length, get_or, set, take, drop, ap, sym, subst, arith, ⊎_elim, Some}
+use Rattle.std.proofs.Common.{◌≡◌, ◌<◌, ◌-◌, ◌^◌, ◌∙◌, ◌++◌, ◌∷◌, ℕ, List, [], length, get_or, set}
+use Rattle.std.proofs.Common.{take, drop, ap, sym, subst, arith, ⊎_elim, Some}
 use Rattle.td_base.specs.Lists.{In}
 use Rattle.td_list.specs.Items.{Item, IsItem, put_before, renew, weight_of}
 use Rattle.td_list.specs.Index.{Parts, chunk_at, joined, summary, IsIndex}
@@ -6,7 +7,8 @@ use Rattle.td_list.proofs.Names.{item_in_front}
 use Rattle.td_list.proofs.Joined.{within, homed, all_weight}
 use Rattle.td_list.proofs.Changes.{read_was, read_new, chunk_light}
 use Rattle.td_list.proofs.Added.{last_free, popped}
-use Rattle.td_list.proofs.Splits.{Parting, side_weight, first, second, order_one, order_two, there_one, there_two, two_light, three_light, three_is, split_index, split_all}
+use Rattle.td_list.proofs.Splits.{Parting, side_weight, first, second, order_one, order_two, there_one}
+use Rattle.td_list.proofs.Splits.{there_two, two_light, three_light, three_is, split_index, split_all}
 use Rattle.td_list.proofs.index.Index.split.Given as given
 use Rattle.td_list.proofs.index.Index.split.Goals as goal
 use Rattle.td_list.proofs.index.Index.split.Goals.{After-index-new, After-summary}

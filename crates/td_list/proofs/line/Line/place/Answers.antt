@@ -8,14 +8,17 @@ use Rattle.td_list.proofs.line.Line.place.Goals as goal
 pub index-requires : goal.index-requires
 index-requires c =
     let l = c.self.inside in
-    let f = found l.items.items l.places.items c.self.invariant.0.each c.args.name (subst (IsItem c.args.name) (sym c.self.view_is) c.requires) in
+    let f = found l.items.items l.places.items c.self.invariant.0.each c.args.name
+    (subst (IsItem c.args.name) (sym c.self.view_is) c.requires) in
     omega (arith, f.0, l.places.ok.0)
 
 pub returns-clause-value : goal.returns-clause-value
 returns-clause-value c =
     let l = c.self.inside in
-    let f = found l.items.items l.places.items c.self.invariant.0.each c.args.name (subst (IsItem c.args.name) (sym c.self.view_is) c.requires) in
-    c.index.ensures ∙ get_or_default l.places.items c.args.name c.index.result.now 0 f.0 ∙ f.1 ∙ ap (place_of c.args.name) c.self.view_is
+    let f = found l.items.items l.places.items c.self.invariant.0.each c.args.name
+    (subst (IsItem c.args.name) (sym c.self.view_is) c.requires) in
+    c.index.ensures ∙ get_or_default l.places.items c.args.name c.index.result.now 0 f.0 ∙ f.1
+    ∙ ap (place_of c.args.name) c.self.view_is
 
 pub returns-clause-bound : goal.returns-clause-bound
 returns-clause-bound c =

@@ -9,7 +9,10 @@ pub returns : goal.returns
 returns c =
     let xs = c.args.self.now in
     let inside = c.self.inside.items.items in
-    let within : c.place.result < length inside = subst (λ (q : List Item). c.place.result < length q) (sym c.self.view_is) c.place.ensures.bound in
+    let within : c.place.result < length inside = subst (λ (q : List Item). c.place.result < length q)
+    (sym c.self.view_is) c.place.ensures.bound in
     let read : c.index.result.now ≡ get_or xs c.place.result nothing =
-    c.index.ensures ∙ get_or_default inside c.place.result c.index.result.now nothing within ∙ ap (λ (q : List Item). get_or q c.place.result nothing) c.self.view_is in
-    there_is c.args.name xs c.requires ∙ (λ i. (ap (λ (n : ℕ). get_or xs n nothing) (sym c.place.ensures.value) ∙ sym read) i ∷ items_after c.args.name xs)
+    c.index.ensures ∙ get_or_default inside c.place.result c.index.result.now nothing within
+    ∙ ap (λ (q : List Item). get_or q c.place.result nothing) c.self.view_is in
+    there_is c.args.name xs c.requires ∙ (λ i. (ap (λ (n : ℕ). get_or xs n nothing) (sym c.place.ensures.value)
+    ∙ sym read) i ∷ items_after c.args.name xs)

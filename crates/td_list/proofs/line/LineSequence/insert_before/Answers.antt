@@ -7,7 +7,9 @@ pub returns-clause-ok : goal.returns-clause-ok
 returns-clause-ok c =
     let items = c.args.self.now in
     let piece = c.args.piece.now in
-    let e : take c.place-place.result items ++ piece ++ drop c.place-place.result items ≡ put_before c.args.name piece items =
+    let e : take c.place-place.result items ++ piece ++ drop c.place-place.result items
+    ≡ put_before c.args.name piece items =
     (λ i. take (c.place-place.ensures.value i) items ++ piece ++ drop (c.place-place.ensures.value i) items)
-    ∙ (λ i. take_place c.args.name items c.requires.there i ++ piece ++ drop_place c.args.name items c.requires.there i) in
+    ∙ (λ i. take_place c.args.name items c.requires.there i ++ piece
+    ++ drop_place c.args.name items c.requires.there i) in
     rw (← e) c.put.ensures.ok

@@ -5,5 +5,6 @@ use Rattle.td_list.proofs.line.LineSequence.next_marked.Goals as goal
 
 pub returns : goal.returns
 returns c =
-    c.first_marked.ensures ∙ (λ i. first_marked (drop (c.place.ensures.value i + 1) ((c.deref.ensures.value ∙ c.self.view_is) i)))
+    c.first_marked.ensures ∙ (λ i. first_marked (drop (c.place.ensures.value i + 1)
+    ((c.deref.ensures.value ∙ c.self.view_is) i)))
     ∙ ap first_marked (drop_after c.args.name c.args.self.now c.requires)

@@ -20,7 +20,8 @@ returns-in_default-line c =
     let last : slice_get kept (length kept - 1) ≡ Some line =
     ap (λ (lines : List EditorLine). slice_get lines (length lines - 1)) (sym c.deref.ensures.value)
     ∙ sym c.in-Some-last.ensures.value in
-    let at = at_a_line c.self.inside.calls c.self.inside.made kept c.args.self.now c.self.view_is c.in_default.ensures line last in
+    let at = at_a_line c.self.inside.calls c.self.inside.made kept c.args.self.now c.self.view_is c.in_default.ensures
+    line last in
     record {
       asks = at.0;
       line = line;

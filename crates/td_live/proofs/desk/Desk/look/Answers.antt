@@ -64,7 +64,8 @@ invariant_of-self-2 c =
     let s = c.in-Some.ensures.shown in
     let upto : c.in_ok-upto.upto ≡ s.0.upto = search rules in
     let text : c.in_ok-upto.text ≡ concat s.0.atoms = search rules in
-    let did : c.push_reserved.new.self.items ≡ d.did ++ Look c.self.inside.call c.in_ok-upto.upto c.in_ok-upto.text ∷ [] =
+    let did : c.push_reserved.new.self.items ≡ d.did
+    ++ Look c.self.inside.call c.in_ok-upto.upto c.in_ok-upto.text ∷ [] =
     cc in
     parts_looked d c.look.new.self c.looked.new.self (publish_of s.0) c.self.inside.call c.self.inside.waits
     c.in_ok-upto.upto c.in_ok-upto.text c.push_reserved.new.self.items c.self.invariant idle next c.looked.ensures
@@ -83,7 +84,8 @@ returns-clause-turn c =
     let s = c.in-Some.ensures.shown in
     let upto : c.in_ok-upto.upto ≡ s.0.upto = search rules in
     let text : c.in_ok-upto.text ≡ concat s.0.atoms = search rules in
-    let did : c.push_reserved.new.self.items ≡ d.did ++ Look c.self.inside.call c.in_ok-upto.upto c.in_ok-upto.text ∷ [] =
+    let did : c.push_reserved.new.self.items ≡ d.did
+    ++ Look c.self.inside.call c.in_ok-upto.upto c.in_ok-upto.text ∷ [] =
     cc in
     rw (← c.self.view_is)
     (turn_looked d c.look.new.self c.looked.new.self (publish_of s.0) c.self.inside.call c.in_ok-upto.upto

@@ -15,7 +15,8 @@ invariant_of-self g c =
       did = c.self.inside.did.items;
     } in
     let idle = subst (λ (d : DeskValue). IsPending d.editor → ⊥) (sym c.self.view_is) c.requires.idle in
-    let next = subst (λ (d : DeskValue). IsNext (Next.Ask c.args.request) d.rest) (sym c.self.view_is) c.requires.next in
+    let next = subst (λ (d : DeskValue). IsNext (Next.Ask c.args.request) d.rest) (sym c.self.view_is) c.requires.next
+    in
     let sent = c.in-Ok.ensures.submitted in
     parts_submitted d c.submit.new.self c.args.request c.in-Ok.call c.self.inside.call c.self.inside.waits
     c.self.invariant idle next sent.2 sent.3
@@ -23,7 +24,8 @@ invariant_of-self g c =
 pub returns-in-Ok-clause-turn : goal.returns-in-Ok-clause-turn
 returns-in-Ok-clause-turn g c =
     let idle = subst (λ (d : DeskValue). IsPending d.editor → ⊥) (sym c.self.view_is) c.requires.idle in
-    let next = subst (λ (d : DeskValue). IsNext (Next.Ask c.args.request) d.rest) (sym c.self.view_is) c.requires.next in
+    let next = subst (λ (d : DeskValue). IsNext (Next.Ask c.args.request) d.rest) (sym c.self.view_is) c.requires.next
+    in
     rw (← c.self.view_is) (record {
       idle = idle;
       request = c.args.request;
@@ -43,7 +45,8 @@ returns-in-Err-clause-turn g c =
       did = c.self.inside.did.items;
     } in
     let idle = subst (λ (d : DeskValue). IsPending d.editor → ⊥) (sym c.self.view_is) c.requires.idle in
-    let next = subst (λ (d : DeskValue). IsNext (Next.Ask c.args.request) d.rest) (sym c.self.view_is) c.requires.next in
+    let next = subst (λ (d : DeskValue). IsNext (Next.Ask c.args.request) d.rest) (sym c.self.view_is) c.requires.next
+    in
     let why = c.in-Err.ensures.submitted in
     rw (← c.self.view_is) (
       record { rest = LeadsStays; did = refl },

@@ -5,7 +5,8 @@ use Rattle.td_live.specs.declared.went.Went.{Went}
 use Rattle.td_live.specs.Following.{Stays as LeadsStays}
 use Rattle.td_live.specs.Desks.{DeskValue, IsDesk}
 use Rattle.td_live.specs.Turning.{IsTurn, IsAtEnd}
-use Rattle.td_live.proofs.Turns.{not_waiting, if_ok, keeps_same, keeps_begun, turn_begun, later_by, later_turn, done_on, done_before, over_done, asks_not_done, look_not_done}
+use Rattle.td_live.proofs.Turns.{not_waiting, if_ok, keeps_same, keeps_begun, turn_begun, later_by, later_turn}
+use Rattle.td_live.proofs.Turns.{done_on, done_before, over_done, asks_not_done, look_not_done}
 use Rattle.td_line.proofs.Editing.{later_editor_self}
 use Rattle.td_live.specs.declared.went.Went.TheVariants as Way
 use Rattle.td_live.proofs.desk.Desk.turn.Goals as goal
@@ -74,7 +75,8 @@ returns-in-Look-clause-memory g c =
       did = c.self.inside.did.items;
     } in
     rw (← c.self.view_is)
-    (on_err_weaker c.look.result (keeps_begun d c.look.new.self c.next.new.self (c.next.ensures.leads d.rest [] LeadsStays))
+    (on_err_weaker c.look.result (keeps_begun d c.look.new.self c.next.new.self
+    (c.next.ensures.leads d.rest [] LeadsStays))
     c.look.ensures.memory)
 
 pub returns-in-Over-clause-turn : goal.returns-in-Over-clause-turn

@@ -6,9 +6,11 @@ use Rattle.td_million.specs.Drafts.{AreFreshFrom}
 use Rattle.td_million.proofs.writer.Writer.flatten.Goals as goal
 
 pub invariant_of-self : goal.invariant_of-self
-invariant_of-self c = subst (AreFreshFrom (record { site = c.self.inside.site; seq = c.self.inside.next })) (sym c.in_err-flatten.ensures.err) c.self.invariant
+invariant_of-self c = subst (AreFreshFrom (record { site = c.self.inside.site; seq = c.self.inside.next }))
+    (sym c.in_err-flatten.ensures.err) c.self.invariant
 
 pub invariant_of-self-2 : goal.invariant_of-self-2
 invariant_of-self-2 c =
-    subst (AreFreshFrom (record { site = c.self.inside.site; seq = c.self.inside.next })) (sym c.in_ok-flatten.ensures.ok.1)
+    subst (AreFreshFrom (record { site = c.self.inside.site; seq = c.self.inside.next }))
+    (sym c.in_ok-flatten.ensures.ok.1)
     (λ d coming. fresh_flattened Root d (doc_rows c.self.inside.doc) (c.self.invariant d coming))

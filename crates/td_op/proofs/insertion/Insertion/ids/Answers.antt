@@ -15,5 +15,6 @@ loop-offset-preserved c =
           ∙ ap (λ (ids : List AtomIdValue). ids ++ (w.in-Some.id ∷ [])) c.loop-offset.invariant
           ∙ ap (λ (id : AtomIdValue). run_ids_from c.args.self.now.dot 0 (take n run) ++ (id ∷ [])) w.in-Some.ensures.1
           ∙ sym (ids_more c.args.self.now.dot n run (omega (arith, c.len-offset-end.ensures.len))))
-      | in_default w ↦ absurd (w.in_default.ensures (offset_fits run n c.len-offset-end.ensures.run (omega (arith, c.len-offset-end.ensures.len))))
+      | in_default w ↦ absurd (w.in_default.ensures (offset_fits run n c.len-offset-end.ensures.run
+          (omega (arith, c.len-offset-end.ensures.len))))
     ]

@@ -6,7 +6,8 @@ use Rattle.td_machine.specs.Request.{insert_aim, insert_aim_after}
 use Rattle.td_replica.specs.Parts.{StateValue}
 use Rattle.td_replica.specs.Verdict.{verdict_on}
 use Rattle.td_replica.proofs.Verdicts.{after_live}
-use Rattle.td_replica.proofs.state.State.insert_after.Goals.{in_default-via-in-Some+else-not-is_live, in_default-via-in_default}
+use Rattle.td_replica.proofs.state.State.insert_after.Goals.{in_default-via-in-Some+else-not-is_live}
+use Rattle.td_replica.proofs.state.State.insert_after.Goals.{in_default-via-in_default}
 use Rattle.td_replica.proofs.state.State.insert_after.Goals as goal
 
 pub returns-in_default : goal.returns-in_default

@@ -17,8 +17,10 @@ place-requires-2-clause-row g c = λ x e.
 pub returns : goal.returns
 returns g c = λ run.
     c.place-2.ensures run
-    ∙ ap (λ (after : Option AtomIdValue). verdict_on (insert_aim run after c.args.self.now.machine) c.args.self.now.machine)
+    ∙ ap (λ (after : Option AtomIdValue). verdict_on (insert_aim run after c.args.self.now.machine)
+    c.args.self.now.machine)
     c.live_at.ensures
-    ∙ ap (λ (s : StateValue). verdict_on (insert_aim run (live_id_at s.machine.doc (c.args.index - 1)) c.args.self.now.machine) c.args.self.now.machine)
+    ∙ ap (λ (s : StateValue). verdict_on (insert_aim run (live_id_at s.machine.doc (c.args.index - 1))
+    c.args.self.now.machine) c.args.self.now.machine)
     c.self.view_is
     ∙ sym (aim_within run c.args.index c.args.self.now.machine (search rules) (search rules))

@@ -13,7 +13,8 @@ use Rattle.td_replica.specs.declared.state.Origin.TheVariants.{Here, There}
 use Rattle.td_replica.specs.LastChange.{change_of}
 use Rattle.td_replica.specs.Parts.{StateValue, with_ballots, with_effect, with_note}
 use Rattle.td_replica.specs.Steps.{IsStep}
-use Rattle.td_replica.proofs.Deciding.{counting_open, open_room, due_named, due_fresh, due_next, due_undecided, vote_decides}
+use Rattle.td_replica.proofs.Deciding.{counting_open, open_room, due_named, due_fresh}
+use Rattle.td_replica.proofs.Deciding.{due_next, due_undecided, vote_decides}
 use Rattle.td_replica.proofs.Noting.{found_from}
 use Rattle.td_replica.proofs.Stepping.{change_once}
 use Rattle.td_replica.proofs.state.State.make_decision.Goals as goal

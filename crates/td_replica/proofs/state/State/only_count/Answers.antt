@@ -26,7 +26,8 @@ returns-clause-ok g c =
     let left : c.count.new.self.room.things ≡ c.reserve-2.new.self.room.things =
     ap (λ (s : StateValue). s.room.things) counted in
     subst
-    (λ (s : Stepped). IsStep s c.args.self.now c.count.new.self (record { reply = New; change = Nothing; number = None }))
+    (λ (s : Stepped). IsStep s c.args.self.now c.count.new.self
+    (record { reply = New; change = Nothing; number = None }))
     (sym (vote_waits m c.requires.built v c.requires.may (c.requires.waits b c.requires.may.found).1))
     (record {
       reply = refl;

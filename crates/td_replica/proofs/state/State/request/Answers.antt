@@ -32,7 +32,8 @@ make_deletion-requires-clause-may g c =
 
 pub returns-in-Delete-clause-ok : goal.returns-in-Delete-clause-ok
 returns-in-Delete-clause-ok g c =
-    subst (λ (s : Stepped). IfOk c.make_deletion.result (λ done. IsStep s c.args.self.now c.make_deletion.new.self done))
+    subst (λ (s : Stepped). IfOk c.make_deletion.result
+    (λ done. IsStep s c.args.self.now c.make_deletion.new.self done))
     (sym (delete_of c.args.request.now c.args.self.now.machine c.in-Delete.target
     (sym c.verdict.ensures ∙ c.in-Delete.is)).step)
     c.make_deletion.ensures.ok

@@ -13,5 +13,6 @@ leave-requires-clause-lines g c =
 
 pub returns : goal.returns
 returns g c =
-    ended c.args.self c.give_all.new.self c.args.editors.items c.in_ok-left.left.0 c.in_ok-left.left.1 c.in_ok-left.left.2
+    ended c.args.self c.give_all.new.self c.args.editors.items c.in_ok-left.left.0 c.in_ok-left.left.1
+    c.in_ok-left.left.2
     c.give_all.ensures.later c.in-Ok.ensures.given c.in_ok-left.ensures.left c.in_ok-left.ensures.peers

@@ -13,14 +13,16 @@ loop-i-init g c =
       later = c.catch_up.ensures.later;
       lines = c.catch_up.ensures.same.0;
       caught_up = c.in_ok-catch_up.ensures.caught_up;
-      all = n ∙ ap (λ (w : WorkerValue). length w.peers) c.self.view_is ∙ ap (λ (ps : List PeerState). length ps) c.catch_up.ensures.same.1;
+      all = n ∙ ap (λ (w : WorkerValue). length w.peers) c.self.view_is
+          ∙ ap (λ (ps : List PeerState). length ps) c.catch_up.ensures.same.1;
       given = c.catch_up.ensures.same.1;
     }
 
 pub give_one-requires-clause-some : goal.give_one-requires-clause-some
 give_one-requires-clause-some g c =
     let v = c.loop-i.invariant in
-    let n = so_far_length (GivenPeer c.args.self.now.site c.loop-i.self.site) c.loop-i.i c.args.self.now.peers c.loop-i.self.peers v.given in
+    let n = so_far_length (GivenPeer c.args.self.now.site c.loop-i.self.site) c.loop-i.i c.args.self.now.peers
+    c.loop-i.self.peers v.given in
     let a : c.len-i-end.result ≡ length c.args.self.now.peers = v.all in
     let t : c.loop-i.i < c.len-i-end.result = c.loop-i-test.true in
     omega arith

@@ -16,16 +16,20 @@ pub invariant_of-self : goal.invariant_of-self
 invariant_of-self g c =
     let ps : List PeerState = c.self.inside.peers.items in
     let l : c.args.i < length ps =
-    subst (λ (xs : List PeerState). c.args.i < length xs) (sym (ap (λ (w : WorkerValue). w.peers) c.self.view_is)) c.requires.some in
-    heard_worker c.self.inside.site c.hear.new.site c.self.inside.lines.items ps c.args.i c.index_mut-peer.result.now c.hear.new.peer
+    subst (λ (xs : List PeerState). c.args.i < length xs) (sym (ap (λ (w : WorkerValue). w.peers) c.self.view_is))
+    c.requires.some in
+    heard_worker c.self.inside.site c.hear.new.site c.self.inside.lines.items ps c.args.i c.index_mut-peer.result.now
+    c.hear.new.peer
     c.hear.ensures.heard l c.index_mut-peer.ensures.value c.self.invariant
 
 pub invariant_of-self-2 : goal.invariant_of-self-2
 invariant_of-self-2 g c =
     let ps : List PeerState = c.self.inside.peers.items in
     let l : c.args.i < length ps =
-    subst (λ (xs : List PeerState). c.args.i < length xs) (sym (ap (λ (w : WorkerValue). w.peers) c.self.view_is)) c.requires.some in
-    heard_worker c.self.inside.site c.hear.new.site c.self.inside.lines.items ps c.args.i c.index_mut-peer.result.now c.hear.new.peer
+    subst (λ (xs : List PeerState). c.args.i < length xs) (sym (ap (λ (w : WorkerValue). w.peers) c.self.view_is))
+    c.requires.some in
+    heard_worker c.self.inside.site c.hear.new.site c.self.inside.lines.items ps c.args.i c.index_mut-peer.result.now
+    c.hear.new.peer
     c.hear.ensures.heard l c.index_mut-peer.ensures.value c.self.invariant
 
 pub returns-in_err-hear-clause-later : goal.returns-in_err-hear-clause-later
@@ -50,14 +54,18 @@ returns-clause-heard g c =
     let e : ps ≡ c.args.self.now.peers = ap (λ (w : WorkerValue). w.peers) c.self.view_is in
     let f : s ≡ c.args.self.now.site = ap (λ (w : WorkerValue). w.site) c.self.view_is in
     let l : c.args.i < length ps = subst (λ (xs : List PeerState). c.args.i < length xs) (sym e) c.requires.some in
-    let i : IsReplica t.replica = subst (λ (r : ReplicaValue). IsReplica r) c.replica.ensures c.entries.ensures.replica in
+    let i : IsReplica t.replica = subst (λ (r : ReplicaValue). IsReplica r) c.replica.ensures
+    c.entries.ensures.replica in
     λ (first : SiteValue) (before : List PeerState) a h.
     let one : LaterSite first s = subst (λ (x : SiteValue). LaterSite first x) (sym f) a in
     let two : SoFar (HeardPeer first s) c.args.i before ps =
-    subst (λ (x : SiteValue × List PeerState). SoFar (HeardPeer first x.0) c.args.i before x.1) (λ j. (sym f j, sym e j)) h in
+    subst (λ (x : SiteValue × List PeerState). SoFar (HeardPeer first x.0) c.args.i before x.1)
+    (λ j. (sym f j, sym e j)) h in
     let later : LaterSite first t = later_then first s t one c.hear.ensures.heard.later in
-    so_far_next (HeardPeer first t) c.args.i before ps c.index_mut-peer.result.now c.hear.new.peer l c.index_mut-peer.ensures.value
-    (heard_now first t c.index_mut-peer.result.now c.hear.new.peer later i c.in_ok-hear.ensures.kept c.in_ok-hear.ensures.took
+    so_far_next (HeardPeer first t) c.args.i before ps c.index_mut-peer.result.now c.hear.new.peer l
+    c.index_mut-peer.ensures.value
+    (heard_now first t c.index_mut-peer.result.now c.hear.new.peer later i c.in_ok-hear.ensures.kept
+    c.in_ok-hear.ensures.took
     c.hear.ensures.one c.hear.ensures.heard.kept)
     (so_far_on (HeardPeer first s) (HeardPeer first t) c.args.i before ps
     (λ p q. heard_on first s t c.hear.ensures.heard.later p q) two)

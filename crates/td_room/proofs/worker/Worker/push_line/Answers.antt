@@ -14,5 +14,9 @@ invariant_of-self-2 g c =
     c.push_reserved.ensures.items ∙ ap (λ (xs : List LineValue). xs ++ l ∷ []) c.reserve.ensures.items in
     let n : IsNewLine c.requires.0 s.writer.views l =
     subst (λ (w : WorkerValue). IsNewLine c.requires.0 w.site.writer.views l) (sym c.self.view_is) c.requires.1 in
-    subst (λ (xs : List LineValue). IsWorker (record { site = s; lines = xs; peers = c.self.inside.peers.items })) (sym e)
-    (record { connected = c.self.invariant.connected; serving = new_line s ls l c.requires.0 n c.self.invariant.serving })
+    subst (λ (xs : List LineValue). IsWorker (record { site = s; lines = xs; peers = c.self.inside.peers.items }))
+    (sym e)
+    (record {
+      connected = c.self.invariant.connected;
+      serving = new_line s ls l c.requires.0 n c.self.invariant.serving;
+    })

@@ -12,7 +12,8 @@ pub invariant_of-self : goal.invariant_of-self
 invariant_of-self g c =
     let ls : List LineValue = c.self.inside.lines.items in
     let l : c.args.i < length ls =
-    subst (λ (xs : List LineValue). c.args.i < length xs) (sym (ap (λ (w : WorkerValue). w.lines) c.self.view_is)) c.requires in
+    subst (λ (xs : List LineValue). c.args.i < length xs) (sym (ap (λ (w : WorkerValue). w.lines) c.self.view_is))
+    c.requires in
     served_worker c.self.inside.site c.serve.new.site ls c.self.inside.peers.items c.args.i c.index_mut-line.result.now
     c.serve.new.self c.serve.ensures.served l c.index_mut-line.ensures.value c.self.invariant
 
@@ -29,7 +30,8 @@ returns-clause-turned g c =
     let l : c.args.i < length ls = subst (λ (xs : List LineValue). c.args.i < length xs) (sym e) c.requires in
     on_ok_weaker c.serve.result
     (λ (t : Turned c.index_mut-line.result.now c.serve.new.self) (before : List LineValue) h.
-    so_far_next TurnedLine c.args.i before ls c.index_mut-line.result.now c.serve.new.self l c.index_mut-line.ensures.value
+    so_far_next TurnedLine c.args.i before ls c.index_mut-line.result.now c.serve.new.self l
+    c.index_mut-line.ensures.value
     (record { turned = t; one = c.serve.ensures.one })
     (subst (λ (xs : List LineValue). SoFar TurnedLine c.args.i before xs) (sym e) h))
     c.serve.ensures.turned

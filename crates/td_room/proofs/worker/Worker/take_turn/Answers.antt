@@ -10,12 +10,14 @@ use Rattle.td_room.proofs.worker.Worker.take_turn.Goals as goal
 
 pub returns-in_err-hear_all-clause-later : goal.returns-in_err-hear_all-clause-later
 returns-in_err-hear_all-clause-later g c =
-    worker_then c.args.self.now c.serve_all.new.self c.hear_all.new.self c.serve_all.ensures.later c.hear_all.ensures.later
+    worker_then c.args.self.now c.serve_all.new.self c.hear_all.new.self c.serve_all.ensures.later
+    c.hear_all.ensures.later
 
 pub returns-clause-later : goal.returns-clause-later
 returns-clause-later g c =
     worker_then c.args.self.now c.hear_all.new.self c.tell_all.new.self
-    (worker_then c.args.self.now c.serve_all.new.self c.hear_all.new.self c.serve_all.ensures.later c.hear_all.ensures.later)
+    (worker_then c.args.self.now c.serve_all.new.self c.hear_all.new.self c.serve_all.ensures.later
+    c.hear_all.ensures.later)
     c.tell_all.ensures.later
 
 pub returns-clause-turned : goal.returns-clause-turned
@@ -26,7 +28,10 @@ returns-clause-turned g c =
     ap (λ (t : ToldValue). t.list) c.told-shown.ensures.told in
     let shown : UptoAtLeast z.site.writer.publishes (length z.site.replica.entries) =
     subst (λ (s : SiteValue). UptoAtLeast s.writer.publishes (length s.replica.entries)) f
-    (subst (λ (l : List Publish). UptoAtLeast l (length c.self.inside.site.replica.entries)) list c.told-shown.ensures.upto) in
-    turned c.args.self.now c.serve_all.new.self c.hear_all.new.self z c.serve_all.ensures.later.site c.serve_all.ensures.peers
-    c.in_ok-serve_all.ensures.turned c.hear_all.ensures.lines c.in_ok-hear_all.ensures.caught_up c.in_ok-hear_all.ensures.heard
+    (subst (λ (l : List Publish). UptoAtLeast l (length c.self.inside.site.replica.entries)) list
+    c.told-shown.ensures.upto) in
+    turned c.args.self.now c.serve_all.new.self c.hear_all.new.self z c.serve_all.ensures.later.site
+    c.serve_all.ensures.peers
+    c.in_ok-serve_all.ensures.turned c.hear_all.ensures.lines c.in_ok-hear_all.ensures.caught_up
+    c.in_ok-hear_all.ensures.heard
     c.tell_all.ensures.same.0 c.tell_all.ensures.same.1 c.tell_all.ensures.told shown

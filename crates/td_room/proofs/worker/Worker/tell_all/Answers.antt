@@ -48,4 +48,5 @@ returns-clause-told g c =
     let a : c.len-i-end.result ≡ length c.args.self.now.peers = v.all in
     let t : c.len-i-end.result ≤ c.loop-i.i = c.loop-i-test.false in
     subst (λ (x : SiteValue). AllZip (ToldPeer x) c.args.self.now.peers c.loop-i.self.peers) (sym v.site)
-    (so_far_all (ToldPeer c.args.self.now.site) c.loop-i.i c.args.self.now.peers c.loop-i.self.peers (omega arith) v.told)
+    (so_far_all (ToldPeer c.args.self.now.site) c.loop-i.i c.args.self.now.peers c.loop-i.self.peers (omega arith)
+    v.told)

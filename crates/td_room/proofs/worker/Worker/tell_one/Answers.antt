@@ -16,7 +16,8 @@ pub invariant_of-self : goal.invariant_of-self
 invariant_of-self g c =
     let ps : List PeerState = c.self.inside.peers.items in
     let l : c.args.i < length ps =
-    subst (λ (xs : List PeerState). c.args.i < length xs) (sym (ap (λ (w : WorkerValue). w.peers) c.self.view_is)) c.requires in
+    subst (λ (xs : List PeerState). c.args.i < length xs) (sym (ap (λ (w : WorkerValue). w.peers) c.self.view_is))
+    c.requires in
     told_worker c.self.inside.site c.self.inside.lines.items ps c.args.i c.index_mut-peer.result.now c.tell.new.self l
     c.index_mut-peer.ensures.value c.tell.ensures.later (ap (λ (x : PeerState). x.inbox) c.tell.ensures.same)
     (ap (λ (x : PeerState). x.waiting) c.tell.ensures.same)
@@ -42,7 +43,8 @@ returns-clause-told g c =
     let sent : SentOrNothing s.replica.machine.sent p q =
     subst (λ (r : ReplicaValue). SentOrNothing r.machine.sent p q) c.replica.ensures c.tell.ensures.sent in
     let told : ToldPeer s p q =
-    told_now s p q sent c.tell.ensures.most (ap (λ (x : PeerState). x.own) c.tell.ensures.same) (ap (λ (x : PeerState). x.inbox) c.tell.ensures.same)
+    told_now s p q sent c.tell.ensures.most (ap (λ (x : PeerState). x.own) c.tell.ensures.same)
+    (ap (λ (x : PeerState). x.inbox) c.tell.ensures.same)
     (ap (λ (x : PeerState). x.waiting) c.tell.ensures.same) in
     λ (before : List PeerState) h.
     subst (λ (x : SiteValue). SoFar (ToldPeer x) (c.args.i + 1) before (set ps c.args.i q)) f

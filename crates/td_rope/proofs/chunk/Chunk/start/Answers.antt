@@ -10,7 +10,14 @@ use Rattle.td_rope.proofs.chunk.Chunk.start.Goals as goal
 pub slice_bounds-total-end : goal.slice_bounds-total-end
 slice_bounds-total-end c =
     sym (length-take-le c.args.index c.deref.result.now
-    (omega (arith, c.requires, ap length c.self.view_is, ap length c.deref.ensures.value, count_pieces c.self.inside.lengths.items c.self.inside.bytes.items)))
+    (omega (
+      arith,
+      c.requires,
+      ap length c.self.view_is,
+      ap length c.deref.ensures.value,
+      count_pieces
+          c.self.inside.lengths.items c.self.inside.bytes.items,
+    )))
 
 pub total-requires : goal.total-requires
 total-requires c =
@@ -32,5 +39,6 @@ pub returns : goal.returns
 returns c =
     let lens = c.self.inside.lengths.items in
     let bytes = c.self.inside.bytes.items in
-    c.total.ensures ∙ ap (λ (ls : List ℕ). sum (take c.args.index ls)) c.deref.ensures.value ∙ start_is lens bytes c.args.index c.self.invariant.whole
+    c.total.ensures ∙ ap (λ (ls : List ℕ). sum (take c.args.index ls)) c.deref.ensures.value
+    ∙ start_is lens bytes c.args.index c.self.invariant.whole
     ∙ ap (λ (atoms : List (List ℕ)). length (concat (take c.args.index atoms))) c.self.view_is

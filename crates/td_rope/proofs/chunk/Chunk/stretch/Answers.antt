@@ -18,15 +18,19 @@ pub invariant_of-result : goal.invariant_of-result
 invariant_of-result c =
     let from = c.args.from in
     let to = c.args.to in
-    (stretch_parts c.self.inside.lengths.items c.self.inside.bytes.items c.in_ok-from_slice-2.field-0.items c.in_ok-from_slice.field-0.items from to c.self.invariant
+    (stretch_parts c.self.inside.lengths.items c.self.inside.bytes.items c.in_ok-from_slice-2.field-0.items
+    c.in_ok-from_slice.field-0.items from to c.self.invariant
     (c.in_ok-from_slice-2.ensures.items ∙ ap (λ (ls : List ℕ). slice_range ls from to) c.deref.ensures.value)
-    (c.in_ok-from_slice.ensures.items ∙ c.bytes_of.ensures.bytes ∙ ap (λ (atoms : List (List ℕ)). concat (slice_range atoms from to)) (sym c.self.view_is))).0
+    (c.in_ok-from_slice.ensures.items ∙ c.bytes_of.ensures.bytes
+    ∙ ap (λ (atoms : List (List ℕ)). concat (slice_range atoms from to)) (sym c.self.view_is))).0
 
 pub returns : goal.returns
 returns c =
     let from = c.args.from in
     let to = c.args.to in
-    (stretch_parts c.self.inside.lengths.items c.self.inside.bytes.items c.in_ok-from_slice-2.field-0.items c.in_ok-from_slice.field-0.items from to c.self.invariant
+    (stretch_parts c.self.inside.lengths.items c.self.inside.bytes.items c.in_ok-from_slice-2.field-0.items
+    c.in_ok-from_slice.field-0.items from to c.self.invariant
     (c.in_ok-from_slice-2.ensures.items ∙ ap (λ (ls : List ℕ). slice_range ls from to) c.deref.ensures.value)
-    (c.in_ok-from_slice.ensures.items ∙ c.bytes_of.ensures.bytes ∙ ap (λ (atoms : List (List ℕ)). concat (slice_range atoms from to)) (sym c.self.view_is))).1
+    (c.in_ok-from_slice.ensures.items ∙ c.bytes_of.ensures.bytes
+    ∙ ap (λ (atoms : List (List ℕ)). concat (slice_range atoms from to)) (sym c.self.view_is))).1
     ∙ ap (λ (atoms : List (List ℕ)). slice_range atoms from to) c.self.view_is

@@ -14,4 +14,5 @@ returns g c =
     let all : flat_map f ps ≡ c.args.self.now = c.self.view_is in
     let seat = subst (λ (q : List _). IsSeat f q k s.part s.index) c.deref.ensures.value c.find-seat.ensures in
     let within : k < length (flat_map f ps) = omega (arith, c.requires, ap length all) in
-    ap (λ (xs : List (List ℕ)). slice_get xs k) (sym all) ∙ get_part f ps s.part c.index.result.now s.index k c.atom.result seat within c.index.ensures c.atom.ensures
+    ap (λ (xs : List (List ℕ)). slice_get xs k) (sym all)
+    ∙ get_part f ps s.part c.index.result.now s.index k c.atom.result seat within c.index.ensures c.atom.ensures

@@ -12,13 +12,15 @@ invariant_of-self g c =
     let s = c.find-seat.result in
     let q = c.cut.new.self in
     let all : flat_map f ps ≡ c.args.self.now = c.self.view_is in
-    let seat = subst (λ (xs : List _). IsSeat f xs c.args.index s.part s.index) c.deref.ensures.value c.find-seat.ensures in
+    let seat = subst (λ (xs : List _). IsSeat f xs c.args.index s.part s.index) c.deref.ensures.value
+    c.find-seat.ensures in
     let counted : c.self.inside.count ≡ length c.args.self.now = c.self.invariant ∙ ap length all in
     let done = cut_row f ps c.args.self.now s.part c.index_mut.result.now q s.index c.args.index c.self.inside.count
     seat all counted c.requires c.index_mut.ensures.value c.cut.ensures in
     let within : s.part < length (set ps s.part q) = omega (arith, seat.part_within, length-set ps s.part q) in
     done.1 ∙ ap length (sym (ap (flat_map f) c.remove.ensures.items
-    ∙ empty_part f (set ps s.part q) s.part c.index.result.now within c.index.ensures (sym c.len.ensures ∙ c.if-len-eq0.true)))
+    ∙ empty_part f (set ps s.part q) s.part c.index.result.now within c.index.ensures
+    (sym c.len.ensures ∙ c.if-len-eq0.true)))
 
 pub invariant_of-self-else-len-eq0 : goal.invariant_of-self-else-len-eq0
 invariant_of-self-else-len-eq0 g c =
@@ -26,7 +28,8 @@ invariant_of-self-else-len-eq0 g c =
     let ps = c.self.inside.parts.items in
     let s = c.find-seat.result in
     let all : flat_map f ps ≡ c.args.self.now = c.self.view_is in
-    let seat = subst (λ (xs : List _). IsSeat f xs c.args.index s.part s.index) c.deref.ensures.value c.find-seat.ensures in
+    let seat = subst (λ (xs : List _). IsSeat f xs c.args.index s.part s.index) c.deref.ensures.value
+    c.find-seat.ensures in
     let counted : c.self.inside.count ≡ length c.args.self.now = c.self.invariant ∙ ap length all in
     (cut_row f ps c.args.self.now s.part c.index_mut.result.now c.cut.new.self s.index c.args.index c.self.inside.count
     seat all counted c.requires c.index_mut.ensures.value c.cut.ensures).1
@@ -38,13 +41,15 @@ returns-then-len-eq0 g c =
     let s = c.find-seat.result in
     let q = c.cut.new.self in
     let all : flat_map f ps ≡ c.args.self.now = c.self.view_is in
-    let seat = subst (λ (xs : List _). IsSeat f xs c.args.index s.part s.index) c.deref.ensures.value c.find-seat.ensures in
+    let seat = subst (λ (xs : List _). IsSeat f xs c.args.index s.part s.index) c.deref.ensures.value
+    c.find-seat.ensures in
     let counted : c.self.inside.count ≡ length c.args.self.now = c.self.invariant ∙ ap length all in
     let done = cut_row f ps c.args.self.now s.part c.index_mut.result.now q s.index c.args.index c.self.inside.count
     seat all counted c.requires c.index_mut.ensures.value c.cut.ensures in
     let within : s.part < length (set ps s.part q) = omega (arith, seat.part_within, length-set ps s.part q) in
     ap (flat_map f) c.remove.ensures.items
-    ∙ empty_part f (set ps s.part q) s.part c.index.result.now within c.index.ensures (sym c.len.ensures ∙ c.if-len-eq0.true)
+    ∙ empty_part f (set ps s.part q) s.part c.index.result.now within c.index.ensures
+    (sym c.len.ensures ∙ c.if-len-eq0.true)
     ∙ done.0
 
 pub returns-else-len-eq0 : goal.returns-else-len-eq0
@@ -53,7 +58,8 @@ returns-else-len-eq0 g c =
     let ps = c.self.inside.parts.items in
     let s = c.find-seat.result in
     let all : flat_map f ps ≡ c.args.self.now = c.self.view_is in
-    let seat = subst (λ (xs : List _). IsSeat f xs c.args.index s.part s.index) c.deref.ensures.value c.find-seat.ensures in
+    let seat = subst (λ (xs : List _). IsSeat f xs c.args.index s.part s.index) c.deref.ensures.value
+    c.find-seat.ensures in
     let counted : c.self.inside.count ≡ length c.args.self.now = c.self.invariant ∙ ap length all in
     (cut_row f ps c.args.self.now s.part c.index_mut.result.now c.cut.new.self s.index c.args.index c.self.inside.count
     seat all counted c.requires c.index_mut.ensures.value c.cut.ensures).0

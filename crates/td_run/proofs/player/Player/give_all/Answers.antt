@@ -16,7 +16,8 @@ pub loop-number-init : goal.loop-number-init
 loop-number-init g c =
     let w : WorldValue = c.args.self.now.world in
     let passed : ArePassed c.args.site w c.passed-number.result =
-    subst (λ (p : Printed). ArePassed c.args.site p.world c.passed-number.result) c.self.view_is c.passed-number.ensures in
+    subst (λ (p : Printed). ArePassed c.args.site p.world c.passed-number.result) c.self.view_is
+    c.passed-number.ensures in
     record {
       same = λ i. size w;
       still = λ k m e. e;
@@ -28,7 +29,8 @@ pub offer-requires-clause-sent : goal.offer-requires-clause-sent
 offer-requires-clause-sent g c =
     let sent : c.sent-number-end.result ≡ length c.args.self.now.world.sent =
     c.sent-number-end.ensures.sent ∙ ap (λ (p : Printed). length p.world.sent) c.self.view_is in
-    let less : c.loop-number.number < length c.args.self.now.world.sent = omega (arith, c.loop-number-test.true, sent) in
+    let less : c.loop-number.number < length c.args.self.now.world.sent =
+    omega (arith, c.loop-number-test.true, sent) in
     let m = some_at c.args.self.now.world.sent c.loop-number.number less in
     let within : c.loop-number.number < length c.loop-number.self.world.sent =
     slice_get_within c.loop-number.self.world.sent c.loop-number.number m.0

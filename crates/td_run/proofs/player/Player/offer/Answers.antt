@@ -29,7 +29,8 @@ returns g c = λ m there.
     let offers : offered c.args.site c.args.number p.world ≡ Some c.in-Some.given = search rules in
     let is : c.offer.new.self ≡ moved_all (offer_moves c.args.site c.args.number p.world) p.world = search rules in
     let line : List ℕ = give_line c.args.site c.args.number c.in-Some.given in
-    let printed : c.print.new.self ≡ with_line line (record { world = c.offer.new.self; text = p.text }) = search rules in
+    let printed : c.print.new.self ≡ with_line line (record { world = c.offer.new.self; text = p.text }) =
+    search rules in
     let moment : c.sent-before.result ≡ length p.world.sent = search rules in
     on_ok_weaker c.print_events.result
     (λ (e : c.print_events.new.self

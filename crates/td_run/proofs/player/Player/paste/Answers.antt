@@ -12,7 +12,8 @@ returns g c =
     let a : Asked = ask_all c.args.site (pastes c.args.index (runs_of c.args.atoms.now)) p.world in
     let view = c.self.view_is in
     let asked_is : asked c.paste_all.new.world c.in_ok-outcome.outcome ≡ a =
-    c.in_ok-outcome.ensures ∙ (λ i. ask_all c.args.site (pastes c.args.index (runs_of c.args.atoms.now)) (view i).world) in
+    c.in_ok-outcome.ensures ∙ (λ i. ask_all c.args.site (pastes c.args.index (runs_of c.args.atoms.now))
+    (view i).world) in
     let line : c.in_ok-line.line ≡ paste_line c.args.site a.done (length c.args.atoms.now) a.refused =
     c.in_ok-line.ensures ∙ (λ i. paste_line c.args.site (asked_is i).done (c.len-all.ensures i) (asked_is i).refused) in
     told_quietly p c.print.new.self a.world (paste_line c.args.site a.done (length c.args.atoms.now) a.refused)

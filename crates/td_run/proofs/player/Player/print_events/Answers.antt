@@ -8,7 +8,8 @@ loop-number-preserved g c =
     record {
       same = search rules;
       text = one_more c.args.self.now.world.sent c.args.before c.loop-number.number c.args.self.now.text
-          c.loop-number.self.text c.print_event.new.self.text c.loop-number.invariant.behind less c.loop-number.invariant.text
+          c.loop-number.self.text c.print_event.new.self.text c.loop-number.invariant.behind less
+          c.loop-number.invariant.text
           (search rules);
       behind = search rules;
     }

@@ -13,7 +13,8 @@ returns g c =
     let new : WorldValue = c.settle.new.self in
     let start : List ℕ = c.args.self.now.text in
     let line : List ℕ = settle_line c.in_ok-given.given in
-    let printed : c.print_events.new.self ≡ with_line (events old new) (record { world = new; text = start }) = search rules in
+    let printed : c.print_events.new.self ≡ with_line (events old new) (record { world = new; text = start }) =
+    search rules in
     let line_is : c.in_ok-line.line ≡ line = search rules in
     on_ok_weaker c.print.result
     (λ (e : c.print.new.self ≡ with_line c.in_ok-line.line c.print_events.new.self). (

@@ -11,6 +11,7 @@ returns-clause-taken g c =
     let world : IsWorld p.world = subst (λ (q : Printed). IsWorld q.world) c.self.view_is c.replica.ensures.world in
     let text : own_text p.world c.args.site ≡ taken_text p.world c.args.site =
     shown p.world world c.args.site c.replica.ensures.some c.requires in
-    let own : OnOk c.print.result (c.print.new.self ≡ with_line (show_line c.args.site (own_text p.world c.args.site)) p) =
+    let own : OnOk c.print.result (c.print.new.self
+    ≡ with_line (show_line c.args.site (own_text p.world c.args.site)) p) =
     search rules in
     subst (λ (t : List ℕ). OnOk c.print.result (c.print.new.self ≡ with_line (show_line c.args.site t) p)) text own

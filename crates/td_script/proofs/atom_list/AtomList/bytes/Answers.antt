@@ -4,4 +4,5 @@ use Rattle.td_script.proofs.atom_list.AtomList.bytes.Goals as goal
 
 pub returns : goal.returns
 returns c = rw (← c.self.view_is)
-    (c.deref.ensures.value ∙ sym (piece_bytes c.self.inside.lengths.items c.self.inside.bytes.items c.self.invariant.whole))
+    (c.deref.ensures.value ∙ sym (piece_bytes c.self.inside.lengths.items c.self.inside.bytes.items
+    c.self.invariant.whole))

@@ -7,12 +7,14 @@ invariant_of-self-2 c =
     let lengths : c.push.new.self.items ≡ c.self.inside.lengths.items ++ length c.args.atom.now ∷ [] = search rules in
     let bytes : c.extend_from_slice.new.self.items ≡ c.self.inside.bytes.items ++ c.args.atom.now = search rules in
     rw (lengths, bytes)
-    (with_atom c.self.inside.lengths.items c.self.inside.bytes.items c.args.atom.now c.self.invariant c.requires (omega arith)).0
+    (with_atom c.self.inside.lengths.items c.self.inside.bytes.items c.args.atom.now c.self.invariant c.requires
+    (omega arith)).0
 
 pub returns-clause-ok : goal.returns-clause-ok
 returns-clause-ok c =
     let lengths : c.push.new.self.items ≡ c.self.inside.lengths.items ++ length c.args.atom.now ∷ [] = search rules in
     let bytes : c.extend_from_slice.new.self.items ≡ c.self.inside.bytes.items ++ c.args.atom.now = search rules in
     rw (lengths, bytes)
-    ((with_atom c.self.inside.lengths.items c.self.inside.bytes.items c.args.atom.now c.self.invariant c.requires (omega arith)).1
+    ((with_atom c.self.inside.lengths.items c.self.inside.bytes.items c.args.atom.now c.self.invariant c.requires
+    (omega arith)).1
     ∙ ap (λ (atoms : List (List ℕ)). atoms ++ c.args.atom.now ∷ []) c.self.view_is)

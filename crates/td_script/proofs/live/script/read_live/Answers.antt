@@ -37,7 +37,8 @@ loop-rest-preserved c =
     let said : live_judged (length c.args.bytes.now) c.loop-rest.before c.split_line.result.0.now
     ≡ Ok (Some c.in-Ok-Some.command) = rw c.in-Ok-Some.field-0-is at c.in-Ok-Some.ensures in
     let more = one_more c.args.bytes.now c.loop-rest.rest.now c.split_line.result.0.now c.split_line.result.1.now
-    c.loop-rest.before c.loop-rest.number c.in-Ok-Some.command c.loop-rest.invariant.read c.split_line.ensures.lines said
+    c.loop-rest.before c.loop-rest.number c.in-Ok-Some.command c.loop-rest.invariant.read c.split_line.ensures.lines
+    said
     in
     record {
       read =

@@ -10,4 +10,8 @@ returns c = λ same.
     let found = c.are_same_but_at.ensures same in
     let rows = row_at size c.self.inside.len c.args.k c.self.inside.numbers.items c.if-k-self.false in
     let site = c.place.ensures.place in
-    rw (← c.self.view_is, rows) (rw (wide, c.deref.ensures.value, c.numbers.ensures.numbers, c.place.ensures.place) at found, omega (arith, count_rows size c.self.inside.len c.self.inside.numbers.items))
+    rw (← c.self.view_is, rows) (
+      rw (wide, c.deref.ensures.value, c.numbers.ensures.numbers, c.place.ensures.place) at
+          found,
+      omega (arith, count_rows size c.self.inside.len c.self.inside.numbers.items),
+    )

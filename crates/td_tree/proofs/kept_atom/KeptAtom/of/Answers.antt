@@ -13,7 +13,8 @@ front_again atom copied short same =
     ∙ take_at atom _ (length atom) refl)
 
 again : (c : goal.After-bytes-2-1) → take (length c.args.atom.now) c.copy_from_slice.new.self ≡ c.args.atom.now
-again c = front_again c.args.atom.now c.copy_from_slice.new.self (rw c.bytes-len.ensures.bytes at c.if-len-gt-SHORT.false)
+again c = front_again c.args.atom.now c.copy_from_slice.new.self
+    (rw c.bytes-len.ensures.bytes at c.if-len-gt-SHORT.false)
     (c.copy_from_slice.ensures.after ∙ ap (take SHORT) c.padded.ensures)
 
 pub invariant_of-result-2 : goal.invariant_of-result-2

@@ -6,4 +6,5 @@ pub are_known-requires-clause-stretch : goal.are_known-requires-clause-stretch
 are_known-requires-clause-stretch c = all_stretch c.args.self.now c.first.result c.first.ensures
 
 pub returns : goal.returns
-returns c = c.are_known.ensures (all_stretch c.args.self.now c.first.result c.first.ensures) ∙ known_root c.args.self.now c.requires c.args.v.now
+returns c = c.are_known.ensures (all_stretch c.args.self.now c.first.result c.first.ensures)
+    ∙ known_root c.args.self.now c.requires c.args.v.now

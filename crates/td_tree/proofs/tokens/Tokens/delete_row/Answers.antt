@@ -16,7 +16,8 @@ add_delete-requires c =
 
 pub renew-requires-clause-there : goal.renew-requires-clause-there
 renew-requires-clause-there c =
-    subst (λ (k : Item × List Item). IsItem k.0.name k.1) (λ i. (sym c.atom_item.ensures i, (sym c.self.view_is i).items))
+    subst (λ (k : Item × List Item). IsItem k.0.name k.1)
+    (λ i. (sym c.atom_item.ensures i, (sym c.self.view_is i).items))
     (there c.args.self.now c.requires.tree c.args.row c.requires.row c.requires.node c.args.by)
 
 pub renew-requires-clause-light : goal.renew-requires-clause-light
@@ -25,18 +26,40 @@ renew-requires-clause-light c =
     let light = c.requires.tree.light in
     let most = c.requires.tree.most in
     let less = lighter p c.requires.tree c.args.row c.requires.row c.requires.node c.args.by in
-    subst (λ (n : ℕ). n < 2 ^ 31) (λ i. weight_of (renew (sym c.atom_item.ensures i) (sym c.self.view_is i).items)) (omega arith)
+    subst (λ (n : ℕ). n < 2 ^ 31) (λ i. weight_of (renew (sym c.atom_item.ensures i) (sym c.self.view_is i).items))
+    (omega arith)
 
 pub returns-clause-ok : goal.returns-clause-ok
 returns-clause-ok c =
     let p : Parts = c.args.self.now in
-    let items : c.renew.new.self ≡ renew (atom_item c.args.row 0) p.items = c.renew.ensures ∙ (λ i. renew (c.atom_item.ensures i) (c.self.view_is i).items) in
+    let items : c.renew.new.self ≡ renew (atom_item c.args.row 0) p.items = c.renew.ensures
+    ∙ (λ i. renew (c.atom_item.ensures i) (c.self.view_is i).items) in
     let entries : List Entry = c.self.inside.rows.items in
     let states : List RowState = c.self.inside.states.items in
-    let rows : rows_with c.add_delete.new.rows.items states ≡ set p.rows c.args.row (record { entry = deleted (table p c.args.row) c.args.by; state = state_at p c.args.row }) =
-    ap (λ (es : List Entry). rows_with es states) c.in_ok-add_delete.ensures.ok ∙ entry_set entries states c.self.invariant c.args.row (deleted (get_or entries c.args.row nobody.entry) c.args.by)
-    ∙ (λ i. set (rows_with entries states) c.args.row (record { entry = deleted (sym (entry_in entries states c.self.invariant c.args.row) i) c.args.by; state = (get_or (rows_with entries states) c.args.row nobody).state }))
-    ∙ (λ i. set (c.self.view_is i).rows c.args.row (record { entry = deleted (table (c.self.view_is i) c.args.row) c.args.by; state = state_at (c.self.view_is i) c.args.row })) in
+    let rows : rows_with c.add_delete.new.rows.items states
+    ≡ set p.rows c.args.row (record {
+      entry = deleted (table p c.args.row) c.args.by;
+      state = state_at p c.args.row;
+    }) =
+    ap (λ (es : List Entry). rows_with es states) c.in_ok-add_delete.ensures.ok
+    ∙ entry_set entries states c.self.invariant c.args.row
+    (deleted (get_or entries c.args.row nobody.entry) c.args.by)
+    ∙ (λ i. set (rows_with entries states) c.args.row
+    (record {
+      entry = deleted (sym (entry_in entries states c.self.invariant c.args.row) i) c.args.by;
+      state = (get_or (rows_with entries states) c.args.row nobody).state;
+    }))
+    ∙ (λ i. set (c.self.view_is i).rows c.args.row
+    (record {
+      entry = deleted (table (c.self.view_is i) c.args.row) c.args.by;
+      state = state_at (c.self.view_is i) c.args.row;
+    })) in
     subst (λ (q : Parts). IsDeleted p q c.args.row c.args.by)
-    (λ i. record { items = sym items i; rows = sym rows i; arrays = (sym c.self.view_is i).arrays; nodes = (sym c.self.view_is i).nodes; count = (sym c.self.view_is i).count })
+    (λ i. record {
+      items = sym items i;
+      rows = sym rows i;
+      arrays = (sym c.self.view_is i).arrays;
+      nodes = (sym c.self.view_is i).nodes;
+      count = (sym c.self.view_is i).count;
+    })
     (is_deleted p c.requires.tree c.args.row c.requires.row c.requires.node c.args.by)

@@ -9,16 +9,24 @@ use Rattle.td_tree.proofs.tokens.Tokens.flatten_root.Goals as goal
 use Rattle.td_tree.proofs.tokens.Tokens.flatten_root.Goals.{After-give_arrays_back}
 
 pub flatten_stretch-requires-clause-items : goal.flatten_stretch-requires-clause-items
-flatten_stretch-requires-clause-items c = (Root, subst (λ (o : Option ℕ). IsSlotItems c.args.self.now Root o None) (sym c.first-first.ensures) (root_items c.args.self.now c.requires))
+flatten_stretch-requires-clause-items c = (
+  Root,
+  subst (λ (o : Option ℕ). IsSlotItems c.args.self.now Root o None)
+      (sym c.first-first.ensures) (root_items c.args.self.now c.requires),
+)
 
 flattened : (c : After-give_arrays_back) → IsFlattened c.args.self.now c.flatten_stretch.new.self Root
-flattened c = c.in_ok-flatten_stretch.ensures.ok Root (subst (λ (o : Option ℕ). IsSlotItems c.args.self.now Root o None) (sym c.first-first.ensures) (root_items c.args.self.now c.requires))
+flattened c = c.in_ok-flatten_stretch.ensures.ok Root
+    (subst (λ (o : Option ℕ). IsSlotItems c.args.self.now Root o None) (sym c.first-first.ensures)
+    (root_items c.args.self.now c.requires))
 
 pub give_arrays_back-requires-clause-last : goal.give_arrays_back-requires-clause-last
 give_arrays_back-requires-clause-last c = c.in_ok-flatten_stretch.ensures.last c.first-first.ensures refl
 
 pub give_arrays_back-requires-clause-tree : goal.give_arrays_back-requires-clause-tree
-give_arrays_back-requires-clause-tree c = (c.in_ok-flatten_stretch.ensures.ok Root (subst (λ (o : Option ℕ). IsSlotItems c.args.self.now Root o None) (sym c.first-first.ensures) (root_items c.args.self.now c.requires))).tree
+give_arrays_back-requires-clause-tree c = (c.in_ok-flatten_stretch.ensures.ok Root
+    (subst (λ (o : Option ℕ). IsSlotItems c.args.self.now Root o None) (sym c.first-first.ensures)
+    (root_items c.args.self.now c.requires))).tree
 
 pub returns-clause-ok : goal.returns-clause-ok
 returns-clause-ok c =
@@ -36,6 +44,14 @@ returns-clause-ok c =
 pub returns-clause-none : goal.returns-clause-none
 returns-clause-none c =
     let p : Parts = c.args.self.now in
-    let all = c.in_ok-flatten_stretch.ensures.nodes (record { front = []; inner = p.items; back = []; is = sym (append-nil p.items); starts = ap first_name (append-nil p.items) ∙ sym c.first-first.ensures; ends = refl }) in
+    let all = c.in_ok-flatten_stretch.ensures.nodes
+    (record {
+      front = [];
+      inner = p.items;
+      back = [];
+      is = sym (append-nil p.items);
+      starts = ap first_name (append-nil p.items) ∙ sym c.first-first.ensures;
+      ends = refl;
+    }) in
     let counted = c.requires.counted in
     omega (arith, c.give_arrays_back.ensures.nodes)

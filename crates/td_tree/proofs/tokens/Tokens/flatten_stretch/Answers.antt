@@ -6,42 +6,57 @@ use Rattle.td_tree.proofs.GivenBack.{in_none, no_first, none_before}
 use Rattle.td_tree.proofs.tokens.Tokens.flatten_stretch.Goals as goal
 
 pub returns-then-eq-clause-ok : goal.returns-then-eq-clause-ok
-returns-then-eq-clause-ok c = λ slot s. no_items c.args.self.now c.requires.tree slot c.args.first c.args.end s (same_end c.args.first c.args.end (ap not (sym c.if-eq.ensures)))
+returns-then-eq-clause-ok c = λ slot s. no_items c.args.self.now c.requires.tree slot c.args.first c.args.end s
+    (same_end c.args.first c.args.end (ap not (sym c.if-eq.ensures)))
 
 pub flatten_between-requires-clause-stretch : goal.flatten_between-requires-clause-stretch
 flatten_between-requires-clause-stretch c =
     let s = c.requires.items in
-    let n = other_end c.args.first c.args.end (ap not (sym c.if-eq.ensures)) in
-    (s.0, some_items c.args.self.now c.requires.tree s.0 c.in-Some.name c.args.end (subst (λ (o : Option ℕ). IsSlotItems c.args.self.now s.0 o c.args.end) c.in-Some.is s.1) (λ e. n (c.in-Some.is ∙ e)))
+    let n = other_end c.args.first c.args.end (ap not (sym c.if-eq.ensures)) in (
+      s.0,
+      some_items c.args.self.now c.requires.tree s.0 c.in-Some.name c.args.end
+          (subst (λ (o : Option ℕ). IsSlotItems c.args.self.now s.0 o c.args.end) c.in-Some.is s.1)
+          (λ e. n (c.in-Some.is ∙ e)),
+    )
 
 pub returns-in_ok-flatten_between-in-Some-clause-ok : goal.returns-in_ok-flatten_between-in-Some-clause-ok
 returns-in_ok-flatten_between-in-Some-clause-ok c = λ slot s.
     let n = other_end c.args.first c.args.end (ap not (sym c.if-eq.ensures)) in
-    c.in_ok-flatten_between-in-Some.ensures.ok slot (some_items c.args.self.now c.requires.tree slot c.in-Some.name c.args.end (subst (λ (o : Option ℕ). IsSlotItems c.args.self.now slot o c.args.end) c.in-Some.is s) (λ e. n (c.in-Some.is ∙ e)))
+    c.in_ok-flatten_between-in-Some.ensures.ok slot
+    (some_items c.args.self.now c.requires.tree slot c.in-Some.name c.args.end
+    (subst (λ (o : Option ℕ). IsSlotItems c.args.self.now slot o c.args.end) c.in-Some.is s)
+    (λ e. n (c.in-Some.is ∙ e)))
 
 pub returns-in-None-clause-ok : goal.returns-in-None-clause-ok
 returns-in-None-clause-ok c = λ slot s.
-    no_items c.args.self.now c.requires.tree slot c.args.first c.args.end s (none_first c.args.self.now slot c.args.first c.args.end s c.in-None.is)
+    no_items c.args.self.now c.requires.tree slot c.args.first c.args.end s
+    (none_first c.args.self.now slot c.args.first c.args.end s c.in-None.is)
 
 pub returns-then-eq-clause-nodes : goal.returns-then-eq-clause-nodes
-returns-then-eq-clause-nodes c = λ s. no_nodes c.args.self.now c.requires.tree c.args.first c.args.end s (same_end c.args.first c.args.end (ap not (sym c.if-eq.ensures)))
+returns-then-eq-clause-nodes c = λ s. no_nodes c.args.self.now c.requires.tree c.args.first c.args.end s
+    (same_end c.args.first c.args.end (ap not (sym c.if-eq.ensures)))
 
 pub returns-in_ok-flatten_between-in-Some-clause-nodes : goal.returns-in_ok-flatten_between-in-Some-clause-nodes
 returns-in_ok-flatten_between-in-Some-clause-nodes c = λ s.
-    c.in_ok-flatten_between-in-Some.ensures.nodes (record { front = s.front; inner = s.inner; back = s.back; is = s.is; starts = s.starts ∙ c.in-Some.is; ends = s.ends })
+    c.in_ok-flatten_between-in-Some.ensures.nodes (record
+    { front = s.front; inner = s.inner; back = s.back; is = s.is; starts = s.starts ∙ c.in-Some.is; ends = s.ends })
 
 pub returns-in-None-clause-nodes : goal.returns-in-None-clause-nodes
 returns-in-None-clause-nodes c = λ s.
     let i = c.requires.items in
-    no_nodes c.args.self.now c.requires.tree c.args.first c.args.end s (none_first c.args.self.now i.0 c.args.first c.args.end i.1 c.in-None.is)
+    no_nodes c.args.self.now c.requires.tree c.args.first c.args.end s
+    (none_first c.args.self.now i.0 c.args.first c.args.end i.1 c.in-None.is)
 
 pub returns-then-eq-clause-last : goal.returns-then-eq-clause-last
 returns-then-eq-clause-last c = λ starts ends.
-    in_none c.args.self.now c.requires.tree (no_first c.args.self.now.items (sym starts ∙ same_end c.args.first c.args.end (ap not (sym c.if-eq.ensures)) ∙ ends))
+    in_none c.args.self.now c.requires.tree (no_first c.args.self.now.items
+    (sym starts ∙ same_end c.args.first c.args.end (ap not (sym c.if-eq.ensures)) ∙ ends))
 
 pub returns-in-None-clause-last : goal.returns-in-None-clause-last
-returns-in-None-clause-last c = λ starts ends. in_none c.args.self.now c.requires.tree (no_first c.args.self.now.items (sym starts ∙ c.in-None.is))
+returns-in-None-clause-last c = λ starts ends. in_none c.args.self.now c.requires.tree
+    (no_first c.args.self.now.items (sym starts ∙ c.in-None.is))
 
 pub returns-in_ok-flatten_between-in-Some-clause-last : goal.returns-in_ok-flatten_between-in-Some-clause-last
 returns-in_ok-flatten_between-in-Some-clause-last c = λ starts ends.
-    c.in_ok-flatten_between-in-Some.ensures.last (none_before c.args.self.now.items c.in-Some.name (sym starts ∙ c.in-Some.is)) ends
+    c.in_ok-flatten_between-in-Some.ensures.last (none_before c.args.self.now.items c.in-Some.name
+    (sym starts ∙ c.in-Some.is)) ends

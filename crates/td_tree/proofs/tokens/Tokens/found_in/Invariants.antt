@@ -8,7 +8,8 @@ use Rattle.td_tree.proofs.tokens.Tokens.found_in.Given as goal
 
 abbrev pub invariant-walk : goal.invariant-walk
 invariant-walk l = (s : IsStretch l.self l.fn.first l.end)
-    → (w : Walked l.self s.inner s.back l.at) × IsFound l.self (tokens_of l.self w.done) l.found.live.items l.found.nodes.items l.found.dead
+    → (w : Walked l.self s.inner s.back l.at) × IsFound l.self (tokens_of l.self w.done) l.found.live.items
+    l.found.nodes.items l.found.dead
 
 abbrev pub decreases-walk : goal.decreases-walk
 decreases-walk l = length (items_from_end l.at l.self.items)

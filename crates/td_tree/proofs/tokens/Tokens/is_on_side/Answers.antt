@@ -18,7 +18,8 @@ pub is_between-requires : goal.is_between-requires
 is_between-requires c =
     let p = c.args.self.now in
     let t = c.requires.tree in
-    let node : state_at p c.args.node ≡ Node = is_node (state_at p c.args.node) (λ a i e. c.in_default.not-InArray a i (c.state.ensures ∙ e)) c.requires.node_stands in
+    let node : state_at p c.args.node ≡ Node = is_node (state_at p c.args.node)
+    (λ a i e. c.in_default.not-InArray a i (c.state.ensures ∙ e)) c.requires.node_stands in
     let s = side_items p c.args.node (node_at p t c.args.node c.requires.node node) c.args.bit in
     record {
       first = subst (λ (x : ℕ). IsItem x p.items) (sym c.side_start.ensures) (start_there p t c.args.node c.args.bit s);
@@ -31,19 +32,27 @@ returns-in-InArray c =
     let p = c.args.self.now in
     let t = c.requires.tree in
     let e = c.leaf_side-side.ensures in
-    let at = array_place p t c.args.node c.in-InArray.array c.in-InArray.index c.requires.node (sym c.in-InArray.ensures) in
-    c.is_in.ensures ∙ ap (λ (a : ℕ). is_in_part (state_at p c.args.row) a c.leaf_side-side.result.from c.leaf_side-side.result.len) e.array
+    let at = array_place p t c.args.node c.in-InArray.array c.in-InArray.index c.requires.node
+    (sym c.in-InArray.ensures) in
+    c.is_in.ensures ∙ ap (λ (a : ℕ). is_in_part (state_at p c.args.row) a c.leaf_side-side.result.from
+    c.leaf_side-side.result.len) e.array
     ∙ in_part_is p t c.in-InArray.array c.leaf_side-side.result.from c.leaf_side-side.result.len at.0 e.within e.stand
-    (At (table p c.args.node).id c.args.bit) (ap (λ (x : ℕ). map entry_of (rows_in_slot (doc_rows p) (At (table p x).id c.args.bit))) (sym at.2) ∙ e.rows) c.args.row c.requires.row c.requires.stands
+    (At (table p c.args.node).id c.args.bit) (ap (λ (x : ℕ). map entry_of
+    (rows_in_slot (doc_rows p) (At (table p x).id c.args.bit))) (sym at.2) ∙ e.rows) c.args.row c.requires.row
+    c.requires.stands
 
 pub returns-in_default : goal.returns-in_default
 returns-in_default c =
     let p = c.args.self.now in
     let t = c.requires.tree in
-    let node : state_at p c.args.node ≡ Node = is_node (state_at p c.args.node) (λ a i e. c.in_default.not-InArray a i (c.state.ensures ∙ e)) c.requires.node_stands in
+    let node : state_at p c.args.node ≡ Node = is_node (state_at p c.args.node)
+    (λ a i e. c.in_default.not-InArray a i (c.state.ensures ∙ e)) c.requires.node_stands in
     let s = side_items p c.args.node (node_at p t c.args.node c.requires.node node) c.args.bit in
     let l = c.place_of-name.ensures.place in
-    let there : In c.args.row (shown_at p l.item) = subst (In c.args.row) (sym l.is) (In-back c.args.row l.before (c.args.row ∷ l.after) (inl refl)) in
+    let there : In c.args.row (shown_at p l.item) =
+    subst (In c.args.row) (sym l.is) (In-back c.args.row l.before (c.args.row ∷ l.after) (inl refl)) in
     c.is_between.ensures
-    ∙ (λ i. nat_lt (place_of (c.side_start.ensures i) p.items) (place_of c.place_of-name.result.name p.items) && nat_lt (place_of c.place_of-name.result.name p.items) (place_of (c.side_end.ensures i) p.items))
+    ∙ (λ i. nat_lt (place_of (c.side_start.ensures i) p.items)
+    (place_of c.place_of-name.result.name p.items) && nat_lt (place_of c.place_of-name.result.name p.items)
+    (place_of (c.side_end.ensures i) p.items))
     ∙ between_is p t c.args.node c.args.bit s l.item c.place_of-name.result.name c.args.row l.there l.named there

@@ -5,4 +5,5 @@ use Rattle.td_tree.specs.Parts.{table, array_at, part}
 use Rattle.td_tree.proofs.tokens.Tokens.is_part_known.Given as goal
 
 abbrev pub invariant-loop-place : goal.invariant-loop-place
-invariant-loop-place l = list_all (λ (r : ℕ). is_known_entry l.v (table l.self r)) (part (array_at l.self l.rows.array) l.rows.from l.place) ≡ true
+invariant-loop-place l = list_all (λ (r : ℕ). is_known_entry l.v (table l.self r))
+    (part (array_at l.self l.rows.array) l.rows.from l.place) ≡ true

@@ -19,7 +19,8 @@ pub next-first-requires : goal.next-first-requires
 next-first-requires c =
     let p = c.args.self.now in
     let t = c.requires.tree in
-    let node : state_at p c.args.row ≡ Node = is_node (state_at p c.args.row) (λ a i e. c.in_default.not-InArray a i (c.state.ensures ∙ e)) c.requires.stands in
+    let node : state_at p c.args.row ≡ Node = is_node (state_at p c.args.row)
+    (λ a i e. c.in_default.not-InArray a i (c.state.ensures ∙ e)) c.requires.stands in
     let s = side_items p c.args.row (node_at p t c.args.row c.requires.row node) c.args.bit in
     subst (λ (x : ℕ). IsItem x p.items) (sym c.side_start.ensures) (start_there p t c.args.row c.args.bit s)
 
@@ -27,29 +28,35 @@ pub are_known-requires : goal.are_known-requires
 are_known-requires c =
     let p = c.args.self.now in
     let t = c.requires.tree in
-    let node : state_at p c.args.row ≡ Node = is_node (state_at p c.args.row) (λ a i e. c.in_default.not-InArray a i (c.state.ensures ∙ e)) c.requires.stands in
+    let node : state_at p c.args.row ≡ Node = is_node (state_at p c.args.row)
+    (λ a i e. c.in_default.not-InArray a i (c.state.ensures ∙ e)) c.requires.stands in
     let s = side_items p c.args.row (node_at p t c.args.row c.requires.row node) c.args.bit in
     record {
       tree = t;
       stretch = subst (λ (x : ℕ). IsStretch p c.next-first.result (Some x)) (sym c.side_end.ensures)
-          (side_stretch p t c.args.row c.args.bit s c.next-first.result (c.next-first.ensures ∙ ap (λ (x : ℕ). first_name (items_after x p.items)) c.side_start.ensures));
+          (side_stretch p t c.args.row c.args.bit s c.next-first.result
+          (c.next-first.ensures ∙ ap (λ (x : ℕ). first_name (items_after x p.items)) c.side_start.ensures));
     }
 
 pub returns-in-InArray : goal.returns-in-InArray
 returns-in-InArray c =
     let p = c.args.self.now in
     let e = c.leaf_side-side.ensures in
-    let at = array_place p c.requires.tree c.args.row c.in-InArray.array c.in-InArray.index c.requires.row (sym c.in-InArray.ensures) in
+    let at = array_place p c.requires.tree c.args.row c.in-InArray.array c.in-InArray.index c.requires.row
+    (sym c.in-InArray.ensures) in
     c.is_part_known.ensures
-    ∙ ap (λ (a : ℕ). list_all (λ (r : ℕ). is_known_entry c.args.v.now (table p r)) (part (array_at p a) c.leaf_side-side.result.from c.leaf_side-side.result.len)) e.array
-    ∙ known_numbers p c.args.v.now (At (table p c.args.row).id c.args.bit) (part (array_at p c.in-InArray.array) c.leaf_side-side.result.from c.leaf_side-side.result.len)
+    ∙ ap (λ (a : ℕ). list_all (λ (r : ℕ). is_known_entry c.args.v.now (table p r))
+    (part (array_at p a) c.leaf_side-side.result.from c.leaf_side-side.result.len)) e.array
+    ∙ known_numbers p c.args.v.now (At (table p c.args.row).id c.args.bit)
+    (part (array_at p c.in-InArray.array) c.leaf_side-side.result.from c.leaf_side-side.result.len)
     (ap (λ (x : ℕ). map entry_of (rows_in_slot (doc_rows p) (At (table p x).id c.args.bit))) (sym at.2) ∙ e.rows)
 
 pub returns-in_default : goal.returns-in_default
 returns-in_default c =
     let p = c.args.self.now in
     let t = c.requires.tree in
-    let node : state_at p c.args.row ≡ Node = is_node (state_at p c.args.row) (λ a i e. c.in_default.not-InArray a i (c.state.ensures ∙ e)) c.requires.stands in
+    let node : state_at p c.args.row ≡ Node = is_node (state_at p c.args.row)
+    (λ a i e. c.in_default.not-InArray a i (c.state.ensures ∙ e)) c.requires.stands in
     let s = side_items p c.args.row (node_at p t c.args.row c.requires.row node) c.args.bit in
     let first = c.next-first.ensures ∙ ap (λ (x : ℕ). first_name (items_after x p.items)) c.side_start.ensures in
     c.are_known.ensures (record {

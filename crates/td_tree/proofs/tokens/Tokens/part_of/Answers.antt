@@ -18,14 +18,16 @@ down-preserved-then-index-middle c =
     let below : c.args.index < from + n / 2 = omega (arith, c.if-index-middle.true, c.middle-in-down.ensures) in
     let low = i.low in
     let some : 0 < n / 2 = omega arith in
-    let top : c.id_in-atom.result ≡ (table p (row_of_array p a (from + n / 2))).id = c.id_in-atom.ensures ∙ ap (λ (k : ℕ). (table p (row_of_array p k (from + n / 2))).id) i.array in
+    let top : c.id_in-atom.result ≡ (table p (row_of_array p a (from + n / 2))).id = c.id_in-atom.ensures
+    ∙ ap (λ (k : ℕ). (table p (row_of_array p k (from + n / 2))).id) i.array in
     rw c.before-rows.ensures
     (record {
       array = i.array;
       is_part = left_part p a from n i.is_part some;
       low = low;
       high = below;
-      there = λ round l. subst (λ (x : AtomIdValue). LeafIn (table p) (doc_rows p) (part (array_at p a) from (n / 2)) (At x Left)) (sym top) (into_left p a from n i.is_part (slot_or round c.down.slot) (i.there round l) some);
+      there = λ round l. subst (λ (x : AtomIdValue). LeafIn (table p) (doc_rows p) (part (array_at p a) from (n / 2))
+          (At x Left)) (sym top) (into_left p a from n i.is_part (slot_or round c.down.slot) (i.there round l) some);
     })
 
 pub down-preserved : goal.down-preserved
@@ -40,12 +42,15 @@ down-preserved c =
     let past : from + n / 2 < c.args.index = omega arith in
     let high = i.high in
     let some : 0 < n - n / 2 - 1 = omega arith in
-    let top : c.id_in-atom.result ≡ (table p (row_of_array p a (from + n / 2))).id = c.id_in-atom.ensures ∙ ap (λ (k : ℕ). (table p (row_of_array p k (from + n / 2))).id) i.array in
+    let top : c.id_in-atom.result ≡ (table p (row_of_array p a (from + n / 2))).id = c.id_in-atom.ensures
+    ∙ ap (λ (k : ℕ). (table p (row_of_array p k (from + n / 2))).id) i.array in
     rw c.after-rows.ensures
     (record {
       array = i.array;
       is_part = right_part p a from n i.is_part some;
       low = omega arith;
       high = omega arith;
-      there = λ round l. subst (λ (x : AtomIdValue). LeafIn (table p) (doc_rows p) (part (array_at p a) (from + n / 2 + 1) (n - n / 2 - 1)) (At x Right)) (sym top) (into_right p a from n i.is_part (slot_or round c.down.slot) (i.there round l) some);
+      there = λ round l. subst (λ (x : AtomIdValue). LeafIn (table p) (doc_rows p)
+          (part (array_at p a) (from + n / 2 + 1) (n - n / 2 - 1)) (At x Right)) (sym top)
+          (into_right p a from n i.is_part (slot_or round c.down.slot) (i.there round l) some);
     })

@@ -11,8 +11,10 @@ invariant-down l = record {
   is_part : IsPart l.self l.fn.leaf.array l.rows.from l.rows.len;
   low : l.rows.from ≤ l.index;
   high : l.index < l.rows.from + l.rows.len;
-  there : (round : Slot) → LeafIn (table l.self) (doc_rows l.self) (part (array_at l.self l.fn.leaf.array) l.fn.leaf.from l.fn.leaf.len) round
-      → LeafIn (table l.self) (doc_rows l.self) (part (array_at l.self l.fn.leaf.array) l.rows.from l.rows.len) (slot_or round l.slot);
+  there : (round : Slot) → LeafIn (table l.self) (doc_rows l.self)
+      (part (array_at l.self l.fn.leaf.array) l.fn.leaf.from l.fn.leaf.len) round
+      → LeafIn (table l.self) (doc_rows l.self) (part (array_at l.self l.fn.leaf.array) l.rows.from l.rows.len)
+      (slot_or round l.slot);
 }
 
 abbrev pub decreases-down : goal.decreases-down

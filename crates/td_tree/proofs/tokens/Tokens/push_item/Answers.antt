@@ -17,5 +17,6 @@ push_rows-requires-clause-live c =
 
 pub returns-in-1-clause-ok : goal.returns-in-1-clause-ok
 returns-in-1-clause-ok c =
-    subst (λ (q : List ℕ). OnOk c.push_row.result (c.push_row.new.text ≡ c.args.text.now ++ q)) (sym (one_shown c.args.self.now c.requires.tree c.args.item c.requires.there (sym c.weight.ensures ∙ c.in-1.is)
+    subst (λ (q : List ℕ). OnOk c.push_row.result (c.push_row.new.text ≡ c.args.text.now ++ q))
+    (sym (one_shown c.args.self.now c.requires.tree c.args.item c.requires.there (sym c.weight.ensures ∙ c.in-1.is)
     ∙ ap (λ (n : ℕ). (table c.args.self.now (n / 3)).atom) (sym c.name.ensures))) c.push_row.ensures.ok

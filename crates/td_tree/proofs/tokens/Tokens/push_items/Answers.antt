@@ -11,11 +11,16 @@ use Rattle.td_tree.proofs.tokens.Tokens.push_items.Goals as goal
 
 pub push_item-requires-clause-there : goal.push_item-requires-clause-there
 push_item-requires-clause-there c =
-    let read = c.item-item.is ∙ get_or_default c.args.items.now c.loop-item.item-index c.item-item.result nothing c.loop-item-test.true in
-    rw read (c.requires.there (get_or c.args.items.now c.loop-item.item-index nothing) (in_place c.args.items.now nothing c.loop-item.item-index c.loop-item-test.true))
+    let read = c.item-item.is ∙ get_or_default c.args.items.now c.loop-item.item-index c.item-item.result nothing
+    c.loop-item-test.true in
+    rw read (c.requires.there (get_or c.args.items.now c.loop-item.item-index nothing)
+    (in_place c.args.items.now nothing c.loop-item.item-index c.loop-item-test.true))
 
 pub loop-item-preserved : goal.loop-item-preserved
 loop-item-preserved c =
-    let read = c.item-item.is ∙ get_or_default c.args.items.now c.loop-item.item-index c.item-item.result nothing c.loop-item-test.true in
-    more_items c.args.self.now c.args.items.now c.loop-item.item-index c.loop-item-test.true c.args.text.now c.loop-item.text c.push_item.new.text c.loop-item.invariant
-    (c.in_ok-push_item.ensures.ok ∙ ap (λ (i : Item). c.loop-item.text ++ text_of_numbers (table c.args.self.now) (shown_at c.args.self.now i)) read)
+    let read = c.item-item.is ∙ get_or_default c.args.items.now c.loop-item.item-index c.item-item.result nothing
+    c.loop-item-test.true in
+    more_items c.args.self.now c.args.items.now c.loop-item.item-index c.loop-item-test.true c.args.text.now
+    c.loop-item.text c.push_item.new.text c.loop-item.invariant
+    (c.in_ok-push_item.ensures.ok ∙ ap (λ (i : Item). c.loop-item.text
+    ++ text_of_numbers (table c.args.self.now) (shown_at c.args.self.now i)) read)

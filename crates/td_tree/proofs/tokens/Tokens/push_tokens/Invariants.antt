@@ -7,7 +7,8 @@ use Rattle.td_tree.proofs.Walked.{Walked}
 use Rattle.td_tree.proofs.tokens.Tokens.push_tokens.Given as goal
 
 abbrev pub invariant-walk : goal.invariant-walk
-invariant-walk l = (w : Walked l.self l.self.items [] l.at) × (l.text ≡ l.fn.text ++ text_of_numbers (table l.self) (shown l.self w.done))
+invariant-walk l = (w : Walked l.self l.self.items [] l.at)
+    × (l.text ≡ l.fn.text ++ text_of_numbers (table l.self) (shown l.self w.done))
 
 abbrev pub decreases-walk : goal.decreases-walk
 decreases-walk l = length (items_from_end l.at l.self.items)

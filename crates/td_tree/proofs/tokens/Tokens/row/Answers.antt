@@ -14,6 +14,7 @@ pub returns : goal.returns
 returns c =
     let was = ap (λ (p : Parts). length p.rows) c.self.view_is in
     let long = rows_long c.self.inside.rows.items c.self.inside.states.items c.self.invariant in
-    get_or_read_under c.self.inside.rows.items c.args.row (length c.self.inside.rows.items) c.index.result.now nobody.entry c.index.ensures (omega arith) refl
+    get_or_read_under c.self.inside.rows.items c.args.row (length c.self.inside.rows.items) c.index.result.now
+    nobody.entry c.index.ensures (omega arith) refl
     ∙ sym (entry_in c.self.inside.rows.items c.self.inside.states.items c.self.invariant c.args.row)
     ∙ ap (λ (p : Parts). table p c.args.row) c.self.view_is

@@ -12,14 +12,19 @@ pub row_at-requires-in-Some-next_marked-clause-there : goal.row_at-requires-in-S
 row_at-requires-in-Some-next_marked-clause-there c =
     let p = c.args.self.now in
     let name = c.args.place.name in
-    let marked = sym (c.in-Some-next_marked.ensures ∙ ap (λ (q : Parts). first_marked (items_after name q.items)) c.self.view_is) in
-    let n = next_shown p (items_after name p.items) (λ i m. c.requires.tree.each i (behind_in p c.requires.tree name c.requires.there i m)) c.in-Some-next_marked.name marked in
-    subst (λ (x : ℕ). IsItem x p.items) n.named (In-map (λ (i : Item). i.name) n.item p.items (behind_in p c.requires.tree name c.requires.there n.item n.there))
+    let marked = sym (c.in-Some-next_marked.ensures
+    ∙ ap (λ (q : Parts). first_marked (items_after name q.items)) c.self.view_is) in
+    let n = next_shown p (items_after name p.items)
+    (λ i m. c.requires.tree.each i (behind_in p c.requires.tree name c.requires.there i m))
+    c.in-Some-next_marked.name marked in
+    subst (λ (x : ℕ). IsItem x p.items) n.named (In-map (λ (i : Item). i.name) n.item p.items
+    (behind_in p c.requires.tree name c.requires.there n.item n.there))
 
 pub returns-in-Some-clause-row : goal.returns-in-Some-clause-row
 returns-in-Some-clause-row c = λ i m e.
     let p = c.args.self.now in
-    sym (drop_some (shown_at p i) (shown p (items_after c.args.place.name p.items)) c.args.place.rest c.in-Some.row (sym (c.in-Some.ensures i m e)))
+    sym (drop_some (shown_at p i) (shown p (items_after c.args.place.name p.items)) c.args.place.rest c.in-Some.row
+    (sym (c.in-Some.ensures i m e)))
 
 pub returns-in-Some-clause-known : goal.returns-in-Some-clause-known
 returns-in-Some-clause-known c =
@@ -31,24 +36,37 @@ pub returns-in-Some-next_marked-clause-row : goal.returns-in-Some-next_marked-cl
 returns-in-Some-next_marked-clause-row c = λ i m e.
     let p = c.args.self.now in
     let name = c.args.place.name in
-    let marked = sym (c.in-Some-next_marked.ensures ∙ ap (λ (q : Parts). first_marked (items_after name q.items)) c.self.view_is) in
-    let n = next_shown p (items_after name p.items) (λ j k. c.requires.tree.each j (behind_in p c.requires.tree name c.requires.there j k)) c.in-Some-next_marked.name marked in
-    c.row_at-in-Some-next_marked.ensures n.item (behind_in p c.requires.tree name c.requires.there n.item n.there) n.named
-    ∙ sym (ap first_number (drop_none (shown_at p i) (shown p (items_after name p.items)) c.args.place.rest (sym (c.in-None.ensures i m e))) ∙ n.is)
+    let marked = sym (c.in-Some-next_marked.ensures
+    ∙ ap (λ (q : Parts). first_marked (items_after name q.items)) c.self.view_is) in
+    let n = next_shown p (items_after name p.items)
+    (λ j k. c.requires.tree.each j (behind_in p c.requires.tree name c.requires.there j k))
+    c.in-Some-next_marked.name marked in
+    c.row_at-in-Some-next_marked.ensures n.item (behind_in p c.requires.tree name c.requires.there n.item n.there)
+    n.named
+    ∙ sym (ap first_number (drop_none (shown_at p i) (shown p (items_after name p.items)) c.args.place.rest
+    (sym (c.in-None.ensures i m e))) ∙ n.is)
 
 pub returns-in-Some-next_marked-clause-known : goal.returns-in-Some-next_marked-clause-known
 returns-in-Some-next_marked-clause-known c =
     let p = c.args.self.now in
     let name = c.args.place.name in
-    let marked = sym (c.in-Some-next_marked.ensures ∙ ap (λ (q : Parts). first_marked (items_after name q.items)) c.self.view_is) in
-    let n = next_shown p (items_after name p.items) (λ j k. c.requires.tree.each j (behind_in p c.requires.tree name c.requires.there j k)) c.in-Some-next_marked.name marked in
+    let marked = sym (c.in-Some-next_marked.ensures
+    ∙ ap (λ (q : Parts). first_marked (items_after name q.items)) c.self.view_is) in
+    let n = next_shown p (items_after name p.items)
+    (λ j k. c.requires.tree.each j (behind_in p c.requires.tree name c.requires.there j k))
+    c.in-Some-next_marked.name marked in
     known_result p c.requires.tree c.in-Some-next_marked.name
-    (subst (λ (x : ℕ). IsItem x p.items) n.named (In-map (λ (i : Item). i.name) n.item p.items (behind_in p c.requires.tree name c.requires.there n.item n.there))) 0 c.row_at-in-Some-next_marked.result c.row_at-in-Some-next_marked.ensures
+    (subst (λ (x : ℕ). IsItem x p.items) n.named (In-map (λ (i : Item). i.name) n.item p.items
+    (behind_in p c.requires.tree name c.requires.there n.item n.there))) 0 c.row_at-in-Some-next_marked.result
+    c.row_at-in-Some-next_marked.ensures
 
 pub returns-in-None-next_marked-clause-row : goal.returns-in-None-next_marked-clause-row
 returns-in-None-next_marked-clause-row c = λ i m e.
     let p = c.args.self.now in
     let name = c.args.place.name in
-    let marked = sym (c.in-None-next_marked.ensures ∙ ap (λ (q : Parts). first_marked (items_after name q.items)) c.self.view_is) in
-    sym (ap first_number (drop_none (shown_at p i) (shown p (items_after name p.items)) c.args.place.rest (sym (c.in-None.ensures i m e))
-    ∙ none_shown p (items_after name p.items) (λ j k. c.requires.tree.each j (behind_in p c.requires.tree name c.requires.there j k)) marked))
+    let marked = sym (c.in-None-next_marked.ensures
+    ∙ ap (λ (q : Parts). first_marked (items_after name q.items)) c.self.view_is) in
+    sym (ap first_number (drop_none (shown_at p i) (shown p (items_after name p.items)) c.args.place.rest
+    (sym (c.in-None.ensures i m e))
+    ∙ none_shown p (items_after name p.items) (λ j k. c.requires.tree.each j
+    (behind_in p c.requires.tree name c.requires.there j k)) marked))

@@ -8,7 +8,8 @@ use Rattle.td_tree.proofs.tokens.Tokens.slot_after.Given as goal
 abbrev pub invariant-over : goal.invariant-over
 invariant-over l = record {
   there : ForSome l.at (λ x. IsItem x l.self.items);
-  goes : (stack : List Level) → Over l.self stack (first_name (items_after l.fn.name l.self.items)) → Over l.self stack l.at;
+  goes : (stack : List Level) → Over l.self stack (first_name (items_after l.fn.name l.self.items))
+      → Over l.self stack l.at;
 }
 
 abbrev pub decreases-over : goal.decreases-over

@@ -20,7 +20,8 @@ overflow_add-result c =
     let r = last_row p c.self.inside.identities c.self.inside.seen c.self.invariant.0 c.in-Some.last k in
     let light = index_light p c.self.invariant.0.tree c.in-Some.last.row r.0 (c.if-is_behind.ensures.node refl) in
     let same : c.in-Some-index.index ≡ live_before (table p c.in-Some.last.row).id (doc_rows p) =
-    index_is p c.self.inside.identities c.in-Some.last k c.in-Some-index.index c.in-Some-index.is ∙ ap (λ x. live_before x (doc_rows p)) (sym r.2) in
+    index_is p c.self.inside.identities c.in-Some.last k c.in-Some-index.index c.in-Some-index.is
+    ∙ ap (λ x. live_before x (doc_rows p)) (sym r.2) in
     omega arith
 
 pub returns-in-Some-index : goal.returns-in-Some-index
@@ -29,6 +30,8 @@ returns-in-Some-index c =
     let k = last_is p c.self.inside.identities c.self.inside.last c.in-Some.last c.self.invariant.1 c.in-Some.is in
     let r = last_row p c.self.inside.identities c.self.inside.seen c.self.invariant.0 c.in-Some.last k in
     ap (λ (n : ℕ). n + 1)
-    (index_is p c.self.inside.identities c.in-Some.last k c.in-Some-index.index c.in-Some-index.is ∙ ap (λ x. live_before x (doc_rows p)) (sym r.2))
-    ∙ sym (index_behind p c.self.invariant.0.tree c.in-Some.last.row r.0 (c.if-is_behind.ensures.node refl) (ap (λ x. is_live_id (doc_rows p) x) r.2 ∙ k.live) c.args.at (c.if-is_behind.ensures.next refl))
+    (index_is p c.self.inside.identities c.in-Some.last k c.in-Some-index.index c.in-Some-index.is
+    ∙ ap (λ x. live_before x (doc_rows p)) (sym r.2))
+    ∙ sym (index_behind p c.self.invariant.0.tree c.in-Some.last.row r.0 (c.if-is_behind.ensures.node refl)
+    (ap (λ x. is_live_id (doc_rows p) x) r.2 ∙ k.live) c.args.at (c.if-is_behind.ensures.next refl))
     ∙ ap (λ (q : Parts). weight_of (items_up_to c.args.at q.items)) c.self.view_is

@@ -9,4 +9,5 @@ returns-in-Root c =
     let p = c.args.self.now in
     let t : IsTree p = subst IsTree c.self.view_is c.self.invariant.0.tree in
     let f = found_row p t c.args.row c.requires.row c.requires.stands in
-    in_root (doc_rows p) (table p c.args.row).id f.row f.found ∙ ap (is_within (doc_rows p) (table p c.args.row).id) (sym c.in-Root.is)
+    in_root (doc_rows p) (table p c.args.row).id f.row f.found
+    ∙ ap (is_within (doc_rows p) (table p c.args.row).id) (sym c.in-Root.is)

@@ -11,13 +11,15 @@ pub returns-clause-known : goal.returns-clause-known
 returns-clause-known c =
     let p : Parts = c.self.inside.tokens in
     let k = last_is p c.self.inside.identities c.self.inside.last c.in-Some.last c.self.invariant.1 c.in-Some.is in
-    subst (λ (q : Parts). c.in-Some.last.row < length q.rows) c.self.view_is (last_row p c.self.inside.identities c.self.inside.seen c.self.invariant.0 c.in-Some.last k).0
+    subst (λ (q : Parts). c.in-Some.last.row < length q.rows) c.self.view_is
+    (last_row p c.self.inside.identities c.self.inside.seen c.self.invariant.0 c.in-Some.last k).0
 
 pub returns-clause-stands : goal.returns-clause-stands
 returns-clause-stands c =
     let p : Parts = c.self.inside.tokens in
     let k = last_is p c.self.inside.identities c.self.inside.last c.in-Some.last c.self.invariant.1 c.in-Some.is in
-    subst (λ (q : Parts). state_at q c.in-Some.last.row ≢ Gone) c.self.view_is (last_row p c.self.inside.identities c.self.inside.seen c.self.invariant.0 c.in-Some.last k).1
+    subst (λ (q : Parts). state_at q c.in-Some.last.row ≢ Gone) c.self.view_is
+    (last_row p c.self.inside.identities c.self.inside.seen c.self.invariant.0 c.in-Some.last k).1
 
 pub state-requires : goal.state-requires
 state-requires c = (c.self.invariant.0.named.found c.args.id c.in-Some-number.row (sym c.in-Some-number.ensures)).0
@@ -25,9 +27,11 @@ state-requires c = (c.self.invariant.0.named.found c.args.id c.in-Some-number.ro
 pub returns-in-Gone-clause-none : goal.returns-in-Gone-clause-none
 returns-in-Gone-clause-none c =
     subst (λ (p : Parts). find_row c.args.id (doc_rows p) ≡ None) c.self.view_is
-    (gone_found c.self.inside.tokens c.self.invariant.0.tree (number_of c.self.inside.identities) c.self.invariant.0.named c.args.id c.in-Some-number.row (sym c.in-Some-number.ensures) (sym c.in-Gone.ensures))
+    (gone_found c.self.inside.tokens c.self.invariant.0.tree (number_of c.self.inside.identities)
+    c.self.invariant.0.named c.args.id c.in-Some-number.row (sym c.in-Some-number.ensures) (sym c.in-Gone.ensures))
 
 pub returns-in-None-clause-none : goal.returns-in-None-clause-none
 returns-in-None-clause-none c =
     subst (λ (p : Parts). find_row c.args.id (doc_rows p) ≡ None) c.self.view_is
-    (none_found c.self.inside.tokens c.self.invariant.0.tree (number_of c.self.inside.identities) c.self.invariant.0.named c.args.id (sym c.in-None.ensures))
+    (none_found c.self.inside.tokens c.self.invariant.0.tree (number_of c.self.inside.identities)
+    c.self.invariant.0.named c.args.id (sym c.in-None.ensures))

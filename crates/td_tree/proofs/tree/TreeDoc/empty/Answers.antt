@@ -6,7 +6,10 @@ invariant_of-result c =
     let none = ap length c.in_ok-empty.ensures.1 in (
       record {
         tree = c.in_ok-empty.ensures.0;
-        named = record { found = λ id r e. absurd (no r (sym (c.empty-2.ensures id) ∙ e)); here = λ r l. absurd (omega arith) };
+        named = record {
+          found = λ id r e. absurd (no r (sym (c.empty-2.ensures id) ∙ e));
+          here = λ r l. absurd (omega arith);
+        };
         each_seen = λ r l. absurd (omega arith);
       },
       tt,

@@ -22,13 +22,16 @@ returns-clause-shown g c =
     let x = c.get-shown.result.now in (
       x,
       (c.get-shown.result, c.f-answer.ensures, refl),
-      copied c.in-Ok.reading.part.value x c.again-past.result c.again.result c.get-shown.ensures c.again-past.ensures c.again.ensures c.in-Ok.ensures.1.1,
+      copied c.in-Ok.reading.part.value x c.again-past.result c.again.result c.get-shown.ensures c.again-past.ensures
+          c.again.ensures c.in-Ok.ensures.1.1,
     )
 
 pub returns-clause-later : goal.returns-clause-later
 returns-clause-later g c =
     let inside = c.self.inside in
     let now = c.again.result.log in
-    let known : IsPrefix inside.known.log now = subst (λ (q : Past). IsPrefix inside.known.log q.log) (sym c.again.ensures) c.compare-2.ensures.prefix in
-    let seen = prefix_trans inside.seen.log inside.known.log now (prefix_of inside.known.log inside.seen.log c.self.invariant.0.within) known in
+    let known : IsPrefix inside.known.log now = subst (λ (q : Past). IsPrefix inside.known.log q.log)
+    (sym c.again.ensures) c.compare-2.ensures.prefix in
+    let seen = prefix_trans inside.seen.log inside.known.log now
+    (prefix_of inside.known.log inside.seen.log c.self.invariant.0.within) known in
     rw (← c.self.view_is) (known, seen)

@@ -1,4 +1,5 @@
-use Rattle.std.proofs.Common.{◌≡◌, ◌+◌, ◌-◌, ◌∙◌, ap, sym, subst, arith, length, length-append, List, ◌++◌, ◌∷◌, [], append-nil, ℕ}
+use Rattle.std.proofs.Common.{◌≡◌, ◌+◌, ◌-◌, ◌∙◌, ap, sym, subst, arith, length}
+use Rattle.std.proofs.Common.{length-append, List, ◌++◌, ◌∷◌, [], append-nil, ℕ}
 use Rattle.logbook.specs.Pages.{Book}
 use Rattle.td_view.specs.declared.publish.Publish.{Publish}
 use Rattle.td_view.specs.Publishes.{publish, again, Follows}
@@ -15,7 +16,8 @@ count_down-after-requires-clause-legal g c =
     let i = c.loop-last.invariant in
     let x = c.loop-last.press.desk.shown.value in
     let m = c.loop-last.last in
-    let f = subst (λ (q : Publish). Follows (publish_of x) q) (λ j. publish (sym i.4.1 j) (sym i.4.2 j) m) (i.6 c.loop-last-test.true) in
+    let f = subst (λ (q : Publish). Follows (publish_of x) q) (λ j. publish (sym i.4.1 j) (sym i.4.2 j) m)
+    (i.6 c.loop-last-test.true) in
     may_add x c.loop-last.past (publish c.upto-upto.result x.atoms m) i.2 i.3 f
 
 pub loop-last-preserved : goal.loop-last-preserved
@@ -34,12 +36,17 @@ loop-last-preserved g c =
     let log : next.log ≡ old.log ++ again p m ∷ [] = past.1 ∙ (λ j. old.log ++ publish (i.4.1 j) (i.4.2 j) m ∷ []) in
     let told : c.new.result ≡ record { views = next.book; list = next.log } =
     c.new.ensures ∙ ap (λ (q : Past). record { views = q.book; list = q.log }) c.again.ensures in
-    let items : c.push_reserved.new.self.items ≡ c.loop-last.all.items ++ record { views = next.book; list = next.log } ∷ [] =
+    let items : c.push_reserved.new.self.items ≡ c.loop-last.all.items
+    ++ record { views = next.book; list = next.log } ∷ [] =
     c.push_reserved.ensures.items ∙ (λ j. c.reserve.ensures.items j ++ told j ∷ []) in
     let before : c.loop-last.all.items ++ tolds next.book old.log p m ≡ whole =
     ap (λ (b : Book). c.loop-last.all.items ++ tolds b old.log p m) past.0 ∙ i.7 in (
       i.0 ∙ ap head_of (sym past.0),
-      (ap (λ (n : ℕ). n + 1) i.1.0 ∙ (sym (length-append old.log (again p m ∷ [])) ∙ ap length (sym log)), omega (arith, c.if-number-ge-MOST.false)),
+      (
+        ap (λ (n : ℕ). n + 1) i.1.0 ∙ (sym (length-append old.log (again p m ∷ [])) ∙ ap length (sym log)),
+        omega
+            (arith, c.if-number-ge-MOST.false),
+      ),
       stands.1,
       stands.0,
       (ap (λ (q : Publish). q.upto) same, i.4.1, ap (λ (q : Publish). q.atoms) same ∙ i.4.2),

@@ -8,5 +8,7 @@ invariant-loop-i l = record {
   at : l.self.rest.now ≡ drop l.i l.initial.self.rest.now;
   within : l.i ≤ length l.initial.self.rest.now;
   room : l.count - l.i ≤ l.room;
-  read : mapped (λ ls. take l.i l.initial.self.rest.now ++ ls) (lengths_at (l.count - l.i) l.room (drop l.i l.initial.self.rest.now)) ≡ lengths_at l.count 64 l.initial.self.rest.now;
+  read : mapped (λ ls. take l.i l.initial.self.rest.now ++ ls)
+      (lengths_at (l.count - l.i) l.room (drop l.i l.initial.self.rest.now))
+      ≡ lengths_at l.count 64 l.initial.self.rest.now;
 }

@@ -9,8 +9,11 @@ pub unwrap-requires : goal.unwrap-requires
 unwrap-requires c =
     let most = sym c.max_site-max_site.ensures in
     let site = sym (ap (λ (d : DotValue). d.site) c.own.view_is) ∙ sym c.number.ensures.value in
-    some_if c.new.result _ _ c.new.ensures (op_in c.args.format c.args.kind c.in_ok-own.own c.in_ok-n.n c.in_ok-deps.deps c.in_ok-body.body c.args.self.now.rest.now c.dot.new.self.rest.now
-    c.byte.new.self.rest.now c.deps.new.self.rest.now c.body.new.self.rest.now (record { least = c.requires.least; most = c.requires.most })
+    some_if c.new.result _ _ c.new.ensures (op_in c.args.format c.args.kind c.in_ok-own.own c.in_ok-n.n
+    c.in_ok-deps.deps c.in_ok-body.body c.args.self.now.rest.now c.dot.new.self.rest.now
+    c.byte.new.self.rest.now c.deps.new.self.rest.now c.body.new.self.rest.now
+    (record { least = c.requires.least; most = c.requires.most })
     (ap (λ m. dot_at m c.args.self.now.rest.now) most ∙ c.in_ok-own.ensures)
-    (ap (λ s. byte_at s (max_site c.args.format) c.dot.new.self.rest.now) site ∙ ap (λ m. byte_at c.number.result m c.dot.new.self.rest.now) most ∙ c.in_ok-n.ensures)
+    (ap (λ s. byte_at s (max_site c.args.format) c.dot.new.self.rest.now) site
+    ∙ ap (λ m. byte_at c.number.result m c.dot.new.self.rest.now) most ∙ c.in_ok-n.ensures)
     c.in_ok-deps.ensures c.in_ok-body.ensures)

@@ -14,7 +14,8 @@ give_to-requires-clause-sent g c =
 pub returns-in-Some-clause-nobody : goal.returns-in-Some-clause-nobody
 returns-in-Some-clause-nobody g c =
     on_ok_weaker c.give_to.result
-    (λ (e : c.give_to.new.self ≡ moved_all (found_moves c.args.to (Some c.in-Some.message) c.args.self.now) c.args.self.now)
+    (λ (e : c.give_to.new.self ≡ moved_all (found_moves c.args.to (Some c.in-Some.message) c.args.self.now)
+    c.args.self.now)
     (h : NobodyReady c.args.self.now).
     subst (λ (w : WorldValue). NobodyReady w) (sym e)
     (found_nobody c.args.to c.in-Some.message c.args.self.now c.give_to.ensures.some c.requires h))

@@ -3,7 +3,8 @@ use Rattle.td_world.proofs.Passed.{own_passed, own_moves, own_answer}
 use Rattle.td_world.proofs.world.World.give_at.Goals as goal
 
 pub pass_over-requires-clause-passed : goal.pass_over-requires-clause-passed
-pass_over-requires-clause-passed g c = own_passed c.args.to c.args.k c.args.self.now (c.is_from.ensures c.if-is_from.true)
+pass_over-requires-clause-passed g c = own_passed c.args.to c.args.k c.args.self.now
+    (c.is_from.ensures c.if-is_from.true)
 
 pub returns-then-is_from-clause-given : goal.returns-then-is_from-clause-given
 returns-then-is_from-clause-given g c = λ m sent.

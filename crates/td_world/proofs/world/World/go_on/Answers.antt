@@ -23,7 +23,8 @@ returns-then-not-ready-clause-ok g c =
     let none : is_ready (machine_of c.loop-k.self c.args.site) ≡ false =
     ap (λ (r : ReplicaValue). is_ready r.machine) (sym c.replica-in-loop-k.ensures.replica) ∙ sym c.ready.ensures
     ∙ c.if-not-ready.true in
-    (going_off c.args.site c.waiting-waiting.result c.loop-k.k c.args.self.now c.loop-k.self c.loop-k.invariant.0 none).0
+    (going_off c.args.site c.waiting-waiting.result c.loop-k.k c.args.self.now c.loop-k.self c.loop-k.invariant.0
+    none).0
     ∙ ap (λ (k : ℕ). moved_all (nexts k c.args.site c.args.self.now) c.args.self.now) c.loop-k.invariant.2
 
 pub returns-in_err-take_next-clause-err : goal.returns-in_err-take_next-clause-err

@@ -18,7 +18,8 @@ loop-replica-preserved g c =
     c.post_all.new.posts.items c.loop-replica.passed.items c.push.new.self.items
     (subst (λ (l : List ReplicaValue). AreSites l) (sym c.deref-replica-items.ensures.value) c.requires.sites) less
     c.loop-replica.invariant c.replica-item.result
-    (c.replica-item.is ∙ or_from c.deref-replica-items.result.now c.loop-replica.replica-index c.replica-item.result less)
+    (c.replica-item.is ∙ or_from c.deref-replica-items.result.now c.loop-replica.replica-index c.replica-item.result
+    less)
     c.entries.ensures.replica c.site.result c.sent.result c.site.ensures c.sent.ensures c.in_ok-post_all.ensures.ok
     c.in_ok-push.ensures.items
 

@@ -9,12 +9,14 @@ use Rattle.td_world.proofs.world.World.pass.Goals as goal
 pub give_each-requires : goal.give_each-requires
 give_each-requires g c =
     let same : size c.loop-place.self ≡ size c.args.self.now =
-    passing_size (c.loop-place.place + 1) c.args.self.now c.loop-place.self c.loop-place.count c.loop-place.invariant.0 in
+    passing_size (c.loop-place.place + 1) c.args.self.now c.loop-place.self c.loop-place.count
+    c.loop-place.invariant.0 in
     omega (arith, same, c.at.ensures, c.loop-place-test.true, c.requires.all)
 
 pub returns-in_err-given-clause-err : goal.returns-in_err-given-clause-err
 returns-in_err-given-clause-err g c =
-    let within : c.loop-place.place + 1 ≤ size c.args.self.now = omega (arith, c.loop-place-test.true, c.requires.all) in
+    let within : c.loop-place.place + 1 ≤ size c.args.self.now =
+    omega (arith, c.loop-place-test.true, c.requires.all) in
     err_always c.from_residual.result
     (passing_stopped (c.loop-place.place + 1) c.args.self.now c.loop-place.self c.loop-place.count within
     c.loop-place.invariant.0 c.give_each.new.self
@@ -28,7 +30,8 @@ overflow_add-count g c =
 
 pub loop-place-preserved : goal.loop-place-preserved
 loop-place-preserved g c =
-    let within : c.loop-place.place + 1 ≤ size c.args.self.now = omega (arith, c.loop-place-test.true, c.requires.all) in
+    let within : c.loop-place.place + 1 ≤ size c.args.self.now =
+    omega (arith, c.loop-place-test.true, c.requires.all) in
     let sent : length c.loop-place.self.sent ≤ 268431360 = few_sent c.loop-place.self c.loop-place.invariant.1 in
     let told : c.in_ok-given.given ≡ length (give_all_given (c.loop-place.place + 1) c.loop-place.self) =
     c.in_ok-given.ensures.count ∙ ap (λ (s : ℕ). length (give_all_given s c.loop-place.self)) c.at.ensures in (

@@ -5,7 +5,8 @@ use Rattle.td_world.specs.Promises.{NobodyReady}
 use Rattle.td_world.proofs.Cuts.{err_always}
 use Rattle.td_world.proofs.Ending.{settling_enough, settled_three}
 use Rattle.td_world.proofs.Moves.{size_after}
-use Rattle.td_world.proofs.Settling.{settling_none, settling_more, settling_done, settling_stopped, settled_nobody, settled_same, settled_all}
+use Rattle.td_world.proofs.Settling.{settling_none, settling_more, settling_done, settling_stopped}
+use Rattle.td_world.proofs.Settling.{settled_nobody, settled_same, settled_all}
 use Rattle.td_world.proofs.world.World.settle.Given.{Over}
 use Rattle.td_world.proofs.world.World.settle.Goals as goal
 
@@ -25,7 +26,8 @@ returns-in_err-more-clause-err g c =
 
 done : (g : Over) (c : goal.Then-still g) → IsSettled c.args.self.now c.pass.new.self c.loop.given
 done g c =
-    settling_done c.loop.counter c.args.self.now c.loop.self c.pass.new.self c.loop.given c.in_ok-more.more c.loop.invariant.0
+    settling_done c.loop.counter c.args.self.now c.loop.self c.pass.new.self c.loop.given c.in_ok-more.more
+    c.loop.invariant.0
     c.in_ok-more.ensures.ok c.in_ok-more.ensures.count c.if-still.true
 
 pub returns-then-still-clause-given : goal.returns-then-still-clause-given
@@ -62,7 +64,8 @@ loop-preserved g c = (
 
 last : (g : Over) (c : goal.After-loop g) → IsSettled c.args.self.now c.loop.self c.loop.given
 last g c =
-    settling_enough c.loop.counter c.args.self.now c.loop.self c.loop.given c.size-sites.ensures.world c.loop.invariant.0
+    settling_enough c.loop.counter c.args.self.now c.loop.self c.loop.given c.size-sites.ensures.world
+    c.loop.invariant.0
     (omega (arith, c.loop-test.false, c.loop.auto.counter-end, c.size-sites.ensures.size))
 
 pub returns-clause-given : goal.returns-clause-given

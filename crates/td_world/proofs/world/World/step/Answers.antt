@@ -44,9 +44,11 @@ kept g c =
     (subst (λ (w : WorldValue). c.args.site ≤ size w) (sym c.self.view_is) c.requires.within) c.args.input.now
     c.is_in_range.ensures
     (subst (λ (w : WorldValue). MayTake c.args.site c.args.input.now w) (sym c.self.view_is) c.requires.came)
-    c.in_ok-done.done c.in_ok-done.ensures.done c.step_of.new.replicas.items c.in_ok-done.ensures.ok c.post.new.posts.items
+    c.in_ok-done.done c.in_ok-done.ensures.done c.step_of.new.replicas.items c.in_ok-done.ensures.ok
+    c.post.new.posts.items
     (c.post.ensures
-    ∙ ap (λ (l : List Post). l ++ new_posts c.args.site (c.in_ok-done.done.after - c.in_ok-done.done.before) c.in_ok-done.done.before)
+    ∙ ap (λ (l : List Post). l ++ new_posts c.args.site (c.in_ok-done.done.after - c.in_ok-done.done.before)
+    c.in_ok-done.done.before)
     c.in_ok-reserve.ensures.items)
     c.place.result c.place.ensures.place c.look_again.new.passed.items c.look_again.ensures
 
@@ -55,7 +57,8 @@ invariant_of-self-2 g c = (kept g c).parts
 
 pub returns-clause-ok : goal.returns-clause-ok
 returns-clause-ok g c =
-    (kept g c).value ∙ ap (λ (w : WorldValue). moved (record { site = c.args.site; input = c.args.input.now }) w) c.self.view_is
+    (kept g c).value ∙ ap (λ (w : WorldValue). moved (record { site = c.args.site; input = c.args.input.now }) w)
+    c.self.view_is
 
 pub returns-clause-world : goal.returns-clause-world
 returns-clause-world g c = (kept g c).parts.world

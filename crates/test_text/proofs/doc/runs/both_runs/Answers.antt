@@ -11,7 +11,8 @@ pub put_run-requires-2 : goal.put_run-requires-2
 put_run-requires-2 g c =
     let first = c.in_ok-first.first in
     let second = c.in_ok-second.second in
-    c.put_run.ensures second (later first second 1 2 c.in_ok-first.ensures c.in_ok-second.ensures (omega arith)) (subst (λ (rows : List DocRow). IsFresh rows second) (sym c.requires) tt)
+    c.put_run.ensures second (later first second 1 2 c.in_ok-first.ensures c.in_ok-second.ensures (omega arith))
+    (subst (λ (rows : List DocRow). IsFresh rows second) (sym c.requires) tt)
 
 pub put_run-requires-3 : goal.put_run-requires-3
 put_run-requires-3 g c =
@@ -19,4 +20,5 @@ put_run-requires-3 g c =
     let second = c.in_ok-second.second in
     let third = c.in_ok-third.third in
     c.put_run-2.ensures third (later second third 2 3 c.in_ok-second.ensures c.in_ok-third.ensures (omega arith))
-    (c.put_run.ensures third (later first third 1 3 c.in_ok-first.ensures c.in_ok-third.ensures (omega arith)) (subst (λ (rows : List DocRow). IsFresh rows third) (sym c.requires) tt))
+    (c.put_run.ensures third (later first third 1 3 c.in_ok-first.ensures c.in_ok-third.ensures (omega arith))
+    (subst (λ (rows : List DocRow). IsFresh rows third) (sym c.requires) tt))

@@ -11,18 +11,23 @@ other d e n is more same = absurd (later d.seq e.seq n is more (ap (λ (x : DotV
 
 pub apply_to_both-requires-clause-rows : goal.apply_to_both-requires-clause-rows
 apply_to_both-requires-clause-rows g c =
-    let same : c.in_ok-edit.edit.dot.seq ≡ c.loop-seq.seq = ap (λ (d : DotValue). d.seq) (c.in_ok-edit.ensures ∙ c.in_ok-dot.ensures) ∙ c.from.ensures in
+    let same : c.in_ok-edit.edit.dot.seq ≡ c.loop-seq.seq =
+    ap (λ (d : DotValue). d.seq) (c.in_ok-edit.ensures ∙ c.in_ok-dot.ensures) ∙ c.from.ensures in
     c.loop-seq.invariant.rows c.in_ok-edit.edit.dot (omega arith)
 
 pub apply_to_both-requires-clause-tree : goal.apply_to_both-requires-clause-tree
 apply_to_both-requires-clause-tree g c =
-    let same : c.in_ok-edit.edit.dot.seq ≡ c.loop-seq.seq = ap (λ (d : DotValue). d.seq) (c.in_ok-edit.ensures ∙ c.in_ok-dot.ensures) ∙ c.from.ensures in
+    let same : c.in_ok-edit.edit.dot.seq ≡ c.loop-seq.seq =
+    ap (λ (d : DotValue). d.seq) (c.in_ok-edit.ensures ∙ c.in_ok-dot.ensures) ∙ c.from.ensures in
     c.loop-seq.invariant.tree c.in_ok-edit.edit.dot (omega arith)
 
 pub loop-seq-preserved : goal.loop-seq-preserved
 loop-seq-preserved g c =
-    let same : c.in_ok-edit.edit.dot.seq ≡ c.loop-seq.seq = ap (λ (d : DotValue). d.seq) (c.in_ok-edit.ensures ∙ c.in_ok-dot.ensures) ∙ c.from.ensures in
+    let same : c.in_ok-edit.edit.dot.seq ≡ c.loop-seq.seq =
+    ap (λ (d : DotValue). d.seq) (c.in_ok-edit.ensures ∙ c.in_ok-dot.ensures) ∙ c.from.ensures in
     record {
-      rows = λ d l. c.apply_to_both.ensures.rows d (other d c.in_ok-edit.edit.dot c.loop-seq.seq same l) (c.loop-seq.invariant.rows d (omega arith));
-      tree = λ d l. c.apply_to_both.ensures.tree d (other d c.in_ok-edit.edit.dot c.loop-seq.seq same l) (c.loop-seq.invariant.tree d (omega arith));
+      rows = λ d l. c.apply_to_both.ensures.rows d (other d c.in_ok-edit.edit.dot c.loop-seq.seq same l)
+          (c.loop-seq.invariant.rows d (omega arith));
+      tree = λ d l. c.apply_to_both.ensures.tree d (other d c.in_ok-edit.edit.dot c.loop-seq.seq same l)
+          (c.loop-seq.invariant.tree d (omega arith));
     }

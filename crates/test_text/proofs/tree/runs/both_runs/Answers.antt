@@ -8,4 +8,5 @@ pub put_run-requires-2 : goal.put_run-requires-2
 put_run-requires-2 g c =
     let first = c.in_ok-first.first in
     let second = c.in_ok-second.second in
-    c.put_run.ensures second (later first second 1 2 c.in_ok-first.ensures c.in_ok-second.ensures (omega arith)) (subst (λ (rows : List DocRow). IsFresh rows second) (sym c.in_ok-doc.ensures) tt)
+    c.put_run.ensures second (later first second 1 2 c.in_ok-first.ensures c.in_ok-second.ensures (omega arith))
+    (subst (λ (rows : List DocRow). IsFresh rows second) (sym c.in_ok-doc.ensures) tt)

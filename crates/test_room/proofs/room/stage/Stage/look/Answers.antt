@@ -3,5 +3,6 @@ use Rattle.test_room.proofs.room.stage.Stage.look.Goals as goal
 
 pub invariant_of-self : goal.invariant_of-self
 invariant_of-self g c =
-    editor_on c.self.inside.workers.items c.self.inside.editors.items c.args.place c.index_mut-editor.result.now c.look.new.self
+    editor_on c.self.inside.workers.items c.self.inside.editors.items c.args.place c.index_mut-editor.result.now
+    c.look.new.self
     c.index_mut-editor.ensures.value c.look.ensures.later c.self.invariant

@@ -9,5 +9,6 @@ invariant_of-self g c =
     let ws : List WorkerValue = c.self.inside.workers.items in
     let n : c.self.inside.workers.len ≡ length ws = search rules in
     written_on c.self.inside.workers.len ws c.run_both.new.workers c.self.inside.editors.items n
-    (subst (λ (l : List WorkerValue). AllZip LaterWorker l c.run_both.new.workers) c.deref_mut.ensures.value c.run_both.ensures)
+    (subst (λ (l : List WorkerValue). AllZip LaterWorker l c.run_both.new.workers) c.deref_mut.ensures.value
+    c.run_both.ensures)
     c.self.invariant
