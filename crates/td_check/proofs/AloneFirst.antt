@@ -9,7 +9,7 @@ use Rattle.td_trace.specs.Entries.{is_request_at, tells_request}
 use Rattle.td_trace.specs.declared.entry.TraceEntry.{TraceEntry}
 use Rattle.td_reader.specs.LineNumbers.{line_of_entry}
 use Rattle.td_reader.specs.Values.{TraceValue}
-use Rattle.td_replay.specs.Traced.{site_entries}
+use Rattle.td_law_replay.specs.Traced.{site_entries}
 use Rattle.td_check.specs.Alone.{IsFirstAloneAt, IsRowOf}
 use Rattle.td_check.specs.Findings.{IsAlone, IsFirstAlone, NoneAlone}
 use Rattle.td_check.specs.Stops.{IsBefore}

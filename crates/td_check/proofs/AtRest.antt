@@ -11,7 +11,7 @@ use Rattle.td_base.proofs.Elements.{In-slice_get}
 use Rattle.td_base.proofs.Searches.{each_passes, all_pass}
 use Rattle.td_base.proofs.Places.{place_of}
 use Rattle.td_machine.specs.Machine.{Machine, undecided}
-use Rattle.td_replay.specs.Judging.{States}
+use Rattle.td_law_replay.specs.Judging.{States}
 use Rattle.td_check.specs.AtRest.{is_at_rest}
 use Rattle.td_check.specs.Findings.{IsSettled}
 use Rattle.td_check.specs.Seated.{AreSeated}

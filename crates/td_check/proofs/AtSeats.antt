@@ -5,7 +5,7 @@ use Rattle.std.specs.Prelude.{IfOk}
 use Rattle.std.proofs.lemmas.List.{get_or_default, get_or-set_same}
 use Rattle.td_op.specs.declared.reply.Reply.{Reply}
 use Rattle.td_machine.specs.Machine.{Machine, start}
-use Rattle.td_replay.specs.Judging.{Judgement}
+use Rattle.td_law_replay.specs.Judging.{Judgement}
 use Rattle.td_check.specs.Sites.{ReplayValue, histories_of, IsJudged, IsJudgedIn, IsJudgedAt}
 use Rattle.td_check.specs.declared.judged.Judged.{Judged}
 

@@ -3,9 +3,9 @@ use Rattle.std.proofs.Common.{◌≡◌, ◌≢◌, ◌<◌, ◌≤◌, ◌+◌,
 use Rattle.std.proofs.Common.{nat_le, if◌then◌else◌, length, refl, sym, ap, ◌∙◌, subst, arith}
 use Rattle.std.proofs.lemmas.Bool.{eqb-true, eqb-false, le-leb, leb-true, leb-false, lt-leb}
 use Rattle.td_reader.specs.Values.{IsTraceValue}
-use Rattle.td_replay.specs.Judging.{States, begin}
-use Rattle.td_replay.specs.Replay.{Reaches, Begun}
-use Rattle.td_replay.specs.Traced.{site_entries}
+use Rattle.td_law_replay.specs.Judging.{States, begin}
+use Rattle.td_law_replay.specs.Replay.{Reaches, Begun}
+use Rattle.td_law_replay.specs.Traced.{site_entries}
 use Rattle.td_check.specs.Course.{AreSeen, AreFirstSeen, HasLooked, seen_first}
 use Rattle.td_check.specs.Looks.{AreLooks, one_more}
 use Rattle.td_check.specs.Sites.{ReplayValue, histories_of, done_of, states_of, IsReplaying}

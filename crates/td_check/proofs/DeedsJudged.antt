@@ -18,8 +18,8 @@ use Rattle.td_reader.specs.Said.{did_of}
 use Rattle.td_reader.specs.Values.{FitsLog, IsTraceValue, TraceValue}
 use Rattle.td_reader.specs.declared.editors.ReadDid.{ReadDid}
 use Rattle.td_reader.specs.declared.editors.ReadDid.TheVariants as deed
-use Rattle.td_replay.specs.Accepted.{IsLogIn}
-use Rattle.td_replay.specs.Traced.{site_entries}
+use Rattle.td_law_replay.specs.Accepted.{IsLogIn}
+use Rattle.td_law_replay.specs.Traced.{site_entries}
 use Rattle.td_check.proofs.LooksTold.{did_of_log}
 use Rattle.td_check.specs.Findings.{IsFirstDeed, fault_of, so_far}
 use Rattle.td_check.specs.Looks.{AreLooks, IsLookAt, all_seen, did_at, is_found}

@@ -10,14 +10,14 @@ use Rattle.td_trace.specs.declared.log.Did.{Did}
 use Rattle.td_trace.specs.declared.log.EditorLog.{EditorLog}
 use Rattle.td_trace.specs.Editors.{Sofar, nothing_yet, further, IsDid, AreDid, site_calls_at}
 use Rattle.td_reader.specs.Values.{TraceValue, IsTraceValue}
-use Rattle.td_replay.specs.Accepted.{IsLiveTrace, IsLogIn, IsAcceptedAt}
-use Rattle.td_replay.specs.Ended.{IsConsistentTrace}
-use Rattle.td_replay.specs.Judging.{States}
-use Rattle.td_replay.specs.Rounds.{Course, Starts, Does, Passes, Repeats}
-use Rattle.td_replay.specs.Traced.{site_entries}
-use Rattle.td_replay.proofs.Accepting.{accepted_is_live, live_is_accepted}
-use Rattle.td_replay.proofs.Rounding.{reaches_of}
-use Rattle.td_replay.proofs.Stopped.{lost_untraced, wrong_untraced, stuck_untraced, unsent_untraced}
+use Rattle.td_law_replay.specs.Accepted.{IsLiveTrace, IsLogIn, IsAcceptedAt}
+use Rattle.td_law_replay.specs.Ended.{IsConsistentTrace}
+use Rattle.td_law_replay.specs.Judging.{States}
+use Rattle.td_law_replay.specs.Rounds.{Course, Starts, Does, Passes, Repeats}
+use Rattle.td_law_replay.specs.Traced.{site_entries}
+use Rattle.td_law_replay.proofs.Accepting.{accepted_is_live, live_is_accepted}
+use Rattle.td_law_replay.proofs.Rounding.{reaches_of}
+use Rattle.td_law_replay.proofs.Stopped.{lost_untraced, wrong_untraced, stuck_untraced, unsent_untraced}
 use Rattle.td_check.specs.declared.verdict.Fault.{Fault}
 use Rattle.td_check.specs.declared.verdict.Verdict.{Verdict}
 use Rattle.td_check.specs.declared.verdict.Verdict.TheVariants.{Yes, No}

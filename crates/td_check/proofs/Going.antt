@@ -6,13 +6,13 @@ use Rattle.std.proofs.lemmas.Bool.{eqb-true, eqb-false, ltb-true, ltb-false}
 use Rattle.std.proofs.lemmas.List.{length-drop, drop_all}
 use Rattle.td_doc.specs.Document.{text_of}
 use Rattle.td_reader.specs.Values.{TraceValue, IsTraceValue, FitsLog}
-use Rattle.td_replay.specs.Accepted.{AreTextsOnTheWay}
+use Rattle.td_law_replay.specs.Accepted.{AreTextsOnTheWay}
 use Rattle.td_trace.specs.declared.entry.TraceEntry.{TraceEntry}
 use Rattle.td_reader.specs.LineNumbers.{line_of_entry}
-use Rattle.td_replay.specs.Judging.{SiteState, States}
-use Rattle.td_replay.specs.Replay.{Reaches, Then, GoesOnTo, Further}
-use Rattle.td_replay.specs.Rounds.{Course, Does, GoesAt, Rests, IsLostAt, IsWrongAt}
-use Rattle.td_replay.specs.Traced.{site_entries}
+use Rattle.td_law_replay.specs.Judging.{SiteState, States}
+use Rattle.td_law_replay.specs.Replay.{Reaches, Then, GoesOnTo, Further}
+use Rattle.td_law_replay.specs.Rounds.{Course, Does, GoesAt, Rests, IsLostAt, IsWrongAt}
+use Rattle.td_law_replay.specs.Traced.{site_entries}
 use Rattle.td_check.specs.Course.{AreSeen, HasGone, HasLooked, IsGoing, IsStuckAt, all_left}
 use Rattle.td_check.specs.Looks.{AreLooks, IsLookAt, one_more}
 use Rattle.td_check.specs.Sites.{ReplayValue, histories_of, machine_of, done_of, states_of, IsReplaying, HasDone}

@@ -12,10 +12,10 @@ use Rattle.td_machine.specs.Machine.{Machine}
 use Rattle.td_machine.specs.Step.{step}
 use Rattle.td_trace.specs.declared.entry.TraceEntry.{TraceEntry}
 use Rattle.td_trace.specs.declared.told_input.ToldInput.TheVariants.{TookOp, TookVote, Went}
-use Rattle.td_replay.specs.Counting.{made_deps}
-use Rattle.td_replay.specs.Judging.{States, Lost, Steps, judge, judge_next, judge_offer, judge_taken}
-use Rattle.td_replay.specs.Judging.{made_op}
-use Rattle.td_replay.specs.Replies.{is_new, taken_of}
+use Rattle.td_law_replay.specs.Counting.{made_deps}
+use Rattle.td_law_replay.specs.Judging.{States, Lost, Steps, judge, judge_next, judge_offer, judge_taken}
+use Rattle.td_law_replay.specs.Judging.{made_op}
+use Rattle.td_law_replay.specs.Replies.{is_new, taken_of}
 
 pub some_so : {X : Type 0} (P Q : X → Type 0) (found : Option X) → ((x : X) → P x → Q x) → IfSome found P
     → IfSome found Q

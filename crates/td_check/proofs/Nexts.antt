@@ -6,10 +6,10 @@ use Rattle.std.proofs.lemmas.Option.{slice_get_within}
 use Rattle.td_base.proofs.Places.{drop_there}
 use Rattle.td_machine.specs.Machine.{Machine, start}
 use Rattle.td_trace.specs.declared.entry.TraceEntry.{TraceEntry}
-use Rattle.td_replay.specs.Judging.{SiteState, Judgement, Steps, judge}
-use Rattle.td_replay.specs.Replay.{put}
-use Rattle.td_replay.specs.Rounds.{Rests, Done, Waiting}
-use Rattle.td_replay.specs.Traced.{site_entries}
+use Rattle.td_law_replay.specs.Judging.{SiteState, Judgement, Steps, judge}
+use Rattle.td_law_replay.specs.Replay.{put}
+use Rattle.td_law_replay.specs.Rounds.{Rests, Done, Waiting}
+use Rattle.td_law_replay.specs.Traced.{site_entries}
 use Rattle.td_check.specs.Sites.{ReplayValue, histories_of, machine_of, done_of, states_of, IsJudgedAt, HasDone}
 use Rattle.td_check.specs.Sites.{HasStopped, IsNext}
 use Rattle.td_check.specs.States.{state_in}

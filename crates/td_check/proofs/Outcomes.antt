@@ -7,9 +7,9 @@ use Rattle.td_op.specs.Op.{OpValue}
 use Rattle.td_machine.specs.Machine.{Machine}
 use Rattle.td_machine.specs.Step.{step}
 use Rattle.td_machine.specs.Taking.{Stepped}
-use Rattle.td_replay.specs.Judging.{Steps}
-use Rattle.td_replay.specs.Replies.{is_new}
-use Rattle.td_replay.proofs.Judging.{waits_steps}
+use Rattle.td_law_replay.specs.Judging.{Steps}
+use Rattle.td_law_replay.specs.Replies.{is_new}
+use Rattle.td_law_replay.proofs.Judging.{waits_steps}
 use Rattle.td_check.specs.Sites.{IsJudged}
 use Rattle.td_check.specs.declared.judged.Judged.{Judged}
 use Rattle.td_check.specs.declared.judged.Judged.TheVariants as judged

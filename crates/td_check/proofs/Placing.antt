@@ -11,9 +11,9 @@ use Rattle.td_base.specs.Value.{DotValue}
 use Rattle.td_op.specs.Op.{OpValue}
 use Rattle.td_machine.specs.Machine.{Machine, start}
 use Rattle.td_machine.specs.Ready.{is_dot_of}
-use Rattle.td_replay.specs.Counting.{made_deps}
-use Rattle.td_replay.specs.Judging.{SiteState, begin, made_op}
-use Rattle.td_replay.specs.Traced.{site_entries, AreInRange}
+use Rattle.td_law_replay.specs.Counting.{made_deps}
+use Rattle.td_law_replay.specs.Judging.{SiteState, begin, made_op}
+use Rattle.td_law_replay.specs.Traced.{site_entries, AreInRange}
 use Rattle.td_seat.specs.declared.made.Made.{Made}
 use Rattle.td_check.specs.ReplayParts.{IsReplayParts, IsOutlineAt}
 use Rattle.td_check.specs.Seated.{AreSeated}

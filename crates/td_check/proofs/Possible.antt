@@ -4,7 +4,7 @@ use Rattle.std.proofs.Common.{⊎_elim, arith}
 use Rattle.td_reader.specs.Form.{IsTraceOf}
 use Rattle.td_reader.specs.Values.{TraceValue}
 use Rattle.td_reader.proofs.Collecting.{no_fault, one_value}
-use Rattle.td_replay.specs.Accepted.{IsLiveTrace}
+use Rattle.td_law_replay.specs.Accepted.{IsLiveTrace}
 use Rattle.td_check.specs.declared.verdict.Verdict.{Verdict}
 use Rattle.td_check.specs.declared.verdict.Verdict.TheVariants.{Yes}
 use Rattle.td_check.specs.Verdict.{IsFound, IsVerdict, TooLong, NoTrace, OfNoSite, OfTrace, IsPossible}

@@ -7,7 +7,7 @@ use Rattle.td_trace.specs.declared.entry.TraceEntry.{TraceEntry}
 use Rattle.td_trace.specs.declared.told_input.ToldInput.{ToldInput}
 use Rattle.td_trace.specs.declared.told_input.ToldInput.TheVariants.{Asked, TookOp, TookVote, Went}
 use Rattle.td_reader.specs.Values.{TraceValue, IsTraceValue, FitsHistory, FitsEntry, FitsTold}
-use Rattle.td_replay.specs.Traced.{IsTold, AreInRange}
+use Rattle.td_law_replay.specs.Traced.{IsTold, AreInRange}
 
 told_fits : (told : ToldInput) → FitsTold told → IsTold told
 told_fits (Asked request) fits = fits.0

@@ -6,11 +6,11 @@ use Rattle.std.specs.Prelude.{MatchOption}
 use Rattle.td_reader.specs.Values.{TraceValue, IsTraceValue}
 use Rattle.std.proofs.lemmas.List.{length-drop}
 use Rattle.td_trace.specs.declared.entry.TraceEntry.{TraceEntry}
-use Rattle.td_replay.specs.Judging.{SiteState, States, begin}
-use Rattle.td_replay.specs.Traced.{site_entries}
-use Rattle.td_replay.specs.Replay.{AllDone, Stays}
-use Rattle.td_replay.specs.Rounds.{Course, Starts, Passes, Repeats, Rests}
-use Rattle.td_replay.proofs.Rounding.{reaches_of}
+use Rattle.td_law_replay.specs.Judging.{SiteState, States, begin}
+use Rattle.td_law_replay.specs.Traced.{site_entries}
+use Rattle.td_law_replay.specs.Replay.{AllDone, Stays}
+use Rattle.td_law_replay.specs.Rounds.{Course, Starts, Passes, Repeats, Rests}
+use Rattle.td_law_replay.proofs.Rounding.{reaches_of}
 use Rattle.td_check.specs.Looks.{all_seen}
 use Rattle.td_check.specs.Course.{AreSeen, AreAllSeen, HasMoved, HasGone, IsInRound, HasRounded, HasRun}
 use Rattle.td_check.specs.Course.{IsStuckAt, all_left}

@@ -8,12 +8,12 @@ use Rattle.td_base.proofs.Places.{take_there}
 use Rattle.td_machine.specs.Machine.{Machine, start}
 use Rattle.td_trace.specs.declared.entry.TraceEntry.{TraceEntry}
 use Rattle.td_reader.specs.Values.{TraceValue, IsTraceValue}
-use Rattle.td_replay.specs.Traced.{site_entries}
+use Rattle.td_law_replay.specs.Traced.{site_entries}
 use Rattle.td_seat.specs.Counted.{AreCounted}
 use Rattle.td_seat.specs.Made.{AreMade}
 use Rattle.td_seat.specs.declared.counted.Counted.{Counted}
 use Rattle.td_seat.specs.declared.made.Made.{Made}
-use Rattle.td_replay.specs.Judging.{begin}
+use Rattle.td_law_replay.specs.Judging.{begin}
 use Rattle.td_check.specs.ReplayParts.{AreStarted}
 use Rattle.td_check.specs.States.{states_in}
 use Rattle.td_check.proofs.States.{states_begin}

@@ -6,9 +6,9 @@ use Rattle.std.proofs.lemmas.Bool.{and_from, eqb-true, eqb-false, leb-true, le-l
 use Rattle.std.proofs.lemmas.List.{get_or-set_same, get_or-set_other}
 use Rattle.td_machine.specs.Machine.{Machine, start}
 use Rattle.td_trace.specs.declared.entry.TraceEntry.{TraceEntry}
-use Rattle.td_replay.specs.Judging.{SiteState, begin}
-use Rattle.td_replay.specs.Replay.{put}
-use Rattle.td_replay.specs.Traced.{site_entries}
+use Rattle.td_law_replay.specs.Judging.{SiteState, begin}
+use Rattle.td_law_replay.specs.Replay.{put}
+use Rattle.td_law_replay.specs.Traced.{site_entries}
 use Rattle.td_check.specs.States.{machine_in, done_in, state_in, states_in, left_in}
 
 is_site : (n site : ℕ) → 0 < site → site ≤ n → (nat_lt 0 site && nat_le site n) ≡ true

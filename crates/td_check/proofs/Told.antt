@@ -14,15 +14,16 @@ use Rattle.td_machine.specs.Machine.{Machine}
 use Rattle.td_machine.specs.Ready.{next_ready, is_ready}
 use Rattle.td_machine.proofs.StepKinds.{least_in}
 use Rattle.td_trace.specs.declared.entry.TraceEntry.{TraceEntry}
-use Rattle.td_replay.specs.Counting.{Count, no_count, count_entry, deps_from, made_deps, raised, with_use, used, makes}
-use Rattle.td_replay.specs.Judging.{States, outline, made_op}
-use Rattle.td_replay.specs.Replay.{Reaches}
-use Rattle.td_replay.specs.Traced.{site_entries, AreInRange}
-use Rattle.td_replay.proofs.Bare.{bare}
-use Rattle.td_replay.proofs.Counts.{deps_made}
-use Rattle.td_replay.proofs.Judging.{made_deps_within}
-use Rattle.td_replay.proofs.Seen.{Seen, sized_of, found_dot}
-use Rattle.td_replay.proofs.Sound.{seen_all}
+use Rattle.td_law_replay.specs.Counting.{Count, no_count, count_entry, deps_from, made_deps}
+use Rattle.td_law_replay.specs.Counting.{raised, with_use, used, makes}
+use Rattle.td_law_replay.specs.Judging.{States, outline, made_op}
+use Rattle.td_law_replay.specs.Replay.{Reaches}
+use Rattle.td_law_replay.specs.Traced.{site_entries, AreInRange}
+use Rattle.td_law_replay.proofs.Bare.{bare}
+use Rattle.td_law_replay.proofs.Counts.{deps_made}
+use Rattle.td_law_replay.proofs.Judging.{made_deps_within}
+use Rattle.td_law_replay.proofs.Seen.{Seen, sized_of, found_dot}
+use Rattle.td_law_replay.proofs.Sound.{seen_all}
 
 -- ---- what entries tell of an operation is of all sites, and has the number of those before it at its own
 

@@ -17,9 +17,9 @@ use Rattle.td_machine.specs.Machine.{Machine}
 use Rattle.td_trace.specs.declared.entry.TraceEntry.{TraceEntry}
 use Rattle.td_trace.specs.declared.told_input.ToldInput.{ToldInput}
 use Rattle.td_trace.specs.declared.told_input.ToldInput.TheVariants.{Asked, TookOp, TookVote, Went}
-use Rattle.td_replay.specs.Ended.{VotesWereSent}
-use Rattle.td_replay.specs.Judging.{States}
-use Rattle.td_replay.specs.Traced.{site_entries}
+use Rattle.td_law_replay.specs.Ended.{VotesWereSent}
+use Rattle.td_law_replay.specs.Judging.{States}
+use Rattle.td_law_replay.specs.Traced.{site_entries}
 use Rattle.td_check.specs.declared.sent.SentVote.{SentVote}
 use Rattle.td_check.specs.Seated.{AreSeated}
 use Rattle.td_check.specs.SentVotes.{sent_cmp, sent_vote, sends, was_sent}

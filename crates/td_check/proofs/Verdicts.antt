@@ -2,10 +2,10 @@
 use Rattle.std.proofs.Common.{◌≡◌, ◌<◌, ℕ, List, Some, sym, subst}
 use Rattle.td_machine.specs.Machine.{Machine}
 use Rattle.td_reader.specs.Values.{TraceValue, IsTraceValue}
-use Rattle.td_replay.specs.Ended.{VotesWereSent}
-use Rattle.td_replay.specs.Judging.{States}
-use Rattle.td_replay.proofs.Accepting.{texts_there}
-use Rattle.td_replay.proofs.Rounding.{reaches_of}
+use Rattle.td_law_replay.specs.Ended.{VotesWereSent}
+use Rattle.td_law_replay.specs.Judging.{States}
+use Rattle.td_law_replay.proofs.Accepting.{texts_there}
+use Rattle.td_law_replay.proofs.Rounding.{reaches_of}
 use Rattle.td_check.specs.Course.{HasRun, AreAllSeen}
 use Rattle.td_check.specs.Findings.{IsReplayed}
 use Rattle.td_check.specs.FirstUnsent.{IsFirstUnsent}

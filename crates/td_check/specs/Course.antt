@@ -3,10 +3,10 @@ use Rattle.std.specs.Prelude.{◌≡◌, ◌⊎◌, ◌<◌, ◌≤◌, ◌+◌,
 use Rattle.std.specs.Prelude.{Some, None}
 use Rattle.td_doc.specs.Document.{text_of}
 use Rattle.td_reader.specs.Values.{TraceValue}
-use Rattle.td_replay.specs.Accepted.{AreTextsOnTheWay}
-use Rattle.td_replay.specs.Judging.{States}
-use Rattle.td_replay.specs.Replay.{GoesOnTo}
-use Rattle.td_replay.specs.Rounds.{Course, Rests}
+use Rattle.td_law_replay.specs.Accepted.{AreTextsOnTheWay}
+use Rattle.td_law_replay.specs.Judging.{States}
+use Rattle.td_law_replay.specs.Replay.{GoesOnTo}
+use Rattle.td_law_replay.specs.Rounds.{Course, Rests}
 use Rattle.td_check.specs.declared.stop.Stop.{Stop}
 use Rattle.td_check.specs.declared.stop.Went.{Went}
 use Rattle.td_check.specs.declared.stop.Went.TheVariants as went

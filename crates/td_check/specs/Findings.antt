@@ -11,10 +11,10 @@ use Rattle.td_trace.specs.Editors.{Sofar, nothing_yet, further, IsDid, AreDid, s
 use Rattle.td_trace.specs.Entries.{is_request_at}
 use Rattle.td_reader.specs.LineNumbers.{line_of_entry, line_of_did, line_of_text}
 use Rattle.td_reader.specs.Values.{TraceValue}
-use Rattle.td_replay.specs.Accepted.{AreTextsOnTheWay, IsLogIn}
-use Rattle.td_replay.specs.Ended.{VotesWereSent}
-use Rattle.td_replay.specs.Judging.{States}
-use Rattle.td_replay.specs.Traced.{site_entries}
+use Rattle.td_law_replay.specs.Accepted.{AreTextsOnTheWay, IsLogIn}
+use Rattle.td_law_replay.specs.Ended.{VotesWereSent}
+use Rattle.td_law_replay.specs.Judging.{States}
+use Rattle.td_law_replay.specs.Traced.{site_entries}
 use Rattle.td_check.specs.declared.verdict.Fault.{Fault}
 use Rattle.td_check.specs.declared.verdict.Fault.TheVariants.{Call, Look}
 use Rattle.td_check.specs.Stops.{IsOver, IsBefore}

@@ -2,7 +2,7 @@
 use Rattle.std.specs.Prelude.{◌≡◌, ℕ}
 use Rattle.td_reader.specs.LineNumbers.{line_of_entry}
 use Rattle.td_reader.specs.Values.{TraceValue}
-use Rattle.td_replay.specs.Judging.{States}
+use Rattle.td_law_replay.specs.Judging.{States}
 use Rattle.td_check.specs.Stops.{IsBefore, IsUnsentAt}
 
 -- it stands at this line

@@ -2,8 +2,8 @@
 use Rattle.std.specs.Prelude.{◌+◌, ◌-◌, ℕ, length}
 use Rattle.td_reader.specs.LineNumbers.{line_of_entry}
 use Rattle.td_reader.specs.Values.{TraceValue}
-use Rattle.td_replay.specs.Traced.{site_entries}
-use Rattle.td_replay.specs.Judging.{States}
+use Rattle.td_law_replay.specs.Traced.{site_entries}
+use Rattle.td_law_replay.specs.Judging.{States}
 
 -- how many of its entries the site has done
 abbrev pub done_at : TraceValue → States → ℕ → ℕ

@@ -12,7 +12,7 @@ use Rattle.td_trace.specs.declared.log.Did.{Did}
 use Rattle.td_trace.specs.declared.log.Did.TheVariants.{Look}
 use Rattle.td_trace.specs.declared.log.EditorLog.{EditorLog}
 use Rattle.td_reader.specs.Values.{TraceValue}
-use Rattle.td_replay.specs.Traced.{site_entries}
+use Rattle.td_law_replay.specs.Traced.{site_entries}
 use Rattle.td_check.specs.declared.looks.Looks.{Looks}
 use Rattle.td_check.specs.declared.looks.Place.{Place}
 use Rattle.td_check.specs.declared.looks.Spot.{Spot}

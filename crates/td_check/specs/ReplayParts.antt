@@ -4,7 +4,7 @@ use Rattle.td_op.specs.Op.{OpValue}
 use Rattle.td_machine.specs.Machine.{Machine, start}
 use Rattle.td_machine.specs.Ready.{next_ready}
 use Rattle.td_reader.specs.Values.{IsTraceValue}
-use Rattle.td_replay.specs.Traced.{site_entries}
+use Rattle.td_law_replay.specs.Traced.{site_entries}
 use Rattle.td_seat.specs.Made.{IsMade}
 use Rattle.td_seat.specs.declared.made.Made.{Made}
 use Rattle.td_check.specs.Sites.{ReplayValue, histories_of, done_of}

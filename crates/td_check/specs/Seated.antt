@@ -1,7 +1,7 @@
 -- The seats at the end of the replay, by their machines.
 use Rattle.std.specs.Prelude.{◌≡◌, ◌<◌, ◌≤◌, ◌-◌, ℕ, List, length, Some, slice_get}
 use Rattle.td_machine.specs.Machine.{Machine}
-use Rattle.td_replay.specs.Judging.{States}
+use Rattle.td_law_replay.specs.Judging.{States}
 
 -- these are the machines of so many sites in these states, that of site s at place s - 1
 pub record AreSeated (n : ℕ) (states : States) (machines : List Machine) : Type 0 where

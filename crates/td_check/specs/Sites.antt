@@ -5,10 +5,10 @@ use Rattle.td_machine.specs.Taking.{Stepped}
 use Rattle.td_op.specs.declared.reply.Reply.{Reply}
 use Rattle.td_trace.specs.declared.entry.TraceEntry.{TraceEntry}
 use Rattle.td_reader.specs.Values.{TraceValue}
-use Rattle.td_replay.specs.Judging.{States, Judgement, Lost, Waits, Steps}
-use Rattle.td_replay.specs.Replay.{Reaches}
-use Rattle.td_replay.specs.Replies.{NotUnfit}
-use Rattle.td_replay.specs.Rounds.{GoesAt, Rests, IsLostAt, IsWrongAt}
+use Rattle.td_law_replay.specs.Judging.{States, Judgement, Lost, Waits, Steps}
+use Rattle.td_law_replay.specs.Replay.{Reaches}
+use Rattle.td_law_replay.specs.Replies.{NotUnfit}
+use Rattle.td_law_replay.specs.Rounds.{GoesAt, Rests, IsLostAt, IsWrongAt}
 use Rattle.td_check.specs.States.{machine_in, done_in, states_in, left_in}
 use Rattle.td_check.specs.declared.judged.Judged.{Judged}
 use Rattle.td_check.specs.declared.judged.Judged.TheVariants as judged

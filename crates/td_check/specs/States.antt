@@ -2,8 +2,8 @@
 use Rattle.std.specs.Prelude.{◌+◌, ◌-◌, ◌&&◌, ℕ, List, [], ◌∷◌, nat_lt, nat_le, length, drop, get_or, if◌then◌else◌}
 use Rattle.td_machine.specs.Machine.{Machine, start}
 use Rattle.td_trace.specs.declared.entry.TraceEntry.{TraceEntry}
-use Rattle.td_replay.specs.Judging.{SiteState, States, begin}
-use Rattle.td_replay.specs.Traced.{site_entries}
+use Rattle.td_law_replay.specs.Judging.{SiteState, States, begin}
+use Rattle.td_law_replay.specs.Traced.{site_entries}
 
 abbrev pub machine_in : List (List TraceEntry) → List Machine → ℕ → Machine
 machine_in all machines site = get_or machines (site - 1) (start site (length all))

@@ -7,10 +7,10 @@ use Rattle.td_trace.specs.declared.entry.TraceEntry.{TraceEntry}
 use Rattle.td_trace.specs.declared.told_input.ToldInput.TheVariants.{TookVote}
 use Rattle.td_reader.specs.LineNumbers.{line_of_entry}
 use Rattle.td_reader.specs.Values.{TraceValue}
-use Rattle.td_replay.specs.Traced.{site_entries}
-use Rattle.td_replay.specs.Judging.{States}
-use Rattle.td_replay.specs.Replay.{AllDone}
-use Rattle.td_replay.specs.Rounds.{Course, IsLostAt, IsWrongAt, IsStuck}
+use Rattle.td_law_replay.specs.Traced.{site_entries}
+use Rattle.td_law_replay.specs.Judging.{States}
+use Rattle.td_law_replay.specs.Replay.{AllDone}
+use Rattle.td_law_replay.specs.Rounds.{Course, IsLostAt, IsWrongAt, IsStuck}
 use Rattle.td_check.specs.declared.verdict.Fault.{Fault}
 use Rattle.td_check.specs.declared.verdict.Fault.TheVariants.{Reply, Missing}
 use Rattle.td_check.specs.Lines.{next_line}

@@ -4,8 +4,8 @@ use Rattle.td_reader.specs.Form.{IsTraceOf, IsFaultyForm, cut_lines}
 use Rattle.td_reader.specs.LineNumbers.{line_of_end}
 use Rattle.td_reader.specs.Values.{TraceValue}
 use Rattle.td_reader.specs.declared.trace.TheConstants.{MAX_TRACE}
-use Rattle.td_replay.specs.Accepted.{IsLiveTrace}
-use Rattle.td_replay.specs.Judging.{States}
+use Rattle.td_law_replay.specs.Accepted.{IsLiveTrace}
+use Rattle.td_law_replay.specs.Judging.{States}
 use Rattle.td_check.specs.declared.verdict.Fault.{Fault}
 use Rattle.td_check.specs.declared.verdict.Fault.TheVariants.{Size, Form, Alone, Text, Open}
 use Rattle.td_check.specs.declared.verdict.Verdict.{Verdict}

@@ -1,5 +1,5 @@
 ghost use Rattle.std.specs.Prelude.{◌≡◌, ◌↔◌, ◌<◌, ◌⊎◌, ℕ, List, IfOk};
-ghost use Rattle.td_replay.specs.Judging.{States};
+ghost use Rattle.td_law_replay.specs.Judging.{States};
 ghost use Rattle.td_check.specs.Findings.{IsReplayed};
 ghost use Rattle.td_check.specs.Looks.{AreLooks, all_seen};
 ghost use Rattle.td_check.specs.Seated.{AreSeated};

@@ -1,7 +1,7 @@
 // The course of the replay, in rounds over the sites.
 ghost use Rattle.std.specs.Prelude.{◌≡◌, ◌≤◌, false, IfOk};
-ghost use Rattle.td_replay.specs.Judging.{begin};
-ghost use Rattle.td_replay.specs.Rounds.{Course};
+ghost use Rattle.td_law_replay.specs.Judging.{begin};
+ghost use Rattle.td_law_replay.specs.Rounds.{Course};
 ghost use Rattle.td_check.specs.Course.{AreSeen, HasGone, HasRounded, HasRun};
 ghost use Rattle.td_check.specs.Sites.{IsReplaying, histories_of, states_of};
 

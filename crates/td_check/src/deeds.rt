@@ -7,8 +7,8 @@ ghost use Rattle.td_trace.specs.Entries.{is_request_at};
 ghost use Rattle.td_trace.specs.declared.log.Did.TheVariants.{Call as CallIs};
 ghost use Rattle.td_trace.specs.declared.log.EditorLog.{EditorLog};
 ghost use Rattle.td_reader.specs.Said.{did_of};
-ghost use Rattle.td_replay.specs.Accepted.{IsLogIn};
-ghost use Rattle.td_replay.specs.Traced.{site_entries};
+ghost use Rattle.td_law_replay.specs.Accepted.{IsLogIn};
+ghost use Rattle.td_law_replay.specs.Traced.{site_entries};
 ghost use Rattle.td_check.specs.Findings.{AreAllLogs, IsFirstDeed, fault_of};
 ghost use Rattle.td_check.specs.Looks.{AreLooks, all_seen, did_at};
 

@@ -1,7 +1,7 @@
 // The replay before its first entry.
 ghost use Rattle.std.specs.Prelude.{◌≤◌, IfOk};
 ghost use Rattle.td_base.specs.declared.site.TheConstants.{MAX_SITE};
-ghost use Rattle.td_replay.specs.Traced.{site_entries};
+ghost use Rattle.td_law_replay.specs.Traced.{site_entries};
 ghost use Rattle.td_seat.specs.Counted.{AreCounted};
 ghost use Rattle.td_seat.specs.Made.{IsMade};
 ghost use Rattle.td_check.specs.ReplayParts.{AreStarted};

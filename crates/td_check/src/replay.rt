@@ -1,10 +1,10 @@
 ghost use Rattle.std.specs.Prelude.{◌≡◌, ◌==◌, ◌||◌, not, ℕ, ◌<◌, ◌≤◌, ◌+◌, ◌-◌, ◌≢◌, length, slice_get, slice_set};
 ghost use Rattle.std.specs.Prelude.{Some, IfOk, IfSome, IsTrue, ◌↔◌};
 ghost use Rattle.td_op.specs.Op.{OpValue, IsOp};
-ghost use Rattle.td_replay.specs.Judging.{begin, judge, judge_offer, judge_taken, made_op, outline};
-ghost use Rattle.td_replay.specs.Replies.{is_new, taken_of};
-ghost use Rattle.td_replay.specs.Counting.{made_deps};
-ghost use Rattle.td_replay.specs.Traced.{site_entries};
+ghost use Rattle.td_law_replay.specs.Judging.{begin, judge, judge_offer, judge_taken, made_op, outline};
+ghost use Rattle.td_law_replay.specs.Replies.{is_new, taken_of};
+ghost use Rattle.td_law_replay.specs.Counting.{made_deps};
+ghost use Rattle.td_law_replay.specs.Traced.{site_entries};
 ghost use Rattle.td_trace.specs.declared.told_input.ToldInput.TheVariants.{Asked, TookOp, TookVote, Went as WentOn};
 ghost use Rattle.td_check.specs.Sites.{IsJudgedAt, IsNext, IsReplaying, done_of, histories_of};
 ghost use Rattle.td_check.specs.Sites.{machine_of, states_of};

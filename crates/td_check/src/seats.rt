@@ -8,8 +8,8 @@ ghost use Rattle.td_op.specs.declared.message.Message.TheVariants.{Vote as AVote
 ghost use Rattle.td_machine.specs.Machine.{Machine};
 ghost use Rattle.td_machine.specs.Ready.{is_dot_of};
 ghost use Rattle.td_machine.specs.Step.{step};
-ghost use Rattle.td_replay.specs.Judging.{Steps, judge_offer, judge_taken, outline};
-ghost use Rattle.td_replay.specs.Replies.{is_new, taken_of};
+ghost use Rattle.td_law_replay.specs.Judging.{Steps, judge_offer, judge_taken, outline};
+ghost use Rattle.td_law_replay.specs.Replies.{is_new, taken_of};
 ghost use Rattle.td_check.specs.ReplayParts.{IsOutlineAt};
 ghost use Rattle.td_check.specs.Sites.{IsJudged, IsJudgedIn};
 

@@ -2,7 +2,7 @@ ghost use Rattle.std.specs.Prelude.{◌≡◌, ◌↔◌, IsTrue, length, nat_eq
 ghost use Rattle.std.specs.Cmp.Lexicographic.{pointwise};
 ghost use Rattle.std.specs.List.{list_all};
 ghost use Rattle.td_reader.specs.Values.{TraceValue};
-ghost use Rattle.td_replay.specs.Judging.{States};
+ghost use Rattle.td_law_replay.specs.Judging.{States};
 ghost use Rattle.td_check.specs.AtRest.{is_at_rest};
 ghost use Rattle.td_check.specs.Findings.{IsSettled};
 ghost use Rattle.td_check.specs.Seated.{AreSeated};

@@ -1,7 +1,7 @@
 ghost use Rattle.std.specs.Prelude.{◌≡◌, ◌-◌, ◌↔◌, IfOk, IsTrue, MatchOption, Some, slice_get};
 ghost use Rattle.td_doc.specs.Document.{text_of};
 ghost use Rattle.td_machine.specs.Machine.{Machine};
-ghost use Rattle.td_replay.specs.Judging.{States};
+ghost use Rattle.td_law_replay.specs.Judging.{States};
 ghost use Rattle.td_check.specs.Findings.{AreAllTexts, IsFirstText};
 ghost use Rattle.td_check.specs.Seated.{AreSeated};
 

@@ -1,8 +1,8 @@
 ghost use Rattle.std.specs.Prelude.{◌≡◌, IfOk, MatchOption};
 ghost use Rattle.td_reader.specs.Values.{IsTraceValue};
-ghost use Rattle.td_replay.specs.Ended.{VotesWereSent};
-ghost use Rattle.td_replay.specs.Judging.{States};
-ghost use Rattle.td_replay.specs.Traced.{site_entries};
+ghost use Rattle.td_law_replay.specs.Ended.{VotesWereSent};
+ghost use Rattle.td_law_replay.specs.Judging.{States};
+ghost use Rattle.td_law_replay.specs.Traced.{site_entries};
 ghost use Rattle.td_check.specs.FirstUnsent.{IsFirstUnsent};
 ghost use Rattle.td_check.specs.Seated.{AreSeated};
 ghost use Rattle.td_check.specs.Unsent.{AreKnown, AreKnownIn, IsFirstUnknown, IsFirstUnknownIn, is_unknown};

@@ -20,8 +20,8 @@ use Rattle.td_machine.proofs.Induction.{Anything}
 use Rattle.td_machine.proofs.Parts.{IsBuilt, Begins}
 use Rattle.td_machine.proofs.Turns.{placed}
 use Rattle.td_machine.proofs.Walk.{built_step}
-use Rattle.td_converge.specs.Headline.{KeepsPromises}
-use Rattle.td_converge.proofs.EveryFamily.{promises, converge}
+use Rattle.td_law_convergence.specs.Headline.{KeepsPromises}
+use Rattle.td_law_convergence.proofs.EveryFamily.{promises, converge}
 use Rattle.td_replica.specs.Replica.{ReplicaValue}
 use Rattle.td_editor.specs.Due.{IsDue, TakesDue}
 use Rattle.td_editor.specs.Together.{taken_by, taken, IsSeated, IsSentBy, AreTogether, family_of}

@@ -12,7 +12,7 @@ ghost use Rattle.td_machine.specs.History.{IsReached, IsConsistent};
 ghost use Rattle.td_machine.specs.Machine.{Machine};
 ghost use Rattle.td_machine.specs.Shown.{change_between};
 ghost use Rattle.td_machine.specs.Step.{step};
-ghost use Rattle.td_converge.specs.Headline.{KeepsPromises};
+ghost use Rattle.td_law_convergence.specs.Headline.{KeepsPromises};
 ghost use Rattle.td_replica.specs.Replica.{ReplicaValue};
 ghost use Rattle.td_editor.specs.Screens.{changed_all};
 ghost use Rattle.td_editor.specs.Editors.{after_steps, changes_of};

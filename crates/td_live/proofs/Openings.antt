@@ -5,7 +5,7 @@ use Rattle.std.specs.List.{AllByRecursion, AllZip}
 use Rattle.std.proofs.lemmas.List.{length-map}
 use Rattle.std.proofs.lemmas.List.Elements.{All-cons, All-nil}
 use Rattle.td_line.specs.Editors.{EditorValue}
-use Rattle.td_meeting.specs.Thin.{Loss}
+use Rattle.td_law_meeting.specs.Thin.{Loss}
 use Rattle.td_room.specs.Opening.{AreOpened, IsRoom}
 use Rattle.td_room.specs.Workers.{WorkerValue}
 use Rattle.td_script.specs.Script.{IsSiteOf}

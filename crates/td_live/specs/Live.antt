@@ -4,7 +4,7 @@ use Rattle.std.specs.List.{AllZip}
 use Rattle.td_doc.specs.Document.{text_of}
 use Rattle.td_machine.specs.History.{Family, history, machine, log_of}
 use Rattle.td_order.specs.Show.{show}
-use Rattle.td_converge.specs.Headline.{KeepsPromises}
+use Rattle.td_law_convergence.specs.Headline.{KeepsPromises}
 use Rattle.td_script.specs.declared.live.editor_line.EditorLine.{EditorLine}
 use Rattle.td_script.specs.declared.live.script.Live.{Live}
 use Rattle.td_trace.specs.declared.log.EditorLog.{EditorLog}

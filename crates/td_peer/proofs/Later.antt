@@ -5,10 +5,10 @@ use Rattle.std.proofs.Math.Seq.{take-length}
 use Rattle.std.proofs.lemmas.List.{take-append-le}
 use mathlib.Core.List.{IsPrefix}
 use Rattle.td_op.specs.declared.message.Message.{Message}
-use Rattle.td_meeting.specs.Thin.{thin, messages_to}
-use Rattle.td_meeting.specs.Peers.{ArePackets, Hears, sent_to, new_peer}
-use Rattle.td_meeting.specs.Thin.{Loss}
-use Rattle.td_meeting.proofs.Telling.{tell_more, get_more}
+use Rattle.td_law_meeting.specs.Thin.{thin, messages_to}
+use Rattle.td_law_meeting.specs.Peers.{ArePackets, Hears, sent_to, new_peer}
+use Rattle.td_law_meeting.specs.Thin.{Loss}
+use Rattle.td_law_meeting.proofs.Telling.{tell_more, get_more}
 use Rattle.td_peer.specs.declared.parcel.Parcel.{Parcel}
 use Rattle.td_peer.specs.Peers.{PeerState, peer_of, packets, Linked}
 use Rattle.td_peer.specs.Serving.{Serves, LaterPeer}

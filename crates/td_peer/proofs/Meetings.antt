@@ -1,7 +1,7 @@
 -- Rows of peers as their links end.
 use Rattle.std.proofs.Common.{◌≡◌, ◌<◌, ◌++◌, ℕ, suc, List, [], ◌∷◌, length, map, drop}
 use Rattle.std.proofs.Common.{refl, sym, ap, ◌∙◌, subst, append_assoc, arith}
-use Rattle.td_meeting.specs.Rows.{MatchesFirsts, AllMatch}
+use Rattle.td_law_meeting.specs.Rows.{MatchesFirsts, AllMatch}
 use Rattle.td_peer.specs.Peers.{PeerState, Linked, PeersMet}
 use Rattle.td_peer.specs.Meeting.{MetNext}
 

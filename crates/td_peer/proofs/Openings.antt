@@ -5,9 +5,9 @@ use Rattle.std.proofs.Common.{arith}
 use Rattle.std.specs.List.{AllByRecursion, range_with_len}
 use Rattle.std.proofs.lemmas.Option.{same_Some}
 use Rattle.std.proofs.lemmas.List.{map-append}
-use Rattle.td_meeting.specs.Thin.{Loss}
-use Rattle.td_meeting.specs.Rows.{MatchesFirsts, AllMatch}
-use Rattle.td_meeting.proofs.Matching.{others_from, first_kept, first_left}
+use Rattle.td_law_meeting.specs.Thin.{Loss}
+use Rattle.td_law_meeting.specs.Rows.{MatchesFirsts, AllMatch}
+use Rattle.td_law_meeting.proofs.Matching.{others_from, first_kept, first_left}
 use Rattle.td_peer.specs.Peers.{PeerState, Linked}
 use Rattle.td_peer.specs.declared.opening.TheConstants.{PLACES}
 use Rattle.td_peer.specs.Opening.{IsFresh, IsFreshRow, AreFreshRows, Paired, OpensNext, OpensFirst}

@@ -13,12 +13,12 @@ use Rattle.td_op.specs.Message.{sender}
 use Rattle.td_base.specs.Lists.{kth}
 use Rattle.td_replica.specs.Replica.{ReplicaValue, IsReplica}
 use Rattle.td_replica.proofs.Legal.{built}
-use Rattle.td_meeting.specs.Thin.{is_addressed, Loss, copies, divides}
-use Rattle.td_meeting.specs.Peers.{ArePackets, sent_to}
-use Rattle.td_meeting.proofs.Telling.{told_count, tell_other, tell_none, tell_one, tell_first}
-use Rattle.td_meeting.proofs.Telling.{tell_second, count_other, count_next}
-use Rattle.td_meeting.proofs.Hearing.{zip_append}
-use Rattle.td_meeting.proofs.Own.{sends_own}
+use Rattle.td_law_meeting.specs.Thin.{is_addressed, Loss, copies, divides}
+use Rattle.td_law_meeting.specs.Peers.{ArePackets, sent_to}
+use Rattle.td_law_meeting.proofs.Telling.{told_count, tell_other, tell_none, tell_one, tell_first}
+use Rattle.td_law_meeting.proofs.Telling.{tell_second, count_other, count_next}
+use Rattle.td_law_meeting.proofs.Hearing.{zip_append}
+use Rattle.td_law_meeting.proofs.Own.{sends_own}
 use Rattle.td_peer.specs.declared.parcel.Parcel.{Parcel}
 use Rattle.td_peer.specs.Peers.{PeerState, packets}
 use Rattle.td_peer.specs.Serving.{Serves, LaterPeer, sent_more, times, passed, noted}

@@ -8,9 +8,9 @@ use Rattle.td_wire.specs.Spelling.{SpellsIn}
 use Rattle.td_link.specs.Ends.{RxValue}
 use Rattle.td_link.specs.Moments.{WasEmpty}
 use Rattle.td_machine.specs.History.{History}
-use Rattle.td_meeting.specs.Takes.{takes_from}
-use Rattle.td_meeting.specs.Peers.{ArePackets}
-use Rattle.td_meeting.proofs.Hearing.{zip_append}
+use Rattle.td_law_meeting.specs.Takes.{takes_from}
+use Rattle.td_law_meeting.specs.Peers.{ArePackets}
+use Rattle.td_law_meeting.proofs.Hearing.{zip_append}
 use Rattle.td_peer.specs.declared.parcel.Parcel.{Parcel}
 use Rattle.td_peer.specs.Peers.{PeerState, packets}
 use Rattle.td_peer.specs.Serving.{LaterPeer, TakesNext}

@@ -1,6 +1,6 @@
 -- Links that end one after another.
 use Rattle.std.specs.Prelude.{◌≡◌, suc, List, ◌++◌, length, map, drop}
-use Rattle.td_meeting.specs.Rows.{MatchesFirsts}
+use Rattle.td_law_meeting.specs.Rows.{MatchesFirsts}
 use Rattle.td_peer.specs.Peers.{PeerState, Linked, PeersMet}
 
 -- the first of the row has met the first of the first row behind it; what is left of that is put to the others

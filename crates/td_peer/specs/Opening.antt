@@ -2,9 +2,9 @@
 use Rattle.std.specs.Prelude.{◌≡◌, ◌+◌, ℕ, List, [], ◌∷◌, ◌++◌, map, drop, length, Some, None, false, slice_get}
 use Rattle.std.specs.List.{AllByRecursion, range_with_len}
 use Rattle.td_link.specs.Ends.{TxValue, RxValue}
-use Rattle.td_meeting.specs.Thin.{Loss}
-use Rattle.td_meeting.specs.Accounts.{others}
-use Rattle.td_meeting.specs.Rows.{MatchesFirsts}
+use Rattle.td_law_meeting.specs.Thin.{Loss}
+use Rattle.td_law_meeting.specs.Accounts.{others}
+use Rattle.td_law_meeting.specs.Rows.{MatchesFirsts}
 use Rattle.td_peer.specs.declared.opening.TheConstants.{PLACES}
 use Rattle.td_peer.specs.declared.parcel.Parcel.{Parcel}
 use Rattle.td_peer.specs.Peers.{PeerState, Linked}

@@ -3,8 +3,8 @@ use Rattle.std.specs.Prelude.{◌≡◌, ◌≤◌, ℕ, Bool, List, map, Option
 use Rattle.td_op.specs.declared.message.Message.{Message}
 use Rattle.td_link.specs.Ends.{TxValue, RxValue}
 use Rattle.td_op.specs.Message.{sender}
-use Rattle.td_meeting.specs.Thin.{Loss}
-use Rattle.td_meeting.specs.Peers.{PeerValue, Met}
+use Rattle.td_law_meeting.specs.Thin.{Loss}
+use Rattle.td_law_meeting.specs.Peers.{PeerValue, Met}
 use Rattle.td_peer.specs.declared.parcel.Parcel.{Parcel}
 
 pub record PeerState : Type 0 where

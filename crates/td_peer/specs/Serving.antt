@@ -6,8 +6,8 @@ use Rattle.td_op.specs.declared.message.Message.{Message}
 use Rattle.td_wire.specs.Spelling.{SpellsIn}
 use Rattle.td_link.specs.Ends.{TxValue}
 use Rattle.td_link.specs.Moments.{WasEmpty, WasFull}
-use Rattle.td_meeting.specs.Thin.{is_addressed, messages_to, copies}
-use Rattle.td_meeting.specs.Peers.{Tells}
+use Rattle.td_law_meeting.specs.Thin.{is_addressed, messages_to, copies}
+use Rattle.td_law_meeting.specs.Peers.{Tells}
 use Rattle.td_peer.specs.declared.parcel.Parcel.{Parcel}
 use Rattle.td_peer.specs.Peers.{PeerState, peer_of}
 

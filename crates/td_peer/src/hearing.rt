@@ -6,7 +6,7 @@ ghost use Rattle.td_link.specs.Moments.{WasEmpty};
 ghost use Rattle.td_machine.specs.History.{History, known_of};
 ghost use Rattle.td_op.specs.Message.{sender};
 ghost use Rattle.td_machine.specs.Machine.{made};
-ghost use Rattle.td_meeting.specs.Peers.{Hears};
+ghost use Rattle.td_law_meeting.specs.Peers.{Hears};
 ghost use Rattle.td_peer.specs.declared.parcel.Parcel.{Parcel};
 ghost use Rattle.td_peer.specs.Peers.{peer_of};
 ghost use Rattle.td_peer.specs.Serving.{LaterPeer, TakesNext, TookOrEmpty};

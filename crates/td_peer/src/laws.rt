@@ -2,8 +2,8 @@
 ghost use Rattle.std.specs.Prelude.{◌≡◌, ◌++◌, [], ℕ, List, length};
 ghost use Rattle.td_op.specs.declared.message.Message.{Message};
 ghost use Rattle.td_link.specs.Moments.{WasEmpty};
-ghost use Rattle.td_meeting.specs.Thin.{Loss, thin, messages_to};
-ghost use Rattle.td_meeting.specs.Peers.{ArePackets, Hears, new_peer};
+ghost use Rattle.td_law_meeting.specs.Thin.{Loss, thin, messages_to};
+ghost use Rattle.td_law_meeting.specs.Peers.{ArePackets, Hears, new_peer};
 ghost use Rattle.td_peer.specs.Peers.{PeerState, peer_of, packets, Linked};
 ghost use Rattle.td_peer.specs.Serving.{Serves, LaterPeer, TakesNext};
 ghost use Rattle.td_peer.specs.Opening.{IsFresh};

@@ -1,6 +1,6 @@
 // Which messages are for a site, and how often each of them is sent.
 ghost use Rattle.std.specs.Prelude.{◌≡◌};
-ghost use Rattle.td_meeting.specs.Thin.{is_addressed, copies, divides};
+ghost use Rattle.td_law_meeting.specs.Thin.{is_addressed, copies, divides};
 
 use std::marker::Model;
 use td_base::Site;
@@ -15,7 +15,7 @@ pub struct Loss {
 }
 
 impl Model for Loss {
-    ghost use Rattle.td_meeting.specs.Thin.{Loss};
+    ghost use Rattle.td_law_meeting.specs.Thin.{Loss};
 
     ghost Value = { Loss };
 

@@ -1,6 +1,6 @@
 // How the links between workers end.
 ghost use Rattle.std.specs.Prelude.{◌≡◌, ◌<◌, ◌++◌, ◌∷◌, [], length, map, drop, List, IfOk, OnOk};
-ghost use Rattle.td_meeting.specs.Rows.{MatchesFirsts, AllMatch};
+ghost use Rattle.td_law_meeting.specs.Rows.{MatchesFirsts, AllMatch};
 ghost use Rattle.td_peer.specs.Peers.{PeerState, packets, Linked, PeersMet};
 ghost use mathlib.Core.List.{IsPrefix};
 ghost use Rattle.td_peer.specs.Meeting.{MetNext};

@@ -1,7 +1,7 @@
 // What workers keep for each other at the beginning.
 ghost use Rattle.std.specs.Prelude.{◌≡◌, ◌<◌, ◌≤◌, ◌+◌, ◌∷◌, Some, length, List, IfOk, OnOk};
 ghost use Rattle.td_base.specs.declared.site.TheConstants.{MAX_SITE};
-ghost use Rattle.td_meeting.specs.Rows.{AllMatch};
+ghost use Rattle.td_law_meeting.specs.Rows.{AllMatch};
 ghost use Rattle.td_peer.specs.Peers.{PeerState, Linked};
 ghost use Rattle.td_peer.specs.Opening.{new_state, IsFresh, AreFreshRows, OpensNext, OpensFirst};
 

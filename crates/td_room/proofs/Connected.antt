@@ -1,8 +1,8 @@
 -- What holds of the peers beside a replica stays so while the replica goes on.
 use Rattle.std.proofs.Common.{◌≡◌, List, sym, ◌∙◌, subst}
 use Rattle.td_op.specs.declared.message.Message.{Message}
-use Rattle.td_meeting.specs.Peers.{Hears}
-use Rattle.td_meeting.specs.Accounts.{others}
+use Rattle.td_law_meeting.specs.Peers.{Hears}
+use Rattle.td_law_meeting.specs.Accounts.{others}
 use Rattle.td_site.specs.Sites.{SiteValue}
 use Rattle.td_peer.specs.Peers.{PeerState, peer_of}
 use Rattle.td_peer.specs.Serving.{Serves}

@@ -11,12 +11,12 @@ use Rattle.td_replica.specs.Replica.{ReplicaValue}
 use Rattle.td_world.specs.World.{AreSites, replica_from, world_of}
 use Rattle.td_world.specs.Promises.{NobodyReady}
 use Rattle.td_world.specs.Calls.{is_ready}
-use Rattle.td_meeting.specs.Takes.{TakesWelcome}
-use Rattle.td_meeting.specs.Peers.{PeerValue, Hears, Tells, Met}
-use Rattle.td_meeting.specs.Accounts.{Account, IsAccount, AreSettled, others, family_of}
-use Rattle.td_meeting.specs.Rows.{MatchesFirsts, AllMatch, rows_of}
-use Rattle.td_meeting.proofs.Consistency.{consistent}
-use Rattle.td_meeting.proofs.Matching.{have_met}
+use Rattle.td_law_meeting.specs.Takes.{TakesWelcome}
+use Rattle.td_law_meeting.specs.Peers.{PeerValue, Hears, Tells, Met}
+use Rattle.td_law_meeting.specs.Accounts.{Account, IsAccount, AreSettled, others, family_of}
+use Rattle.td_law_meeting.specs.Rows.{MatchesFirsts, AllMatch, rows_of}
+use Rattle.td_law_meeting.proofs.Consistency.{consistent}
+use Rattle.td_law_meeting.proofs.Matching.{have_met}
 use Rattle.td_line.specs.declared.answer.Answer.{Answer}
 use Rattle.td_line.specs.Editors.{EditorValue}
 use Rattle.td_peer.specs.Peers.{PeerState, peer_of, Linked, PeersMet}

@@ -11,9 +11,9 @@ use Rattle.td_op.specs.Message.{sender}
 use Rattle.td_machine.specs.Machine.{Machine, start, made}
 use Rattle.td_machine.specs.Step.{step}
 use Rattle.td_replica.specs.Replica.{ReplicaValue, IsReplica, after_step}
-use Rattle.td_meeting.specs.Takes.{takes_from, IsWelcome, TakesWelcome}
-use Rattle.td_meeting.specs.Peers.{ArePackets, Hears}
-use Rattle.td_meeting.proofs.Hearing.{takes_own, takes_other, welcome_more}
+use Rattle.td_law_meeting.specs.Takes.{takes_from, IsWelcome, TakesWelcome}
+use Rattle.td_law_meeting.specs.Peers.{ArePackets, Hears}
+use Rattle.td_law_meeting.proofs.Hearing.{takes_own, takes_other, welcome_more}
 use Rattle.td_site.specs.Sites.{SiteValue}
 use Rattle.td_site.specs.Later.{LaterSite}
 use Rattle.td_line.specs.Calls.{local_at, local_in}

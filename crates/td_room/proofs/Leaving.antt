@@ -16,8 +16,8 @@ use Rattle.td_site.proofs.Later.{later_then}
 use Rattle.td_line.specs.declared.answer.Answer.{Answer}
 use Rattle.td_line.specs.Calls.{local_at, OnlyLocals}
 use Rattle.td_line.specs.Editors.{EditorValue}
-use Rattle.td_meeting.specs.Takes.{takes_from}
-use Rattle.td_meeting.specs.Peers.{ArePackets, Hears}
+use Rattle.td_law_meeting.specs.Takes.{takes_from}
+use Rattle.td_law_meeting.specs.Peers.{ArePackets, Hears}
 use Rattle.td_peer.specs.Peers.{PeerState, packets, peer_of}
 use Rattle.td_peer.specs.Serving.{LaterPeer}
 use Rattle.td_room.specs.Workers.{WorkerValue, IsConnected, LaterWorker}

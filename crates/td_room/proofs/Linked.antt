@@ -1,7 +1,7 @@
 -- Links stay what they are.
 use Rattle.std.proofs.Common.{ℕ, zero, suc, List, [], ◌∷◌, map, drop}
 use Rattle.std.specs.List.{AllZip}
-use Rattle.td_meeting.specs.Rows.{MatchesFirsts, AllMatch}
+use Rattle.td_law_meeting.specs.Rows.{MatchesFirsts, AllMatch}
 use Rattle.td_peer.specs.Peers.{PeerState, Linked}
 use Rattle.td_peer.specs.Serving.{LaterPeer}
 use Rattle.td_peer.proofs.Later.{linked_later}

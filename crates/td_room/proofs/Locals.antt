@@ -10,7 +10,7 @@ use Rattle.td_op.specs.declared.message.Message.{Message}
 use Rattle.td_machine.specs.Machine.{Machine, start}
 use Rattle.td_machine.specs.Step.{step}
 use Rattle.td_machine.specs.History.{History}
-use Rattle.td_meeting.specs.Takes.{taken_in, takes_from, TakesWelcome}
+use Rattle.td_law_meeting.specs.Takes.{taken_in, takes_from, TakesWelcome}
 use Rattle.td_line.specs.declared.ask.Ask.{Ask}
 use Rattle.td_line.specs.declared.answer.Answer.{Answer}
 use Rattle.td_line.specs.Calls.{entry_at, local_in, local_of, local_at, AreRecorded, OnlyLocals}

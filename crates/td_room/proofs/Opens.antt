@@ -13,9 +13,9 @@ use Rattle.td_base.specs.declared.site.TheConstants.{MAX_SITE}
 use Rattle.td_replica.specs.Replica.{ReplicaValue, new_replica}
 use Rattle.td_view.specs.Publishes.{start}
 use Rattle.td_view.specs.Values.{ReaderValue, WriterValue, new_reader}
-use Rattle.td_meeting.specs.Thin.{Loss}
-use Rattle.td_meeting.specs.Rows.{AllMatch}
-use Rattle.td_meeting.specs.Peers.{Hears}
+use Rattle.td_law_meeting.specs.Thin.{Loss}
+use Rattle.td_law_meeting.specs.Rows.{AllMatch}
+use Rattle.td_law_meeting.specs.Peers.{Hears}
 use Rattle.td_site.specs.Sites.{SiteValue}
 use Rattle.td_line.specs.Calls.{AreRecorded, answers_at, local_at}
 use Rattle.td_line.specs.Lines.{LineValue, HasServed}

@@ -7,9 +7,9 @@ use Rattle.td_base.specs.Lists.{In, Successive}
 use Rattle.td_base.proofs.Lists.{In-filter, In-map, map_successive, successive_filter}
 use Rattle.td_op.specs.declared.message.Message.{Message}
 use Rattle.td_replica.specs.Replica.{ReplicaValue}
-use Rattle.td_meeting.specs.Takes.{takes_from}
-use Rattle.td_meeting.specs.Peers.{ArePackets, Hears}
-use Rattle.td_meeting.specs.Accounts.{others}
+use Rattle.td_law_meeting.specs.Takes.{takes_from}
+use Rattle.td_law_meeting.specs.Peers.{ArePackets, Hears}
+use Rattle.td_law_meeting.specs.Accounts.{others}
 use Rattle.td_site.specs.Sites.{SiteValue}
 use Rattle.std.specs.Option.{option_to_list}
 use Rattle.td_peer.specs.Peers.{PeerState, packets, peer_of}

@@ -4,7 +4,7 @@ use Rattle.std.proofs.Common.{nat_eq, length, map, slice_get, Some, refl, sym, a
 use Rattle.std.specs.List.{AllByRecursion, AllZip}
 use Rattle.logbook.specs.Pages.{Book}
 use Rattle.td_base.specs.declared.site.TheConstants.{MAX_SITE}
-use Rattle.td_meeting.specs.Rows.{AllMatch}
+use Rattle.td_law_meeting.specs.Rows.{AllMatch}
 use Rattle.td_line.specs.Lines.{LineValue, LaterLine}
 use Rattle.td_line.specs.Editors.{EditorValue, LaterEditor}
 use Rattle.td_peer.specs.Peers.{Linked}

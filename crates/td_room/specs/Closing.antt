@@ -12,8 +12,8 @@ use Rattle.td_line.specs.Calls.{AreRecorded, answers_at}
 use Rattle.td_line.specs.Editors.{EditorValue, polled}
 use Rattle.td_op.specs.declared.message.Message.{Message}
 use Rattle.td_machine.specs.History.{known_of}
-use Rattle.td_meeting.specs.Takes.{takes_from}
-use Rattle.td_meeting.specs.Peers.{ArePackets}
+use Rattle.td_law_meeting.specs.Takes.{takes_from}
+use Rattle.td_law_meeting.specs.Peers.{ArePackets}
 use Rattle.td_peer.specs.Peers.{PeerState, packets}
 use Rattle.td_room.specs.Workers.{WorkerValue}
 use Rattle.td_room.specs.Turns.{NotMadeThen}

@@ -1,8 +1,8 @@
 -- What becomes of a site and a peer while a worker works.
 use Rattle.std.specs.Prelude.{◌≡◌, ◌≢◌, ◌<◌, ◌≤◌, ℕ}
 use Rattle.td_machine.specs.Machine.{start}
-use Rattle.td_meeting.specs.Takes.{takes_from, TakesWelcome}
-use Rattle.td_meeting.specs.Peers.{Hears}
+use Rattle.td_law_meeting.specs.Takes.{takes_from, TakesWelcome}
+use Rattle.td_law_meeting.specs.Peers.{Hears}
 use Rattle.td_site.specs.Sites.{SiteValue}
 use Rattle.td_site.specs.Later.{LaterSite}
 use Rattle.td_line.specs.Calls.{local_at}

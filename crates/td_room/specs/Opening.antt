@@ -5,7 +5,7 @@ use Rattle.std.specs.List.{AllZip}
 use Rattle.td_view.specs.Publishes.{start}
 use Rattle.td_view.specs.Values.{ReaderValue, new_reader}
 use Rattle.td_replica.specs.Replica.{new_replica}
-use Rattle.td_meeting.specs.Thin.{Loss}
+use Rattle.td_law_meeting.specs.Thin.{Loss}
 use Rattle.td_line.specs.Lines.{LineValue}
 use Rattle.td_line.specs.Editors.{EditorValue, IsNewLine, IsNewEditor}
 use Rattle.td_peer.specs.Peers.{PeerState}

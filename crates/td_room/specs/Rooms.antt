@@ -3,7 +3,7 @@ use Rattle.std.specs.Prelude.{◌≡◌, ◌<◌, ◌≤◌, ◌+◌, ◌==◌, 
 use Rattle.std.specs.List.{AllByRecursion, AllZip}
 use Rattle.logbook.specs.Pages.{Book}
 use Rattle.td_base.specs.declared.site.TheConstants.{MAX_SITE}
-use Rattle.td_meeting.specs.Rows.{AllMatch}
+use Rattle.td_law_meeting.specs.Rows.{AllMatch}
 use Rattle.td_line.specs.Lines.{LineValue}
 use Rattle.td_line.specs.Editors.{EditorValue, Belongs}
 use Rattle.td_peer.specs.Peers.{Linked}

@@ -3,9 +3,9 @@ use Rattle.std.specs.Prelude.{◌≡◌, ◌+◌, ℕ, List, [], ◌∷◌, map,
 use Rattle.std.specs.List.{AllByRecursion, AllZip}
 use Rattle.td_machine.specs.Machine.{start}
 use Rattle.td_replica.specs.Replica.{ReplicaValue}
-use Rattle.td_meeting.specs.Takes.{TakesWelcome}
-use Rattle.td_meeting.specs.Peers.{Hears}
-use Rattle.td_meeting.specs.Accounts.{others}
+use Rattle.td_law_meeting.specs.Takes.{TakesWelcome}
+use Rattle.td_law_meeting.specs.Peers.{Hears}
+use Rattle.td_law_meeting.specs.Accounts.{others}
 use Rattle.td_site.specs.Sites.{SiteValue}
 use Rattle.td_site.specs.Later.{LaterSite}
 use Rattle.td_line.specs.Calls.{answers_at, local_at}

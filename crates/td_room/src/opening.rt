@@ -2,7 +2,7 @@
 ghost use Rattle.std.specs.Prelude.{◌≡◌, ◌<◌, ◌≤◌, ◌+◌, ◌==◌, ◌++◌, ◌∷◌, [], ℕ, List, All, length, map, count_by, IfOk, IfErr, OnOk};
 ghost use Rattle.td_base.specs.declared.site.TheConstants.{MAX_SITE};
 ghost use Rattle.td_view.specs.Values.{ReaderValue, one_more};
-ghost use Rattle.td_meeting.specs.Thin.{Loss as LossValue};
+ghost use Rattle.td_law_meeting.specs.Thin.{Loss as LossValue};
 ghost use Rattle.td_line.specs.Editors.{EditorValue};
 ghost use Rattle.td_peer.specs.Peers.{PeerState};
 ghost use Rattle.td_peer.specs.Opening.{IsFreshRow};

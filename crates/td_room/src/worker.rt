@@ -1,6 +1,6 @@
 ghost use Rattle.std.specs.Prelude.{◌≡◌, ◌++◌, ◌∷◌, [], ℕ, OnOk};
 ghost use Rattle.td_replica.specs.Replica.{new_replica};
-ghost use Rattle.td_meeting.specs.Thin.{Loss};
+ghost use Rattle.td_law_meeting.specs.Thin.{Loss};
 ghost use Rattle.td_line.specs.Editors.{IsNewLine};
 ghost use Rattle.td_peer.specs.Opening.{IsFreshRow};
 

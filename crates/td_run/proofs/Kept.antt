@@ -4,9 +4,9 @@ use Rattle.td_check.proofs.Exact.{found_exactly}
 use Rattle.td_check.specs.Verdict.{IsPossible, IsVerdict, TooLong, NoTrace, OfNoSite, OfTrace}
 use Rattle.td_check.specs.declared.verdict.Verdict.{Verdict}
 use Rattle.td_check.specs.declared.verdict.Verdict.TheVariants.{Yes}
-use Rattle.td_converge.proofs.EveryFamily.{promises}
+use Rattle.td_law_convergence.proofs.EveryFamily.{promises}
 use Rattle.td_reader.specs.Values.{TraceValue}
-use Rattle.td_replay.specs.Accepted.{IsLiveTrace}
+use Rattle.td_law_replay.specs.Accepted.{IsLiveTrace}
 use Rattle.td_run.specs.Kept.{IsOfLiveFamily, TracesLiveFamily}
 
 of_live : (t : TraceValue) → IsLiveTrace t.histories t.logs t.texts → IsOfLiveFamily t

@@ -51,7 +51,7 @@ use Rattle.td_machine.proofs.StepKinds.{least_in}
 use Rattle.td_machine.proofs.Turns.{placed}
 use Rattle.td_machine.proofs.Walk.{offered}
 use Rattle.td_reader.specs.Values.{FitsReply}
-use Rattle.td_replay.proofs.Values.{values_of}
+use Rattle.td_law_replay.proofs.Values.{values_of}
 use Rattle.td_run.proofs.ShownAtoms.{len_short, size_few}
 
 -- ---- the least dot of holds

@@ -45,8 +45,8 @@ use Rattle.td_machine.proofs.Changes.{changes}
 use Rattle.td_machine.proofs.Induction.{built_of, by_steps, reached_step}
 use Rattle.td_machine.proofs.Turns.{counted, length_counts}
 use Rattle.td_machine.proofs.Walk.{step_grows}
-use Rattle.td_replay.proofs.Telling.{same_site}
-use Rattle.td_replay.proofs.Values.{values_of}
+use Rattle.td_law_replay.proofs.Telling.{same_site}
+use Rattle.td_law_replay.proofs.Values.{values_of}
 
 -- ---- a change of the atoms
 

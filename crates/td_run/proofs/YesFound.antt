@@ -8,18 +8,18 @@ use Rattle.td_check.proofs.Ranges.{in_range}
 use Rattle.td_machine.specs.History.{Family, IsConsistent}
 use Rattle.td_reader.specs.Form.{IsTraceOf}
 use Rattle.td_reader.specs.Values.{TraceValue}
-use Rattle.td_replay.specs.Accepted.{IsLiveTrace, IsAcceptedAt}
-use Rattle.td_replay.specs.Ended.{VotesWereSent}
-use Rattle.td_replay.specs.Judging.{States, begin}
-use Rattle.td_replay.specs.Replay.{Goes, Reaches, AllDone}
-use Rattle.td_replay.specs.Rounds.{GoesAt, Rests, Course, Starts, Does, Passes, Repeats}
-use Rattle.td_replay.proofs.Accepting.{live_is_accepted, texts_there}
-use Rattle.td_replay.proofs.Exactly.{goes_less}
-use Rattle.td_replay.proofs.Going.{many}
-use Rattle.td_replay.proofs.Judging.{none_left}
-use Rattle.td_replay.proofs.Progress.{Can, never_stops}
-use Rattle.td_replay.proofs.Rounding.{Turn, Resting, Going, turn, not_stuck, reaches_of}
-use Rattle.td_replay.proofs.Shown.{votes_sent}
+use Rattle.td_law_replay.specs.Accepted.{IsLiveTrace, IsAcceptedAt}
+use Rattle.td_law_replay.specs.Ended.{VotesWereSent}
+use Rattle.td_law_replay.specs.Judging.{States, begin}
+use Rattle.td_law_replay.specs.Replay.{Goes, Reaches, AllDone}
+use Rattle.td_law_replay.specs.Rounds.{GoesAt, Rests, Course, Starts, Does, Passes, Repeats}
+use Rattle.td_law_replay.proofs.Accepting.{live_is_accepted, texts_there}
+use Rattle.td_law_replay.proofs.Exactly.{goes_less}
+use Rattle.td_law_replay.proofs.Going.{many}
+use Rattle.td_law_replay.proofs.Judging.{none_left}
+use Rattle.td_law_replay.proofs.Progress.{Can, never_stops}
+use Rattle.td_law_replay.proofs.Rounding.{Turn, Resting, Going, turn, not_stuck, reaches_of}
+use Rattle.td_law_replay.proofs.Shown.{votes_sent}
 use Rattle.td_trace.specs.declared.entry.TraceEntry.{TraceEntry}
 use Rattle.td_trace.specs.Entries.{traced_family}
 

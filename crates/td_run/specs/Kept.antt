@@ -1,6 +1,6 @@
 -- What the verdict yes says of a trace.
 use Rattle.std.specs.Prelude.{◌≡◌, ◌⊎◌, ℕ, List}
-use Rattle.td_converge.specs.Headline.{KeepsPromises}
+use Rattle.td_law_convergence.specs.Headline.{KeepsPromises}
 use Rattle.td_machine.specs.History.{Family}
 use Rattle.td_reader.specs.Form.{IsTraceOf}
 use Rattle.td_reader.specs.Values.{TraceValue}

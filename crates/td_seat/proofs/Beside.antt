@@ -8,7 +8,7 @@ use Rattle.td_op.specs.Op.{OpValue}
 use Rattle.td_machine.specs.Machine.{Machine}
 use Rattle.td_machine.specs.Taking.{Stepped}
 use Rattle.td_machine.specs.Step.{step}
-use Rattle.td_replay.proofs.Outlined.{local_with, vote_with}
+use Rattle.td_law_replay.proofs.Outlined.{local_with, vote_with}
 
 -- the reply, and the machine but for what waits
 pub ask_beside : (request : Request) (w : List OpValue) (m : Machine)

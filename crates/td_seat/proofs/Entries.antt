@@ -9,10 +9,11 @@ use Rattle.std.proofs.lemmas.List.{get_or-set_same}
 use Rattle.td_base.specs.Value.{DotValue}
 use Rattle.td_clock.specs.Vector.{vector_get, vector_set, vector_bump}
 use Rattle.td_trace.specs.declared.entry.TraceEntry.{TraceEntry}
-use Rattle.td_replay.specs.Counting.{Count, no_count, count_entry, makes, raised, with_use, used, deps_from, more_yes}
-use Rattle.td_replay.specs.Counting.{more_no}
-use Rattle.td_replay.proofs.Counts.{count_entries, count_snoc, deps_skip}
-use Rattle.td_replay.specs.Counting.{in_vector}
+use Rattle.td_law_replay.specs.Counting.{Count, no_count, count_entry, makes, raised}
+use Rattle.td_law_replay.specs.Counting.{with_use, used, deps_from, more_yes}
+use Rattle.td_law_replay.specs.Counting.{more_no}
+use Rattle.td_law_replay.proofs.Counts.{count_entries, count_snoc, deps_skip}
+use Rattle.td_law_replay.specs.Counting.{in_vector}
 use Rattle.td_seat.specs.declared.counted.Counted.{Counted}
 use Rattle.td_seat.specs.Votes.{AreVotes}
 use Rattle.td_seat.specs.OwnOps.{AreOwnOps, with_more}

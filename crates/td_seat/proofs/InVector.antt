@@ -5,7 +5,7 @@ use Rattle.std.specs.Prelude.{nat_le}
 use Rattle.std.specs.List.{list_all}
 use Rattle.std.proofs.lemmas.Bool.{and_parts, and_from, and_left, and_right, and_cases, le-leb, lt-leb, leb-false}
 use Rattle.td_base.specs.declared.dot.TheConstants.{MAX_SEQ}
-use Rattle.td_replay.specs.Counting.{in_vector}
+use Rattle.td_law_replay.specs.Counting.{in_vector}
 
 abbrev pub fits : List ℕ → Bool
 fits v = list_all (λ (k : ℕ). nat_le k MAX_SEQ) v

@@ -23,7 +23,7 @@ use Rattle.td_causal.specs.Offering.{offer_answer, kept_after}
 use Rattle.td_causal.specs.Waiting.{ops_waiting}
 use Rattle.td_causal.proofs.Kept.{ops-put_in_order, All-put_in_order}
 use Rattle.td_replica.specs.Replica.{ReplicaValue}
-use Rattle.td_replay.proofs.Outlined.{offered_to}
+use Rattle.td_law_replay.proofs.Outlined.{offered_to}
 use Rattle.td_seat.specs.Seat.{IsSeat}
 
 abbrev pub is_known_of : OpValue → Machine → Bool

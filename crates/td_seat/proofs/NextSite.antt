@@ -7,7 +7,7 @@ use Rattle.std.proofs.lemmas.Option.{slice_get_past, same_Some, none-some}
 use Rattle.std.proofs.lemmas.List.{length_push, get_or_append_left, get_or_push}
 use Rattle.td_base.proofs.Elements.{get_front}
 use Rattle.td_trace.specs.declared.entry.TraceEntry.{TraceEntry}
-use Rattle.td_replay.specs.Traced.{site_entries}
+use Rattle.td_law_replay.specs.Traced.{site_entries}
 use Rattle.td_seat.specs.declared.counted.Counted.{Counted}
 use Rattle.td_seat.specs.Counted.{AreCounted}
 use Rattle.td_seat.proofs.Slices.{get_pushed}

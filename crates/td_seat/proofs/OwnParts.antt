@@ -11,9 +11,9 @@ use Rattle.td_base.specs.declared.dot.TheConstants.{MAX_SEQ}
 use Rattle.td_base.specs.Value.{DotValue}
 use Rattle.td_base.proofs.Elements.{get_front}
 use Rattle.td_clock.specs.Vector.{vector_get, vector_bump}
-use Rattle.td_replay.specs.Counting.{with_use, raised}
-use Rattle.td_replay.proofs.Counts.{bump_up}
-use Rattle.td_replay.specs.Counting.{in_vector}
+use Rattle.td_law_replay.specs.Counting.{with_use, raised}
+use Rattle.td_law_replay.proofs.Counts.{bump_up}
+use Rattle.td_law_replay.specs.Counting.{in_vector}
 use Rattle.td_seat.specs.OwnOps.{AreOwnParts, with_one, with_more}
 use Rattle.td_seat.proofs.InVector.{fits, fits_set, past_up, past_over, vector_from, no_vector_from, vector_of}
 use Rattle.td_seat.proofs.InVector.{no_vector_of}

@@ -21,8 +21,8 @@ use Rattle.td_machine.specs.Machine.{Machine, made}
 use Rattle.td_machine.specs.Taking.{Stepped, stepped, misfit, take, forget, waited}
 use Rattle.td_machine.specs.Step.{step}
 use Rattle.td_machine.proofs.StepKinds.{least_in}
-use Rattle.td_replay.specs.Judging.{take_waiting, take_waiting_as}
-use Rattle.td_replay.proofs.Outlined.{take_with, take_keeps, misfit_with, offered_to}
+use Rattle.td_law_replay.specs.Judging.{take_waiting, take_waiting_as}
+use Rattle.td_law_replay.proofs.Outlined.{take_with, take_keeps, misfit_with, offered_to}
 use Rattle.td_replica.specs.Replica.{ReplicaValue}
 use Rattle.td_seat.specs.Seat.{up_of, IsOutlined, IsSeat}
 use Rattle.td_seat.proofs.Sized.{seat_stays}

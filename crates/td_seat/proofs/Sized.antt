@@ -9,7 +9,7 @@ use Rattle.td_machine.proofs.Turns.{length_have}
 use Rattle.td_causal.specs.declared.waiting.Waiting.{Waiting}
 use Rattle.td_causal.specs.Waiting.{AreOfSize}
 use Rattle.td_replica.specs.Replica.{ReplicaValue, IsReplica}
-use Rattle.td_replay.proofs.Telling.{same_site}
+use Rattle.td_law_replay.proofs.Telling.{same_site}
 use Rattle.td_seat.specs.Seat.{IsSeat}
 
 pub reached : (r : ReplicaValue) → IsReplica r → IsReached r.machine

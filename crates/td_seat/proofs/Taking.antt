@@ -11,8 +11,8 @@ use Rattle.td_machine.specs.Machine.{Machine, made}
 use Rattle.td_machine.specs.Ready.{is_had, waits}
 use Rattle.td_machine.specs.Taking.{Stepped, stepped, misfit}
 use Rattle.td_machine.specs.Step.{step}
-use Rattle.td_replay.specs.Replies.{is_new}
-use Rattle.td_replay.proofs.Outlined.{with, with_step, take_with, take_keeps, misfit_with, offered_to}
+use Rattle.td_law_replay.specs.Replies.{is_new}
+use Rattle.td_law_replay.proofs.Outlined.{with, with_step, take_with, take_keeps, misfit_with, offered_to}
 
 abbrev own_of : OpValue → Machine → Bool
 own_of x m = nat_eq x.dot.site m.site || nat_lt (made m) (vector_get x.deps m.site)

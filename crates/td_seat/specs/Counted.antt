@@ -1,8 +1,8 @@
 -- What the entries of a site say that it made, entry by entry.
 use Rattle.std.specs.Prelude.{List, ℕ, Option, option_and_then, fold}
 use Rattle.td_trace.specs.declared.entry.TraceEntry.{TraceEntry}
-use Rattle.td_replay.specs.Counting.{Count, no_count, count_entry, deps_from}
-use Rattle.td_replay.specs.Counting.{in_vector}
+use Rattle.td_law_replay.specs.Counting.{Count, no_count, count_entry, deps_from}
+use Rattle.td_law_replay.specs.Counting.{in_vector}
 use Rattle.td_seat.specs.OwnOps.{AreOwnOps}
 use Rattle.td_seat.specs.Votes.{AreVotes}
 use Rattle.td_seat.specs.declared.counted.Counted.{Counted}

@@ -1,7 +1,7 @@
 -- What the entries of all sites say that these made.
 use Rattle.std.specs.Prelude.{◌≡◌, ◌+◌, ℕ, List, length, Some, slice_get}
 use Rattle.td_trace.specs.declared.entry.TraceEntry.{TraceEntry}
-use Rattle.td_replay.specs.Traced.{site_entries}
+use Rattle.td_law_replay.specs.Traced.{site_entries}
 use Rattle.td_seat.specs.Counted.{AreCounted}
 use Rattle.td_seat.specs.declared.counted.Counted.{Counted}
 use Rattle.td_seat.specs.declared.made.Made.{Made}

@@ -3,8 +3,8 @@ use Rattle.std.specs.Prelude.{◌≡◌, ◌≤◌, ◌+◌, ◌-◌, ◌==◌, 
 use Rattle.std.specs.Prelude.{if◌then◌else◌, slice_get}
 use Rattle.td_base.specs.declared.dot.TheConstants.{MAX_SEQ}
 use Rattle.td_clock.specs.Vector.{vector_get}
-use Rattle.td_replay.specs.Counting.{raised}
-use Rattle.td_replay.specs.Counting.{in_vector}
+use Rattle.td_law_replay.specs.Counting.{raised}
+use Rattle.td_law_replay.specs.Counting.{in_vector}
 use Rattle.td_seat.specs.declared.own_ops.OwnOps.{OwnOps}
 
 -- the numbers v are what a site, of n, has made and used, and `told` what each of its operations depends on. It is

@@ -7,7 +7,7 @@ use Rattle.std.specs.BTreeSet as tree_set
 use Rattle.td_base.specs.Value.{DotValue}
 use Rattle.td_base.specs.Equality.{same_dot}
 use Rattle.td_base.specs.Order.{dot_cmp}
-use Rattle.td_replay.specs.Counting.{how_often}
+use Rattle.td_law_replay.specs.Counting.{how_often}
 use Rattle.td_seat.specs.declared.votes.Votes.{Votes}
 
 -- these are the proposals of each Yes, and of each No, that is counted. A number of Yes is kept up to 2 ^ 32 - 1

@@ -1,6 +1,6 @@
 ghost use Rattle.std.specs.Prelude.{◌≡◌, ◌≤◌, ◌++◌, ◌∷◌, [], ℕ, List, OnOk, length};
 ghost use Rattle.std.specs.Option.{option_copied};
-ghost use Rattle.td_replay.specs.Counting.{Count, makes};
+ghost use Rattle.td_law_replay.specs.Counting.{Count, makes};
 ghost use Rattle.td_seat.specs.Votes.{AreVotes};
 ghost use Rattle.td_seat.specs.Counted.{AreCounted, told_deps};
 

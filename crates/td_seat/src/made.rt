@@ -1,7 +1,7 @@
 ghost use Rattle.std.specs.Prelude.{◌≡◌, ◌+◌, ◌++◌, ◌∷◌, [], ℕ, List, OnOk, length};
 ghost use Rattle.std.specs.Option.{option_copied};
 ghost use Rattle.td_trace.specs.declared.entry.TraceEntry.{TraceEntry};
-ghost use Rattle.td_replay.specs.Counting.{made_deps};
+ghost use Rattle.td_law_replay.specs.Counting.{made_deps};
 ghost use Rattle.td_seat.specs.Counted.{AreCounted};
 ghost use Rattle.td_seat.specs.Made.{AreMade, IsMade};
 

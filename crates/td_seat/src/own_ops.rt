@@ -22,7 +22,7 @@ impl OwnOps {
     ghost use Rattle.std.specs.Option.{option_copied};
     ghost use Rattle.td_base.specs.Value.{DotValue};
     ghost use Rattle.td_clock.specs.Vector.{vector_bump};
-    ghost use Rattle.td_replay.specs.Counting.{raised, with_use};
+    ghost use Rattle.td_law_replay.specs.Counting.{raised, with_use};
     ghost use Rattle.td_seat.specs.OwnOps.{AreOwnOps, with_one, with_more};
 
     /// A site, of n, that did nothing. Takes no memory.

@@ -11,8 +11,8 @@ ghost use Rattle.td_machine.specs.Ready.{next_ready};
 ghost use Rattle.td_machine.specs.Step.{step};
 ghost use Rattle.td_seat.specs.Seat.{up_of, IsOutlined};
 ghost use Rattle.td_replica.specs.Replica.{after_step, is_idle};
-ghost use Rattle.td_replay.specs.Judging.{take_waiting};
-ghost use Rattle.td_replay.specs.Replies.{is_new};
+ghost use Rattle.td_law_replay.specs.Judging.{take_waiting};
+ghost use Rattle.td_law_replay.specs.Replies.{is_new};
 
 use std::alloc::Global;
 use std::marker::Model;

@@ -1,7 +1,7 @@
 // What one entry tells, by its input and its reply.
 ghost use Rattle.std.specs.Prelude.{◌≡◌};
-ghost use Rattle.td_replay.specs.Counting.{used, asks_proposal};
-ghost use Rattle.td_replay.specs.Replies.{is_new, taken_of};
+ghost use Rattle.td_law_replay.specs.Counting.{used, asks_proposal};
+ghost use Rattle.td_law_replay.specs.Replies.{is_new, taken_of};
 
 use td_base::Dot;
 use td_op::{Reply, Request};

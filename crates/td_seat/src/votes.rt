@@ -3,7 +3,7 @@ ghost use Rattle.std.specs.Map.{count_at};
 ghost use Rattle.std.specs.BTreeMap as tree;
 ghost use Rattle.td_base.specs.Value.{DotValue};
 ghost use Rattle.td_base.specs.Order.{dot_cmp};
-ghost use Rattle.td_replay.specs.Counting.{Count, is_decisive, more_yes, more_no};
+ghost use Rattle.td_law_replay.specs.Counting.{Count, is_decisive, more_yes, more_no};
 ghost use Rattle.td_seat.specs.Votes.{AreVotes};
 
 use crate::told::is_new;

@@ -218,7 +218,8 @@ module _ (p : Parts) (t : IsTree p) (slot : Slot) (first : ℕ) (end : Option �
     live_places = apart_places (table p) L (live_apart (table p) (tokens_of p st.front) (tokens_of p st.inner)
         (tokens_of p st.back) s.word (subst (IsBrackets (table p)) was_tokens t.brackets))
 
-    pub dead_below : (live nodes : List ℕ) (dead : ℕ) → IsFound p (tokens_of p st.inner) live nodes dead → dead ≤ p.count
+    pub dead_below : (live nodes : List ℕ) (dead : ℕ) → IsFound p (tokens_of p st.inner) live nodes dead
+        → dead ≤ p.count
     dead_below live nodes dead f =
         let d = f.dead_is in
         let all = t.all in

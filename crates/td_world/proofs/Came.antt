@@ -40,7 +40,7 @@ use Rattle.td_machine.proofs.Induction.{built_of}
 use Rattle.td_machine.proofs.Parts.{Other}
 use Rattle.td_machine.proofs.StepKinds.{by_kinds}
 use Rattle.td_machine.proofs.Turns.{comes_next}
-use Rattle.td_replay.proofs.Matching.{take_parts}
+use Rattle.td_law_replay.proofs.Matching.{take_parts}
 use Rattle.td_world.specs.Calls.{is_known}
 use Rattle.td_world.proofs.Known.{from_op, from_vote, IsPlaced}
 use Rattle.td_world.proofs.Sending.{proposal_of}

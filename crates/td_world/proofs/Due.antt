@@ -17,7 +17,7 @@ use Rattle.td_machine.specs.Machine.{Machine}
 use Rattle.td_machine.specs.History.{machine}
 use Rattle.td_op.specs.Message.{sender, is_for}
 use Rattle.td_machine.proofs.Family.{sent_ops}
-use Rattle.td_replay.proofs.Values.{values_of}
+use Rattle.td_law_replay.proofs.Values.{values_of}
 use Rattle.td_world.specs.World.{WorldValue, Move, IsWorld, IsFit, size, machine_of}
 use Rattle.td_world.specs.World.{family_of, is_sent_by, moved, moved_all}
 use Rattle.td_world.specs.Calls.{is_known, is_ready, is_wanted, next, take, nexts, give_moves}

@@ -24,7 +24,7 @@ use Rattle.td_machine.proofs.Induction.{built_of}
 use Rattle.td_machine.proofs.Parts.{IsBuilt, Part, Makes, Proposes, Takes, Agrees, Declines, vote_here, by_parts}
 use Rattle.td_machine.proofs.Turns.{counted, length_counts}
 use Rattle.td_op.specs.declared.body.Body.TheVariants.{Propose}
-use Rattle.td_replay.proofs.Values.{values_of}
+use Rattle.td_law_replay.proofs.Values.{values_of}
 use Rattle.td_world.specs.World.{WorldValue, IsWorld, size, machine_of, family_of, is_sent_by}
 use Rattle.td_world.proofs.Kept.{reached_in}
 use Rattle.td_world.proofs.Moves.{low, size_family}

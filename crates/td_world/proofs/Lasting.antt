@@ -14,7 +14,7 @@ use Rattle.td_op.specs.declared.reply.Reply.TheVariants.{Made, Cancelled, Held, 
 use Rattle.td_op.specs.declared.reply.Reply.TheVariants.{Later, Repeat, Unfit, Taken, Dropped, Idle}
 use Rattle.td_op.specs.declared.reply.Why.{Why}
 use Rattle.td_machine.specs.Step.{step}
-use Rattle.td_logs.specs.Entries.{EntryOf}
+use Rattle.td_law_logs.specs.Entries.{EntryOf}
 use Rattle.td_replica.specs.Replica.{ReplicaValue}
 use Rattle.td_world.specs.World.{WorldValue, Move, IsWorld, IsFit, size, replica}
 use Rattle.td_world.specs.World.{machine_of, family_of, reply_to, moved, moved_all}

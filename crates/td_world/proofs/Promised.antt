@@ -7,7 +7,7 @@ use Rattle.td_machine.specs.Machine.{Machine}
 use Rattle.td_machine.specs.History.{Moment, history}
 use Rattle.td_order.specs.Show.{shown_atoms}
 use Rattle.td_replica.specs.Replica.{ReplicaValue}
-use Rattle.td_converge.proofs.EveryFamily.{promises, atoms}
+use Rattle.td_law_convergence.proofs.EveryFamily.{promises, atoms}
 use Rattle.td_world.specs.World.{WorldValue, IsWorld, family_of, size}
 use Rattle.td_world.specs.Promises.{IsPromised, AtomsAreShown, TextsAreShown}
 

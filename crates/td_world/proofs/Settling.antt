@@ -155,7 +155,8 @@ module _ (site : ℕ) (old now : WorldValue) (count : ℕ) (within : site ≤ si
           counted = omega (arith, here, both, all, told);
         })
 
-    pub passing_stopped : (new : WorldValue) → IsStopped (give_all_moves site now) now new → IsStopped (pass old) old new
+    pub passing_stopped : (new : WorldValue) → IsStopped (give_all_moves site now) now new
+        → IsStopped (pass old) old new
     passing_stopped new c =
         doing_stopped (pass old)
         (give_all_moves site now ++ pass_from (size old + 1 - (site + 1)) (site + 1)

@@ -43,7 +43,7 @@ use Rattle.td_machine.proofs.Turns.{comes_next}
 use Rattle.td_machine.proofs.Growing.{step_sends}
 use Rattle.td_machine.proofs.Vectors.{bump_same}
 use Rattle.td_machine.proofs.Walk.{offered}
-use Rattle.td_replay.proofs.Matching.{take_parts}
+use Rattle.td_law_replay.proofs.Matching.{take_parts}
 use Rattle.td_world.specs.Calls.{is_known}
 use Rattle.td_world.specs.Parts.{is_dropped}
 use Rattle.td_world.proofs.Known.{repeat_op, repeat_vote, repeat_sized, repeat_fits, from_op, from_vote}

@@ -3,7 +3,7 @@ use Rattle.std.specs.Prelude.{◌≡◌, ◌<◌, ◌≤◌, ℕ, false}
 use Rattle.td_doc.specs.Document.{live_atoms, text_of}
 use Rattle.td_machine.specs.Machine.{undecided}
 use Rattle.td_order.specs.Show.{show, shown_atoms}
-use Rattle.td_converge.specs.Headline.{KeepsPromises}
+use Rattle.td_law_convergence.specs.Headline.{KeepsPromises}
 use Rattle.td_world.specs.World.{WorldValue, size, machine_of, family_of}
 use Rattle.td_world.specs.Calls.{is_ready}
 

@@ -1,6 +1,6 @@
 use Rattle.std.proofs.Common.{◌≡◌, ◌<◌, ◌+◌, true, length, sym, ap, ◌∙◌, arith}
 use Rattle.td_trace.specs.Entries.{is_request_at}
-use Rattle.td_replay.specs.Traced.{site_entries}
+use Rattle.td_law_replay.specs.Traced.{site_entries}
 use Rattle.td_check.proofs.AloneFirst.{first_at}
 use Rattle.td_check.proofs.alone.first_of.Goals as goal
 

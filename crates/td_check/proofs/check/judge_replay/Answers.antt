@@ -1,7 +1,7 @@
 use Rattle.std.proofs.Common.{◌≡◌, ℕ, Option, None, subst, ◌∙◌}
 use Rattle.std.specs.Prelude.{MatchOption}
 use Rattle.td_reader.specs.Values.{TraceValue}
-use Rattle.td_replay.specs.Ended.{VotesWereSent}
+use Rattle.td_law_replay.specs.Ended.{VotesWereSent}
 use Rattle.td_check.specs.Course.{HasRun, AreAllSeen}
 use Rattle.td_check.specs.FirstUnsent.{IsFirstUnsent}
 use Rattle.td_check.specs.Seated.{AreSeated}

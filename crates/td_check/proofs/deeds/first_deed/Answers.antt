@@ -1,7 +1,7 @@
 use Rattle.std.proofs.Common.{◌≤◌, length, subst, arith}
 use Rattle.std.proofs.lemmas.List.{take_all}
 use Rattle.std.specs.List.{AllByRecursion}
-use Rattle.td_replay.specs.Accepted.{IsLogIn}
+use Rattle.td_law_replay.specs.Accepted.{IsLogIn}
 use Rattle.td_check.proofs.deeds.first_deed.Goals as goal
 
 pub loop-editor-preserved : goal.loop-editor-preserved

@@ -1,6 +1,6 @@
 use Rattle.std.proofs.Common.{ℕ, List, take}
 use Rattle.std.specs.List.{AllByRecursion}
-use Rattle.td_replay.specs.Accepted.{IsLogIn}
+use Rattle.td_law_replay.specs.Accepted.{IsLogIn}
 use Rattle.td_check.specs.Looks.{AreLooks, all_seen}
 use Rattle.td_check.proofs.deeds.first_deed.Given as goal
 

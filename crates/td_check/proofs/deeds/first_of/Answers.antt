@@ -5,8 +5,8 @@ use Rattle.td_trace.specs.Editors.{IsDid}
 use Rattle.td_trace.specs.declared.log.Did.{Did}
 use Rattle.td_reader.specs.LineNumbers.{did_count}
 use Rattle.td_reader.specs.Said.{did_of}
-use Rattle.td_replay.specs.Accepted.{IsLogIn}
-use Rattle.td_replay.specs.Traced.{site_entries}
+use Rattle.td_law_replay.specs.Accepted.{IsLogIn}
+use Rattle.td_law_replay.specs.Traced.{site_entries}
 use Rattle.td_check.proofs.DeedsJudged.{deed_not_so, editor_more, home_of_log, log_so, more_so_far, own_deed, own_home}
 use Rattle.td_check.proofs.LooksTold.{did_of_log}
 use Rattle.td_check.specs.Looks.{did_at}

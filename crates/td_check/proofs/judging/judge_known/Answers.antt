@@ -1,4 +1,4 @@
-use Rattle.td_replay.specs.Judging.{outline}
+use Rattle.td_law_replay.specs.Judging.{outline}
 use Rattle.td_check.proofs.Outcomes.{known_judged}
 use Rattle.td_check.proofs.judging.judge_known.Goals as goal
 

@@ -1,7 +1,7 @@
 use Rattle.std.proofs.Common.{◌<◌, ◌+◌, List, ℕ, sym, subst, take}
 use Rattle.td_base.proofs.Places.{take_there}
 use Rattle.td_trace.specs.declared.entry.TraceEntry.{TraceEntry}
-use Rattle.td_replay.specs.Traced.{site_entries}
+use Rattle.td_law_replay.specs.Traced.{site_entries}
 use Rattle.td_seat.specs.Counted.{AreCounted}
 use Rattle.td_seat.specs.declared.counted.Counted.{Counted}
 use Rattle.td_check.proofs.Starting.{not_past}

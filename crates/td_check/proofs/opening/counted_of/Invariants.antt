@@ -1,5 +1,5 @@
 use Rattle.std.proofs.Common.{take}
-use Rattle.td_replay.specs.Traced.{site_entries}
+use Rattle.td_law_replay.specs.Traced.{site_entries}
 use Rattle.td_seat.specs.Counted.{AreCounted}
 use Rattle.td_check.proofs.opening.counted_of.Given as goal
 

@@ -1,7 +1,7 @@
 use Rattle.td_op.specs.declared.input.Input.TheVariants.{Local}
 use Rattle.td_machine.specs.Machine.{Machine}
 use Rattle.td_machine.specs.Step.{step}
-use Rattle.td_replay.specs.Judging.{Steps}
+use Rattle.td_law_replay.specs.Judging.{Steps}
 use Rattle.td_check.proofs.AtSeats.{if_ok_so, in_seats}
 use Rattle.td_check.proofs.seats.asked_at.Goals as goal
 

@@ -2,7 +2,7 @@ use Rattle.std.proofs.Common.{sym, subst}
 use Rattle.td_op.specs.declared.input.Input.TheVariants.{Next}
 use Rattle.td_machine.specs.Machine.{Machine}
 use Rattle.td_machine.specs.Step.{step}
-use Rattle.td_replay.specs.Judging.{Steps}
+use Rattle.td_law_replay.specs.Judging.{Steps}
 use Rattle.td_check.specs.Sites.{IsJudged}
 use Rattle.td_check.proofs.AtSeats.{there_is}
 use Rattle.td_check.proofs.seats.idle_at.Goals as goal

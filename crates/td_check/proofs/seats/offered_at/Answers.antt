@@ -2,8 +2,8 @@ use Rattle.std.proofs.Common.{◌≡◌, List, ℕ, length, subst}
 use Rattle.std.specs.Prelude.{IfSome}
 use Rattle.td_op.specs.Op.{OpValue, IsOp}
 use Rattle.td_machine.specs.Machine.{Machine}
-use Rattle.td_replay.specs.Judging.{judge_offer, outline}
-use Rattle.td_replay.specs.Replies.{is_new}
+use Rattle.td_law_replay.specs.Judging.{judge_offer, outline}
+use Rattle.td_law_replay.specs.Replies.{is_new}
 use Rattle.td_check.proofs.AtSeats.{if_ok_so, in_seats, there_is}
 use Rattle.td_check.proofs.seats.offered_at.Goals as goal
 

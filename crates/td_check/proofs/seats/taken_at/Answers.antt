@@ -3,7 +3,7 @@ use Rattle.std.specs.Prelude.{IfSome}
 use Rattle.td_op.specs.Op.{OpValue}
 use Rattle.td_check.specs.ReplayParts.{IsOutlineAt}
 use Rattle.td_machine.specs.Machine.{Machine}
-use Rattle.td_replay.specs.Judging.{judge_taken}
+use Rattle.td_law_replay.specs.Judging.{judge_taken}
 use Rattle.td_check.proofs.AtSeats.{if_ok_so, in_seats, there_is}
 use Rattle.td_check.proofs.seats.taken_at.Goals as goal
 

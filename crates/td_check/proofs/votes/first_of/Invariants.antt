@@ -1,4 +1,4 @@
-use Rattle.td_replay.specs.Traced.{site_entries}
+use Rattle.td_law_replay.specs.Traced.{site_entries}
 use Rattle.td_check.specs.Unsent.{AreKnownUpto}
 use Rattle.td_check.proofs.votes.first_of.Given as goal
 

@@ -1,5 +1,5 @@
 use Rattle.std.proofs.Common.{length}
-use Rattle.td_meeting.specs.Rows.{AllMatch}
+use Rattle.td_law_meeting.specs.Rows.{AllMatch}
 use Rattle.td_peer.specs.Peers.{Linked, PeersMet}
 use Rattle.td_peer.proofs.meeting.meet_all.Given as goal
 

@@ -2,7 +2,7 @@ use Rattle.std.proofs.Common.{◌≡◌, ◌<◌, ◌≤◌, ◌+◌, ◌-◌, �
 use Rattle.std.proofs.Common.{length, set, sym, ap, subst, rules, arith}
 use Rattle.logbook.specs.Pages.{Book}
 use Rattle.td_view.specs.Values.{ReaderValue}
-use Rattle.td_meeting.specs.Thin.{Loss}
+use Rattle.td_law_meeting.specs.Thin.{Loss}
 use Rattle.td_line.specs.Editors.{EditorValue, IsNewLine}
 use Rattle.td_room.specs.Opening.{AreOpen}
 use Rattle.td_room.proofs.Opens.{there, opens, opened, peers_set}

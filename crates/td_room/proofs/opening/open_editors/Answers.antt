@@ -1,6 +1,6 @@
 use Rattle.std.proofs.Common.{◌≡◌, ◌<◌, ◌≤◌, ◌+◌, ◌∙◌, ◌++◌, ◌∷◌, [], ℕ, List, length, take}
 use Rattle.std.proofs.Common.{drop, get_or, refl, sym, ap, subst, arith}
-use Rattle.td_meeting.specs.Thin.{Loss}
+use Rattle.td_law_meeting.specs.Thin.{Loss}
 use Rattle.td_line.specs.Editors.{EditorValue}
 use Rattle.td_room.specs.Opening.{AreOpen, AreOpened}
 use Rattle.td_room.proofs.Opens.{take_one, drop_one, take_length, take_whole, drop_whole}

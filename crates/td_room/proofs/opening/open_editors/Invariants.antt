@@ -1,5 +1,5 @@
 use Rattle.std.proofs.Common.{◌≡◌, ℕ, [], length, map, take, drop}
-use Rattle.td_meeting.specs.Thin.{Loss}
+use Rattle.td_law_meeting.specs.Thin.{Loss}
 use Rattle.td_room.specs.Workers.{WorkerValue}
 use Rattle.td_room.specs.Opening.{AreOpen, AreOpened}
 use Rattle.td_room.proofs.opening.open_editors.Given as goal

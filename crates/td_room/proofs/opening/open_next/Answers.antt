@@ -1,6 +1,6 @@
 use Rattle.std.proofs.Common.{◌≡◌, ◌+◌, ◌∙◌, ◌++◌, ◌∷◌, [], ℕ, List, length, sym, ap, subst, rules}
 use Rattle.td_view.specs.Values.{ReaderValue}
-use Rattle.td_meeting.specs.Thin.{Loss}
+use Rattle.td_law_meeting.specs.Thin.{Loss}
 use Rattle.td_peer.specs.Opening.{IsFreshRow}
 use Rattle.td_room.specs.Workers.{WorkerValue}
 use Rattle.td_room.specs.Opening.{IsOpen, OpenedNext}

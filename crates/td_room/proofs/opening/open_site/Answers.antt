@@ -1,5 +1,5 @@
 use Rattle.std.proofs.Common.{◌∙◌}
-use Rattle.td_meeting.specs.Thin.{Loss}
+use Rattle.td_law_meeting.specs.Thin.{Loss}
 use Rattle.td_room.proofs.Opens.{open_new}
 use Rattle.td_room.proofs.opening.open_site.Goals as goal
 

@@ -1,5 +1,5 @@
 use Rattle.std.proofs.Common.{◌∙◌, sym}
-use Rattle.td_meeting.specs.Thin.{Loss}
+use Rattle.td_law_meeting.specs.Thin.{Loss}
 use Rattle.td_room.proofs.Opens.{fresh_rows, room_is, all_le, workers_of_rows}
 use Rattle.td_room.proofs.opening.room.Goals as goal
 

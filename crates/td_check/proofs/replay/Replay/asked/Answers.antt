@@ -2,7 +2,7 @@ use Rattle.std.proofs.Common.{length}
 use Rattle.td_op.specs.declared.input.Input.TheVariants.{Local}
 use Rattle.td_machine.specs.Machine.{start}
 use Rattle.td_machine.specs.Step.{step}
-use Rattle.td_replay.specs.Judging.{Steps}
+use Rattle.td_law_replay.specs.Judging.{Steps}
 use Rattle.td_check.specs.Sites.{ReplayValue, histories_of, machine_of}
 use Rattle.td_check.proofs.AtSeats.{if_ok_so, at_replay}
 use Rattle.td_check.proofs.Placing.{with_machines}

@@ -1,5 +1,5 @@
 use Rattle.std.proofs.Common.{◌≡◌, ◌<◌, ◌≤◌, ◌+◌, List, ℕ, length, get_or, set, ap, sym, subst, ◌∙◌}
-use Rattle.td_replay.specs.Traced.{site_entries}
+use Rattle.td_law_replay.specs.Traced.{site_entries}
 use Rattle.td_check.specs.ReplayParts.{IsReplayParts}
 use Rattle.td_check.specs.Sites.{ReplayValue, done_of, histories_of}
 use Rattle.td_check.proofs.Placing.{with_one_more, done_any}

@@ -1,6 +1,6 @@
 use Rattle.std.proofs.Common.{◌≡◌, ◌<◌, ap, subst, ◌∙◌}
 use Rattle.td_base.specs.Value.{DotValue}
-use Rattle.td_replay.specs.Counting.{made_deps}
+use Rattle.td_law_replay.specs.Counting.{made_deps}
 use Rattle.td_check.specs.Sites.{ReplayValue, histories_of}
 use Rattle.td_check.proofs.Told.{told_fit}
 use Rattle.td_check.proofs.replay.Replay.deps.Goals as goal

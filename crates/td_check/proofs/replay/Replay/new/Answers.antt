@@ -1,6 +1,6 @@
 use Rattle.std.proofs.Common.{◌≡◌, ◌≤◌, ◌-◌, List, ℕ, arith, length, ap, refl, replicate, ◌∙◌}
 use Rattle.std.proofs.lemmas.List.{length-replicate}
-use Rattle.td_replay.specs.Traced.{site_entries}
+use Rattle.td_law_replay.specs.Traced.{site_entries}
 use Rattle.td_check.specs.States.{states_in, done_in}
 use Rattle.td_check.proofs.States.{none_done}
 use Rattle.td_check.proofs.Starting.{all_begun}

@@ -1,6 +1,6 @@
 use Rattle.std.proofs.Common.{sym, subst, ◌∙◌}
 use Rattle.std.specs.Result.{IfOk}
-use Rattle.td_replay.specs.Judging.{Judgement}
+use Rattle.td_law_replay.specs.Judging.{Judgement}
 use Rattle.td_check.specs.Sites.{histories_of, machine_of, states_of, IsJudgedAt}
 use Rattle.td_check.specs.declared.judged.Judged.{Judged}
 use Rattle.td_check.proofs.Judgements.{offered_is}

@@ -1,5 +1,5 @@
 use Rattle.std.proofs.Common.{Bool, false}
-use Rattle.td_replay.specs.Rounds.{Course}
+use Rattle.td_law_replay.specs.Rounds.{Course}
 use Rattle.td_check.specs.Course.{HasMoved, all_left}
 use Rattle.td_check.specs.Sites.{histories_of, states_of}
 use Rattle.td_check.proofs.replay.Replay.run.Given as goal

@@ -3,7 +3,7 @@ use Rattle.std.specs.Prelude.{IfSome}
 use Rattle.td_op.specs.Op.{OpValue}
 use Rattle.td_check.specs.ReplayParts.{IsReplayParts, IsOutlineAt}
 use Rattle.td_machine.specs.Machine.{Machine, start}
-use Rattle.td_replay.specs.Judging.{judge_taken}
+use Rattle.td_law_replay.specs.Judging.{judge_taken}
 use Rattle.td_check.specs.Sites.{ReplayValue, histories_of, machine_of}
 use Rattle.td_check.proofs.AtSeats.{if_ok_so, at_replay}
 use Rattle.td_check.proofs.Placing.{with_machines, machine_any}

@@ -3,7 +3,7 @@ use Rattle.td_op.specs.declared.input.Input.TheVariants.{Take}
 use Rattle.td_op.specs.declared.message.Message.TheVariants.{Vote as AVote}
 use Rattle.td_machine.specs.Machine.{start}
 use Rattle.td_machine.specs.Step.{step}
-use Rattle.td_replay.specs.Judging.{Judgement, Steps}
+use Rattle.td_law_replay.specs.Judging.{Judgement, Steps}
 use Rattle.td_check.specs.Sites.{ReplayValue, histories_of, machine_of, states_of, IsJudgedAt}
 use Rattle.td_check.proofs.AtSeats.{if_ok_so, at_replay}
 use Rattle.td_check.proofs.Judgements.{vote_is}

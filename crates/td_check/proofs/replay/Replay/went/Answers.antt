@@ -4,7 +4,7 @@ use Rattle.td_op.specs.declared.input.Input.TheVariants.{Next}
 use Rattle.td_machine.specs.Machine.{Machine, start}
 use Rattle.td_machine.specs.Step.{step}
 use Rattle.std.specs.Result.{IfOk}
-use Rattle.td_replay.specs.Judging.{Judgement, Steps}
+use Rattle.td_law_replay.specs.Judging.{Judgement, Steps}
 use Rattle.td_check.specs.ReplayParts.{IsOutlineAt}
 use Rattle.td_check.specs.Sites.{ReplayValue, histories_of, machine_of, states_of, IsJudged, IsJudgedAt}
 use Rattle.td_check.specs.declared.judged.Judged.{Judged}

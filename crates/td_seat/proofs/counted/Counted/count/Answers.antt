@@ -1,7 +1,7 @@
 use Rattle.std.proofs.Common.{◌≡◌, ℕ, List, ap, ◌∙◌}
 use Rattle.std.proofs.lemmas.Result.{on_ok_weaker}
 use Rattle.td_base.specs.Value.{DotValue}
-use Rattle.td_replay.specs.Counting.{Count, makes, raised, more_yes, more_no}
+use Rattle.td_law_replay.specs.Counting.{Count, makes, raised, more_yes, more_no}
 use Rattle.td_trace.specs.declared.entry.TraceEntry.{TraceEntry}
 use Rattle.td_seat.specs.Votes.{AreVotes}
 use Rattle.td_seat.specs.OwnOps.{with_more}

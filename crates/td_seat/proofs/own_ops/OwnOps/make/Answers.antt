@@ -1,5 +1,5 @@
 use Rattle.std.proofs.Common.{◌≡◌, arith}
-use Rattle.td_replay.specs.Counting.{raised}
+use Rattle.td_law_replay.specs.Counting.{raised}
 use Rattle.td_seat.specs.OwnOps.{with_more}
 use Rattle.td_seat.proofs.OwnParts.{none_more, one_more}
 use Rattle.td_seat.proofs.own_ops.OwnOps.make.Goals as goal

@@ -1,5 +1,5 @@
 use Rattle.std.proofs.Common.{ℕ, List, Option}
-use Rattle.td_replay.specs.Counting.{raised}
+use Rattle.td_law_replay.specs.Counting.{raised}
 use Rattle.td_seat.specs.OwnOps.{AreOwnOps, with_more}
 use Rattle.td_seat.proofs.own_ops.OwnOps.make.Given as goal
 

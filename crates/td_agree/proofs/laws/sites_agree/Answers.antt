@@ -1,8 +1,0 @@
-use Rattle.td_agree.proofs.EveryFamily.{all_edits_meet, all_commits_meet}
-use Rattle.td_agree.proofs.laws.sites_agree.Goals as goal
-
-pub returns-clause-edits : goal.returns-clause-edits
-returns-clause-edits c = all_edits_meet
-
-pub returns-clause-commits : goal.returns-clause-commits
-returns-clause-commits c = all_commits_meet

@@ -1,8 +1,0 @@
-use Rattle.td_converge.proofs.UsedAgain.{commit, consistent}
-use Rattle.td_converge.proofs.examples.a_slot_used_again_in_one_order.Goals as goal
-
-pub returns-clause-consistent : goal.returns-clause-consistent
-returns-clause-consistent c = consistent
-
-pub returns-clause-commit : goal.returns-clause-commit
-returns-clause-commit c = commit

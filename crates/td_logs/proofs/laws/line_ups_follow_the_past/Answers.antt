@@ -1,5 +1,0 @@
-use Rattle.td_logs.proofs.WellRooted.{part_past}
-use Rattle.td_logs.proofs.laws.line_ups_follow_the_past.Goals as goal
-
-pub returns : goal.returns
-returns c = part_past

@@ -1,5 +1,0 @@
-use Rattle.td_logs.proofs.WellRooted.{moment_part}
-use Rattle.td_logs.proofs.laws.logs_are_parts.Goals as goal
-
-pub returns : goal.returns
-returns c = moment_part

@@ -1,5 +1,0 @@
-use Rattle.td_logs.proofs.Moments.{moment_log}
-use Rattle.td_logs.proofs.laws.logs_of_moments.Goals as goal
-
-pub returns : goal.returns
-returns c = moment_log

@@ -1,5 +1,0 @@
-use Rattle.td_replay.proofs.Shown.{shows_all}
-use Rattle.td_replay.proofs.laws.a_replay_shows_a_consistent_family.Goals as goal
-
-pub returns : goal.returns
-returns c = shows_all

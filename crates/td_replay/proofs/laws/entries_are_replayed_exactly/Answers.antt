@@ -1,5 +1,0 @@
-use Rattle.td_replay.proofs.Exactly.{exactly}
-use Rattle.td_replay.proofs.laws.entries_are_replayed_exactly.Goals as goal
-
-pub returns : goal.returns
-returns c = exactly

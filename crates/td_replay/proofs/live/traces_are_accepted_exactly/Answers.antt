@@ -1,5 +1,0 @@
-use Rattle.td_replay.proofs.Accepting.{accepted_exactly}
-use Rattle.td_replay.proofs.live.traces_are_accepted_exactly.Goals as goal
-
-pub returns : goal.returns
-returns c = accepted_exactly
