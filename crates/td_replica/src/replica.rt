@@ -1,9 +1,9 @@
-ghost use Rattle.std.specs.Prelude.{◌≡◌, ◌≤◌, IfOk, OnOk, OnErr};
+ghost use Rattle.std.specs.Prelude.{◌≡◌, ◌≤◌, IfOk};
 ghost use Rattle.td_base.specs.declared.site.TheConstants.{MAX_SITE};
 ghost use Rattle.td_op.specs.declared.input.Input.TheVariants.{Local, Take, Next};
 ghost use Rattle.td_op.specs.declared.request.Request.TheVariants.{Insert, InsertAfter, Paste, PasteAfter, Delete, DeleteAtom, Propose, ProposeAt, Cancel};
-ghost use Rattle.td_machine.specs.Step.{step};
-ghost use Rattle.td_replica.specs.Replica.{new_replica, after_step};
+ghost use Rattle.td_replica.specs.Calls.{IsStepOf};
+ghost use Rattle.td_replica.specs.Replica.{new_replica};
 
 use crate::last_change::LastChange;
 use crate::state::State;
@@ -50,18 +50,14 @@ impl<D: Doc> Replica<D> {
 
     /// One step of the machine. The input and the reply are the last entry of the history then.
     pub fn step(&mut self, input: Input) -> Result<Reply, Memory>
-        ensures reply { IfOk result (λ reply. reply ≡ (step self.old.machine input).reply) }
-        ensures ok { OnOk result (self.new ≡ after_step input self.old) }
-        ensures err { OnErr result (self.new ≡ self.old) }
+        ensures { IsStepOf input self.old result self.new }
     {
         self.step_on(&input)
     }
 
     /// The same, of an input that is lent: one has some hundreds of bytes.
     pub fn step_on(&mut self, input: &Input) -> Result<Reply, Memory>
-        ensures reply { IfOk result (λ reply. reply ≡ (step self.old.machine input.now).reply) }
-        ensures ok { OnOk result (self.new ≡ after_step input.now self.old) }
-        ensures err { OnErr result (self.new ≡ self.old) }
+        ensures { IsStepOf input.now self.old result self.new }
     {
         input.is_in_range();
         let done = self.state.answer_input(input)?;
@@ -79,107 +75,83 @@ impl<D: Doc> Replica<D> {
 
     /// Puts the atom at the index, as far as the end. Replies Made, Position, Held or Limit.
     pub fn insert(&mut self, index: u32, atom: Atom) -> Result<Reply, Memory>
-        ensures reply { IfOk result (λ reply. reply ≡ (step self.old.machine (Local (Insert index atom))).reply) }
-        ensures ok { OnOk result (self.new ≡ after_step (Local (Insert index atom)) self.old) }
-        ensures err { OnErr result (self.new ≡ self.old) }
+        ensures { IsStepOf (Local (Insert index atom)) self.old result self.new }
     {
         self.request(Request::Insert { index, atom })
     }
 
     /// Puts the atom right after the live one, or at the start. Replies Made, Gone, Held or Limit.
     pub fn insert_after(&mut self, after: Option<AtomId>, atom: Atom) -> Result<Reply, Memory>
-        ensures reply { IfOk result (λ reply. reply ≡ (step self.old.machine (Local (InsertAfter after atom))).reply) }
-        ensures ok { OnOk result (self.new ≡ after_step (Local (InsertAfter after atom)) self.old) }
-        ensures err { OnErr result (self.new ≡ self.old) }
+        ensures { IsStepOf (Local (InsertAfter after atom)) self.old result self.new }
     {
         self.request(Request::InsertAfter { after, atom })
     }
 
     /// Puts the atoms of the run at the index, as far as the end. Replies Made, Position, Held or Limit.
     pub fn paste(&mut self, index: u32, run: Run) -> Result<Reply, Memory>
-        ensures reply { IfOk result (λ reply. reply ≡ (step self.old.machine (Local (Paste index run))).reply) }
-        ensures ok { OnOk result (self.new ≡ after_step (Local (Paste index run)) self.old) }
-        ensures err { OnErr result (self.new ≡ self.old) }
+        ensures { IsStepOf (Local (Paste index run)) self.old result self.new }
     {
         self.request(Request::Paste { index, run })
     }
 
     /// Puts the atoms of the run right after the live one, or at the start. Replies Made, Gone, Held or Limit.
     pub fn paste_after(&mut self, after: Option<AtomId>, run: Run) -> Result<Reply, Memory>
-        ensures reply { IfOk result (λ reply. reply ≡ (step self.old.machine (Local (PasteAfter after run))).reply) }
-        ensures ok { OnOk result (self.new ≡ after_step (Local (PasteAfter after run)) self.old) }
-        ensures err { OnErr result (self.new ≡ self.old) }
+        ensures { IsStepOf (Local (PasteAfter after run)) self.old result self.new }
     {
         self.request(Request::PasteAfter { after, run })
     }
 
     /// Deletes the live atom at the index. Replies Made, Position, Held or Limit.
     pub fn delete(&mut self, index: u32) -> Result<Reply, Memory>
-        ensures reply { IfOk result (λ reply. reply ≡ (step self.old.machine (Local (Delete index))).reply) }
-        ensures ok { OnOk result (self.new ≡ after_step (Local (Delete index)) self.old) }
-        ensures err { OnErr result (self.new ≡ self.old) }
+        ensures { IsStepOf (Local (Delete index)) self.old result self.new }
     {
         self.request(Request::Delete { index })
     }
 
     /// Deletes the live atom. Replies Made, Gone, Held or Limit.
     pub fn delete_atom(&mut self, id: AtomId) -> Result<Reply, Memory>
-        ensures reply { IfOk result (λ reply. reply ≡ (step self.old.machine (Local (DeleteAtom id))).reply) }
-        ensures ok { OnOk result (self.new ≡ after_step (Local (DeleteAtom id)) self.old) }
-        ensures err { OnErr result (self.new ≡ self.old) }
+        ensures { IsStepOf (Local (DeleteAtom id)) self.old result self.new }
     {
         self.request(Request::DeleteAtom { id })
     }
 
     /// Proposes to flatten the slot. Replies Made, Gone, Held or Limit.
     pub fn propose(&mut self, slot: Slot) -> Result<Reply, Memory>
-        ensures reply { IfOk result (λ reply. reply ≡ (step self.old.machine (Local (Propose slot))).reply) }
-        ensures ok { OnOk result (self.new ≡ after_step (Local (Propose slot)) self.old) }
-        ensures err { OnErr result (self.new ≡ self.old) }
+        ensures { IsStepOf (Local (Propose slot)) self.old result self.new }
     {
         self.request(Request::Propose { slot })
     }
 
     /// Proposes to flatten the slot on this side of the live atom at the index. Replies Made, Position, Held or Limit.
     pub fn propose_at(&mut self, index: u32, bit: Bit) -> Result<Reply, Memory>
-        ensures reply { IfOk result (λ reply. reply ≡ (step self.old.machine (Local (ProposeAt index bit))).reply) }
-        ensures ok { OnOk result (self.new ≡ after_step (Local (ProposeAt index bit)) self.old) }
-        ensures err { OnErr result (self.new ≡ self.old) }
+        ensures { IsStepOf (Local (ProposeAt index bit)) self.old result self.new }
     {
         self.request(Request::ProposeAt { index, bit })
     }
 
     /// Gives up an own proposal. Replies Cancelled or NotOpen.
     pub fn cancel(&mut self, proposal: Dot) -> Result<Reply, Memory>
-        ensures reply { IfOk result (λ reply. reply ≡ (step self.old.machine (Local (Cancel proposal))).reply) }
-        ensures ok { OnOk result (self.new ≡ after_step (Local (Cancel proposal)) self.old) }
-        ensures err { OnErr result (self.new ≡ self.old) }
+        ensures { IsStepOf (Local (Cancel proposal)) self.old result self.new }
     {
         self.request(Request::Cancel { proposal })
     }
 
     fn request(&mut self, request: Request) -> Result<Reply, Memory>
-        ensures reply { IfOk result (λ reply. reply ≡ (step self.old.machine (Local request)).reply) }
-        ensures ok { OnOk result (self.new ≡ after_step (Local request) self.old) }
-        ensures err { OnErr result (self.new ≡ self.old) }
+        ensures { IsStepOf (Local request) self.old result self.new }
     {
         self.step(Input::Local(request))
     }
 
     /// Takes a message of another site. Replies New, Later, Repeat or Unfit.
     pub fn take(&mut self, message: Message) -> Result<Reply, Memory>
-        ensures reply { IfOk result (λ reply. reply ≡ (step self.old.machine (Take message)).reply) }
-        ensures ok { OnOk result (self.new ≡ after_step (Take message) self.old) }
-        ensures err { OnErr result (self.new ≡ self.old) }
+        ensures { IsStepOf (Take message) self.old result self.new }
     {
         self.step(Input::Take(message))
     }
 
     /// Takes the least ready operation of those that wait. Replies Taken, Dropped or Idle.
     pub fn next(&mut self) -> Result<Reply, Memory>
-        ensures reply { IfOk result (λ reply. reply ≡ (step self.old.machine (Next)).reply) }
-        ensures ok { OnOk result (self.new ≡ after_step (Next) self.old) }
-        ensures err { OnErr result (self.new ≡ self.old) }
+        ensures { IsStepOf Next self.old result self.new }
     {
         self.step(Input::Next)
     }
