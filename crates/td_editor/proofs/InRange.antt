@@ -43,7 +43,8 @@ use Rattle.td_machine.proofs.Aims.{FitsAim, aimed}
 use Rattle.td_machine.proofs.Changes.{none_over, one_over, two_over}
 use Rattle.td_machine.proofs.Documents.{documents, fresh_next}
 use Rattle.td_machine.proofs.Induction.{IsBuiltSomewhere, built_of}
-use Rattle.td_machine.proofs.Parts.{MayMake, IsBuilt, IsDone, Own, Other}
+use Rattle.td_machine.specs.Parts.{MayMake, IsBuilt}
+use Rattle.td_machine.proofs.Parts.{IsDone, Own, Other}
 use Rattle.td_machine.proofs.StepKinds.{by_kinds}
 use Rattle.td_machine.proofs.Turns.{comes_next}
 use Rattle.td_machine.proofs.Walk.{offered}

@@ -11,8 +11,7 @@ use Rattle.td_machine.specs.Machine.{Machine, start}
 use Rattle.td_machine.specs.Shown.{changed_by}
 use Rattle.td_machine.specs.Step.{step}
 use Rattle.td_machine.proofs.Changes.{changes}
-use Rattle.td_machine.proofs.Induction.{Anything}
-use Rattle.td_machine.proofs.Parts.{IsBuilt}
+use Rattle.td_machine.specs.Parts.{Anything, IsBuilt}
 use Rattle.td_machine.proofs.Turns.{placed}
 use Rattle.td_machine.proofs.Walk.{built_step}
 use Rattle.td_replica.specs.Replica.{ReplicaValue, IsReplica, after_step}

@@ -16,8 +16,7 @@ use Rattle.td_machine.specs.History.{Family, History, Moment, history, history_a
 use Rattle.td_machine.specs.History.{after, known_of, IsAddressed, IsLegal, IsLegalFrom, IsConsistent, MayCome}
 use Rattle.td_machine.specs.Machine.{Machine, start, made}
 use Rattle.td_machine.specs.Step.{step}
-use Rattle.td_machine.proofs.Induction.{Anything}
-use Rattle.td_machine.proofs.Parts.{IsBuilt, Begins}
+use Rattle.td_machine.specs.Parts.{Anything, IsBuilt, Begins}
 use Rattle.td_machine.proofs.Turns.{placed}
 use Rattle.td_machine.proofs.Walk.{built_step}
 use Rattle.td_law_convergence.specs.Headline.{KeepsPromises}

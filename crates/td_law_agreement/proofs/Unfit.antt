@@ -55,7 +55,7 @@ use Rattle.td_machine.specs.History.{after, history, machine, machine_after}
 use Rattle.td_base.proofs.Elements.{either}
 use Rattle.td_base.proofs.Equals.{same_dot_refl}
 use Rattle.td_machine.proofs.StepKinds.{least_in}
-use Rattle.td_machine.proofs.Parts.{IsOffered, IsBuilt}
+use Rattle.td_machine.specs.Parts.{IsOffered, IsBuilt}
 use Rattle.td_machine.proofs.Walk.{offered}
 use Rattle.td_machine.proofs.Turns.{length_have}
 use Rattle.td_machine.proofs.Induction.{IsSent, sent_of, the_end, built_at}

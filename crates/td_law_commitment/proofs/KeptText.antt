@@ -19,7 +19,7 @@ use Rattle.td_machine.specs.Taking.{Stepped, take_as, answer, vote_on, forget}
 use Rattle.td_machine.specs.Step.{step}
 use Rattle.td_machine.specs.History.{Family, IsConsistent}
 use Rattle.td_machine.proofs.StepKinds.{by_kinds}
-use Rattle.td_machine.proofs.Parts.{proposed_here}
+use Rattle.td_machine.specs.Parts.{proposed_here}
 use Rattle.td_machine.specs.Replay.{doc_of}
 use Rattle.td_law_logs.specs.Entries.{machine_before, machine_then}
 use Rattle.td_law_logs.proofs.Moments.{moment_before, entry_log}

@@ -23,9 +23,10 @@ use Rattle.td_machine.specs.Making.{done, make}
 use Rattle.td_machine.specs.Decision.{revise, counted as counted_vote}
 use Rattle.td_machine.specs.Taking.{answer, vote_on, keep_waiting, forget}
 use Rattle.td_machine.specs.History.{History, Family, IsConsistent, after, history, machine, machine_after}
-use Rattle.td_machine.proofs.Parts.{MayMake, IsOpenAt, IsFit, IsCounting, IsBuilt, Goes, Part, Makes}
-use Rattle.td_machine.proofs.Parts.{Proposes, Counts, Takes, Agrees, Declines, Delays, Forgets, IsDone}
-use Rattle.td_machine.proofs.Parts.{Own, Other, Begins, proposed_here, by_parts}
+use Rattle.td_machine.specs.Parts.{MayMake, IsOpenAt, IsFit, IsCounting, IsBuilt, Goes, Part, Makes, Proposes, Counts}
+use Rattle.td_machine.specs.Parts.{Takes, Agrees, Declines, Delays, Forgets, Begins, proposed_here}
+use Rattle.td_machine.proofs.Parts.{IsDone}
+use Rattle.td_machine.proofs.Parts.{Own, Other, by_parts}
 use Rattle.td_machine.proofs.Turns.{counted, comes_next}
 use Rattle.td_machine.proofs.Induction.{IsSent, built_at}
 use Rattle.td_machine.proofs.Ballots.{find_ballot}

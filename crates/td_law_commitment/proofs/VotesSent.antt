@@ -16,8 +16,8 @@ use Rattle.td_machine.specs.Decision.{Ballot, is_on, counted, revise, close, new
 use Rattle.td_machine.specs.Machine.{Machine, next_op, next_dot}
 use Rattle.td_machine.specs.Making.{make, ballots_after}
 use Rattle.td_machine.specs.History.{History, Family, IsConsistent, history, machine, machine_after}
-use Rattle.td_machine.proofs.Parts.{IsFit, IsBuilt, Part, Makes, Proposes, Counts, Takes}
-use Rattle.td_machine.proofs.Parts.{Agrees, Declines, vote_here, by_parts}
+use Rattle.td_machine.specs.Parts.{IsFit, IsBuilt, Part, Makes, Proposes, Counts, Takes, Agrees, Declines, vote_here}
+use Rattle.td_machine.proofs.Parts.{by_parts}
 use Rattle.td_machine.proofs.Turns.{placed}
 use Rattle.td_machine.proofs.Holding.{proposal_is}
 use Rattle.td_machine.proofs.Induction.{the_end, built_at}

@@ -24,7 +24,8 @@ use Rattle.td_machine.specs.Replay.{doc_of}
 use Rattle.td_machine.specs.Taking.{body_misfit}
 use Rattle.td_machine.specs.History.{History, Family, Moment, IsConsistent, machine_at}
 use Rattle.td_machine.specs.History.{history, machine, machine_after, log_of}
-use Rattle.td_machine.proofs.Parts.{MayMake, IsOpenAt, IsBuilt, IsDone, Own, Other}
+use Rattle.td_machine.specs.Parts.{MayMake, IsOpenAt, IsBuilt}
+use Rattle.td_machine.proofs.Parts.{IsDone, Own, Other}
 use Rattle.td_machine.proofs.Turns.{placed, counted, by_each}
 use Rattle.td_machine.proofs.Documents.{logged, documents}
 use Rattle.td_machine.proofs.Holding.{IsHolding, holding, open_held}

@@ -7,8 +7,9 @@ use Rattle.td_op.specs.declared.message.Message.TheVariants.{Op, Vote}
 use Rattle.td_op.specs.declared.body.Body.TheVariants.{Propose}
 use Rattle.td_machine.specs.Machine.{Machine, next_op}
 use Rattle.td_op.specs.Message.{sender}
-use Rattle.td_machine.proofs.Parts.{IsBuilt, Part, Makes, Proposes, Counts, Takes, Agrees}
-use Rattle.td_machine.proofs.Parts.{Declines, Delays, Forgets, vote_here, by_parts}
+use Rattle.td_machine.specs.Parts.{IsBuilt, Part, Makes, Proposes, Counts, Takes, Agrees, Declines, Delays, Forgets}
+use Rattle.td_machine.specs.Parts.{vote_here}
+use Rattle.td_machine.proofs.Parts.{by_parts}
 
 abbrev pub SendsOwn : Machine → Type 0
 SendsOwn m = (message : Message) → In message m.sent → sender message ≡ m.site

@@ -26,11 +26,12 @@ use Rattle.td_machine.specs.Request.{perform}
 use Rattle.td_machine.specs.Step.{step}
 use Rattle.td_machine.specs.History.{History, Family, IsReached, IsLegalFrom, after, history_at}
 use Rattle.td_machine.proofs.StepKinds.{by_kinds}
-use Rattle.td_machine.proofs.Parts.{IsBuilt, IsDone, Own, Other}
+use Rattle.td_machine.specs.Parts.{IsBuilt, Anything}
+use Rattle.td_machine.proofs.Parts.{IsDone, Own, Other}
 use Rattle.td_machine.proofs.Walk.{built_step}
 use Rattle.td_machine.proofs.Turns.{placed, counted, by_each, length_counts}
 use Rattle.td_machine.proofs.Counting.{older_in_turn, found, Found}
-use Rattle.td_machine.proofs.Induction.{Anything, IsBuiltSomewhere, built_of, reached_step}
+use Rattle.td_machine.proofs.Induction.{IsBuiltSomewhere, built_of, reached_step}
 use Rattle.td_machine.proofs.Reached.{waits_of_sites, counted_of, of_sites}
 use Rattle.td_machine.proofs.Family.{counted_had, unique}
 use Rattle.td_trace.specs.Entries.{traced, traced_history, traced_family, told_of}

@@ -42,11 +42,12 @@ use Rattle.td_machine.specs.Taking.{Stepped, take, forget}
 use Rattle.td_machine.specs.Request.{Aim, Refuse, Do, GiveUp, aim, perform, live_aim}
 use Rattle.td_machine.specs.Request.{delete_aim, propose_aim, cancel_aim, len}
 use Rattle.td_machine.specs.History.{IsReached}
-use Rattle.td_machine.proofs.Parts.{IsBuilt, IsDone, Own, Other, MayMake, IsOpenAt}
+use Rattle.td_machine.specs.Parts.{IsBuilt, MayMake, IsOpenAt, Anything}
+use Rattle.td_machine.proofs.Parts.{IsDone, Own, Other}
 use Rattle.td_machine.proofs.Walk.{offered}
 use Rattle.td_machine.proofs.Turns.{counted, by_each, length_counts}
 use Rattle.td_machine.proofs.Counting.{older_in_turn}
-use Rattle.td_machine.proofs.Induction.{Anything, IsBuiltSomewhere, built_of, by_steps}
+use Rattle.td_machine.proofs.Induction.{IsBuiltSomewhere, built_of, by_steps}
 use Rattle.td_machine.proofs.Naming.{sound, names}
 use Rattle.td_machine.proofs.OwnProposals.{open_proposed, proposal_in}
 use Rattle.td_machine.proofs.Ballots.{find_ballot}

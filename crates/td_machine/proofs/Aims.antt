@@ -25,7 +25,7 @@ use Rattle.td_machine.specs.Machine.{Machine}
 use Rattle.td_machine.specs.Request.{Aim, Refuse, Do, GiveUp, aim, insert_aim, insert_aim_at, insert_aim_after}
 use Rattle.td_machine.specs.Request.{delete_aim, propose_aim, propose_aim_of, live_aim, cancel_aim, len}
 use Rattle.td_base.proofs.Elements.{either, In-slice_get}
-use Rattle.td_machine.proofs.Parts.{RoomFor, IsOpenAt, MayMake}
+use Rattle.td_machine.specs.Parts.{RoomFor, IsOpenAt, MayMake}
 use Rattle.std.proofs.lemmas.Option.{same_Some}
 
 abbrev pub FitsAim : Machine → Aim → Type 0

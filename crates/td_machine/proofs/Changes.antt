@@ -27,7 +27,8 @@ use Rattle.td_machine.specs.Taking.{Stepped, answer, body_misfit, vote_on, take_
 use Rattle.td_machine.specs.Request.{Aim, Do, aim, perform}
 use Rattle.td_machine.specs.Shown.{change_by, changed_by, op_over, change_between}
 use Rattle.td_machine.specs.Step.{step}
-use Rattle.td_machine.proofs.Parts.{MayMake, IsPlacing, IsBuilt, IsDone, Own, Other}
+use Rattle.td_machine.specs.Parts.{MayMake, IsPlacing, IsBuilt}
+use Rattle.td_machine.proofs.Parts.{IsDone, Own, Other}
 use Rattle.td_machine.proofs.Aims.{FitsAim, aimed}
 use Rattle.td_machine.proofs.StepKinds.{by_kinds}
 use Rattle.td_machine.proofs.Documents.{documents, fresh_next}

@@ -34,7 +34,8 @@ use Rattle.td_machine.specs.Counts.{IsNext}
 use Rattle.td_machine.specs.Machine.{Machine}
 use Rattle.td_machine.specs.Making.{effect, flatten_found}
 use Rattle.td_machine.specs.Replay.{doc_of}
-use Rattle.td_machine.proofs.Parts.{IsBuilt, by_operations}
+use Rattle.td_machine.specs.Parts.{IsBuilt}
+use Rattle.td_machine.proofs.Parts.{by_operations}
 use Rattle.td_machine.proofs.Turns.{comes_next}
 use Rattle.td_machine.proofs.Vectors.{bump_same, bump_covers}
 

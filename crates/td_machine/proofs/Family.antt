@@ -23,8 +23,8 @@ use Rattle.td_machine.specs.Machine.{Machine, next_op}
 use Rattle.td_machine.specs.History.{Family, Moment, IsConsistent, IsOpOf, machine_at, log_of}
 use Rattle.td_base.proofs.Elements.{In-behind, cut_at, CutAt}
 use Rattle.td_machine.proofs.Vectors.{bump_covers}
-use Rattle.td_machine.proofs.Parts.{Part, Makes, Proposes, Takes, Agrees, Declines}
-use Rattle.td_machine.proofs.Parts.{IsBuilt, IsDone, Own, Other, by_parts}
+use Rattle.td_machine.specs.Parts.{Part, Makes, Proposes, Takes, Agrees, Declines, IsBuilt}
+use Rattle.td_machine.proofs.Parts.{IsDone, Own, Other, by_parts}
 use Rattle.td_machine.proofs.Turns.{length_counts, placed, counted, by_each}
 use Rattle.td_machine.proofs.Counting.{total, older_in_turn, numbered, past_found, Found}
 use Rattle.td_machine.proofs.Naming.{IsSound, sound, names}

@@ -30,7 +30,7 @@ use Rattle.td_machine.specs.History.{with_entry, with_entry_at, IsLegal, IsConsi
 use Rattle.td_op.specs.Message.{sender}
 use Rattle.td_base.proofs.Elements.{same_head, same_tail}
 use Rattle.td_machine.proofs.StepKinds.{by_kinds}
-use Rattle.td_machine.proofs.Parts.{proposed_here}
+use Rattle.td_machine.specs.Parts.{proposed_here}
 use Rattle.td_machine.proofs.Induction.{after_both, legal_both}
 
 -- ---- a step only adds to what was sent

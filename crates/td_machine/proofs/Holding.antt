@@ -38,8 +38,9 @@ use Rattle.td_machine.specs.Taking.{body_misfit, vote_on}
 use Rattle.td_machine.proofs.Vectors.{bump_same, bump_covers}
 use Rattle.td_base.proofs.Equals.{same_dot_refl, same_dot_true, same_dot_other}
 use Rattle.td_machine.proofs.Ballots.{find_ballot, closed_in, counted_in}
-use Rattle.td_machine.proofs.Parts.{MayMake, IsProposing, IsOpenAt, IsBuilt, Goes, Part, Makes, Proposes, Counts}
-use Rattle.td_machine.proofs.Parts.{Takes, Agrees, Declines, Own, Other, proposed_here, by_parts}
+use Rattle.td_machine.specs.Parts.{MayMake, IsProposing, IsOpenAt, IsBuilt, Goes, Part, Makes, Proposes, Counts, Takes}
+use Rattle.td_machine.specs.Parts.{Agrees, Declines, proposed_here}
+use Rattle.td_machine.proofs.Parts.{Own, Other, by_parts}
 use Rattle.td_machine.proofs.Turns.{comes_next}
 use Rattle.std.proofs.lemmas.Option.{same_Some}
 use Rattle.td_base.proofs.Elements.{one_more, successive_among}

@@ -15,7 +15,7 @@ use Rattle.td_machine.specs.Step.{step}
 use Rattle.td_machine.specs.History.{History, Family, Moment, after, history, machine, machine_after, machine_at}
 use Rattle.td_machine.specs.History.{log_of, IsLegalFrom, IsReached, IsConsistent, IsAddressed, MayCome}
 use Rattle.td_op.specs.Message.{sender}
-use Rattle.td_machine.proofs.Parts.{IsBuilt, Begins}
+use Rattle.td_machine.specs.Parts.{Anything, IsBuilt, Begins}
 use Rattle.td_machine.proofs.Walk.{built_step, step_grows}
 
 -- ---- histories
@@ -73,9 +73,6 @@ by_steps P begins keeps m r =
         onward (step n e.input).machine (reached_step n e.input q legal.0) (keeps n e.input q legal.0 h) entries legal.2
 
 -- so each machine that is reached is built of parts
-abbrev pub Anything : Message → Type 0
-Anything message = Unit {0}
-
 pub record IsBuiltSomewhere (m : Machine) : Type 0 where
   pub site : ℕ
   pub size : ℕ

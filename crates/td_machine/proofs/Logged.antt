@@ -36,7 +36,7 @@ use Rattle.td_machine.specs.Request.{Aim, Refuse, Do, GiveUp, aim, is_past_limit
 use Rattle.td_machine.specs.Step.{step}
 use Rattle.td_machine.specs.History.{History, IsLegal, IsLegalFrom, after}
 use Rattle.td_machine.specs.Logged.{IsLogged, MakesOp, TakesOp, ResumesOp}
-use Rattle.td_machine.proofs.Parts.{proposed_here}
+use Rattle.td_machine.specs.Parts.{proposed_here}
 
 -- ---- what is made is sent
 

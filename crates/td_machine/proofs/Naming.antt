@@ -27,8 +27,8 @@ use Rattle.td_machine.specs.Making.{ballots_after}
 use Rattle.td_base.proofs.Elements.{one_more, some_of, cut_at, CutAt}
 use Rattle.std.proofs.lemmas.Option.{same_Some}
 use Rattle.td_machine.proofs.Ballots.{find_ballot, revised_in, counted_in}
-use Rattle.td_machine.proofs.Parts.{IsOpenAt, MayMake, Part, Makes, Proposes, Counts, Takes, Agrees, Declines}
-use Rattle.td_machine.proofs.Parts.{IsBuilt, IsDone, Own, Other, by_parts, by_operations}
+use Rattle.td_machine.specs.Parts.{IsOpenAt, MayMake, Part, Makes, Proposes, Counts, Takes, Agrees, Declines, IsBuilt}
+use Rattle.td_machine.proofs.Parts.{IsDone, Own, Other, by_parts, by_operations}
 use Rattle.td_machine.proofs.Turns.{length_counts, placed, counted, length_have, comes_next, by_each}
 use Rattle.td_machine.proofs.Counting.{older_in_turn}
 use Rattle.td_machine.proofs.Documents.{documents, after_effect}

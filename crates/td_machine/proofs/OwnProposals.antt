@@ -28,8 +28,9 @@ use Rattle.td_machine.specs.Taking.{body_misfit}
 use Rattle.td_machine.specs.Hold.{is_held, is_of}
 use Rattle.td_machine.proofs.Vectors.{bump_same, bump_covers}
 use Rattle.td_machine.proofs.Ballots.{find_ballot, closed_in, counted_in, revised_in}
-use Rattle.td_machine.proofs.Parts.{IsProposing, IsOpenAt, MayMake, IsFit, Part, proposed_here, Delays, Forgets}
-use Rattle.td_machine.proofs.Parts.{Makes, Proposes, Counts, Takes, Agrees, Declines, IsBuilt, Own, Other, by_parts}
+use Rattle.td_machine.specs.Parts.{IsProposing, IsOpenAt, MayMake, IsFit, Part, proposed_here, Delays, Forgets, Makes}
+use Rattle.td_machine.specs.Parts.{Proposes, Counts, Takes, Agrees, Declines, IsBuilt}
+use Rattle.td_machine.proofs.Parts.{Own, Other, by_parts}
 use Rattle.td_machine.proofs.Holding.{holding}
 use Rattle.td_machine.proofs.Turns.{counted as in_turn, comes_next}
 

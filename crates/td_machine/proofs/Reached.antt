@@ -16,7 +16,7 @@ use Rattle.td_machine.specs.Machine.{Machine, made, undecided}
 use Rattle.td_machine.specs.Replay.{doc_of}
 use Rattle.td_machine.specs.History.{IsReached}
 use Rattle.td_base.proofs.Elements.{cut_at, CutAt}
-use Rattle.td_machine.proofs.Parts.{RoomFor, IsOffered, IsBuilt}
+use Rattle.td_machine.specs.Parts.{RoomFor, IsOffered, IsBuilt, Anything}
 use Rattle.td_machine.proofs.Walk.{offered}
 use Rattle.td_machine.proofs.Turns.{length_counts, counted}
 use Rattle.td_machine.proofs.Counting.{total, older_in_turn, numbered, past_found, Found}
@@ -29,7 +29,7 @@ use Rattle.td_machine.specs.Decision.{Ballot, is_open}
 use Rattle.td_machine.specs.Log.{proposed_slot, decision}
 use Rattle.std.specs.Option.{is_some}
 use Rattle.td_machine.proofs.Room.{room}
-use Rattle.td_machine.proofs.Induction.{Anything, IsBuiltSomewhere, built_of}
+use Rattle.td_machine.proofs.Induction.{IsBuiltSomewhere, built_of}
 
 module _ (m : Machine) (r : IsReached m) where
   abbrev somewhere : IsBuiltSomewhere m

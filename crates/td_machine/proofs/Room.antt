@@ -10,8 +10,9 @@ use Rattle.td_machine.specs.Machine.{Machine, start, made, undecided}
 use Rattle.td_machine.specs.Making.{ballots_after, done, make}
 use Rattle.td_machine.proofs.Vectors.{bump_same, bump_other}
 use Rattle.td_machine.proofs.Ballots.{close_fewer, closes, counted_fewer}
-use Rattle.td_machine.proofs.Parts.{RoomFor, IsFit, MayMake, Part, Makes, Proposes, Counts, Takes}
-use Rattle.td_machine.proofs.Parts.{Agrees, Declines, IsBuilt, proposed_here, by_parts}
+use Rattle.td_machine.specs.Parts.{RoomFor, IsFit, MayMake, Part, Makes, Proposes, Counts, Takes, Agrees, Declines}
+use Rattle.td_machine.specs.Parts.{IsBuilt, proposed_here}
+use Rattle.td_machine.proofs.Parts.{by_parts}
 use Rattle.td_machine.proofs.Turns.{placed, length_have}
 
 fewer : (body : Body) (ballots : List Ballot) → count_open (ballots_after body ballots) ≤ count_open ballots

@@ -12,7 +12,8 @@ use Rattle.td_machine.specs.Ready.{is_had}
 use Rattle.td_machine.specs.Counts.{counts, IsNext, IsInTurn}
 use Rattle.td_machine.specs.Machine.{Machine}
 use Rattle.td_base.proofs.Elements.{same_head, same_tail}
-use Rattle.td_machine.proofs.Parts.{IsFit, IsBuilt, IsDone, Own, Other, by_operations}
+use Rattle.td_machine.specs.Parts.{IsFit, IsBuilt}
+use Rattle.td_machine.proofs.Parts.{IsDone, Own, Other, by_operations}
 
 pub length_counts : (n : ℕ) (log : List OpValue) → length (counts n log) ≡ n
 length_counts n [] = length-replicate n 0

@@ -28,8 +28,9 @@ use Rattle.td_machine.specs.Taking.{Stepped, answer, body_misfit, misfit, vote_o
 use Rattle.td_machine.specs.Request.{Aim, Do, GiveUp, aim, perform}
 use Rattle.td_machine.specs.Step.{step}
 use Rattle.td_base.proofs.Elements.{one_more}
-use Rattle.td_machine.proofs.Parts.{MayMake, IsOpenAt, IsOffered, IsFit, IsCounting, Part, Makes, Proposes, Counts}
-use Rattle.td_machine.proofs.Parts.{Takes, Agrees, Declines, Delays, Forgets, IsBuilt, Goes, proposed_here, by_parts}
+use Rattle.td_machine.specs.Parts.{MayMake, IsOpenAt, IsOffered, IsFit, IsCounting, Part, Makes, Proposes, Counts}
+use Rattle.td_machine.specs.Parts.{Takes, Agrees, Declines, Delays, Forgets, IsBuilt, Goes, proposed_here}
+use Rattle.td_machine.proofs.Parts.{by_parts}
 use Rattle.td_machine.proofs.Aims.{FitsAim, aimed}
 use Rattle.td_machine.proofs.StepKinds.{IsForeign, by_kinds}
 use Rattle.td_base.proofs.Equals.{same_dot_refl}

@@ -10,6 +10,7 @@ pub mod Replay
 pub mod Shown
 pub mod Taking
 pub mod Request
+pub mod Parts
 pub mod Step
 pub mod History
 pub mod Logged

@@ -24,11 +24,10 @@ use Rattle.td_machine.specs.Decision.{Ballot, new_ballot, is_on, counted, outcom
 use Rattle.td_machine.specs.Log.{proposed_slot, decision}
 use Rattle.td_machine.specs.Machine.{Machine, made, undecided, next_dot, next_op}
 use Rattle.td_machine.proofs.Ballots.{find_ballot, closes}
-use Rattle.td_machine.proofs.Induction.{Anything}
+use Rattle.td_machine.specs.Parts.{Anything, RoomFor, IsBuilt, Goes, Proposes, MayMake, IsOpenAt, IsCounting}
+use Rattle.td_machine.specs.Parts.{IsProposing, proposed_here}
 use Rattle.td_machine.proofs.Naming.{own_ballots}
 use Rattle.td_machine.proofs.OwnProposals.{polls, open_proposed}
-use Rattle.td_machine.proofs.Parts.{RoomFor, IsBuilt, Goes, Proposes, MayMake, IsOpenAt}
-use Rattle.td_machine.proofs.Parts.{IsCounting, IsProposing, proposed_here}
 use Rattle.td_machine.proofs.Turns.{placed}
 use Rattle.td_machine.specs.Making.{make, propose, decide, hold, open_ballot, flatten_found}
 use Rattle.td_machine.specs.Taking.{Stepped, stepped, count, ballot_step, vote_step}

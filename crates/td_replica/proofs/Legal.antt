@@ -7,8 +7,8 @@ use Rattle.td_machine.specs.History.{History, after, IsLegalFrom, IsReached}
 use Rattle.td_machine.specs.Machine.{Machine, start}
 use Rattle.td_machine.specs.Shown.{change_between}
 use Rattle.td_machine.specs.Step.{step}
-use Rattle.td_machine.proofs.Induction.{Anything, IsBuiltSomewhere, built_of, after_both, legal_both}
-use Rattle.td_machine.proofs.Parts.{IsBuilt}
+use Rattle.td_machine.specs.Parts.{Anything, IsBuilt}
+use Rattle.td_machine.proofs.Induction.{IsBuiltSomewhere, built_of, after_both, legal_both}
 use Rattle.td_machine.proofs.Turns.{placed}
 use Rattle.td_machine.proofs.Walk.{built_step}
 use Rattle.td_base.specs.declared.site.TheConstants.{MAX_SITE}

@@ -10,8 +10,8 @@ use Rattle.td_machine.specs.Counts.{IsNext}
 use Rattle.td_machine.specs.Machine.{Machine, next_dot, next_op}
 use Rattle.td_machine.specs.Shown.{change_by, change_between, op_over}
 use Rattle.td_machine.specs.Taking.{stepped}
-use Rattle.td_machine.proofs.Induction.{Anything}
-use Rattle.td_machine.proofs.Parts.{IsBuilt, Own, MayMake}
+use Rattle.td_machine.specs.Parts.{Anything, IsBuilt, MayMake}
+use Rattle.td_machine.proofs.Parts.{Own}
 use Rattle.td_machine.proofs.Changes.{none_over, one_over, two_over}
 use Rattle.td_machine.proofs.Documents.{documents, fresh_next}
 use Rattle.td_machine.proofs.Naming.{own_site}

@@ -17,10 +17,10 @@ use Rattle.td_machine.specs.Machine.{Machine}
 use Rattle.td_machine.specs.Making.{effect, ballots_after, done}
 use Rattle.td_machine.specs.Taking.{body_misfit, answer, vote_on, take_as, take}
 use Rattle.td_machine.proofs.Documents.{documents, fresh_next}
-use Rattle.td_machine.proofs.Induction.{Anything}
+use Rattle.td_machine.specs.Parts.{Anything, IsBuilt, IsFit}
 use Rattle.td_machine.proofs.Naming.{own_ballots}
 use Rattle.td_machine.proofs.OwnProposals.{commit_fits, abort_fits}
-use Rattle.td_machine.proofs.Parts.{IsBuilt, IsFit, Other}
+use Rattle.td_machine.proofs.Parts.{Other}
 use Rattle.td_machine.proofs.Turns.{comes_next}
 use Rattle.td_coord.proofs.Placed.{none_revised}
 use Rattle.td_replica.specs.declared.state.Origin.{Origin}

@@ -35,8 +35,7 @@ use Rattle.td_machine.specs.Request.{insert_aim, insert_aim_at, insert_aim_after
 use Rattle.td_machine.specs.Request.{request_step, live_aim, delete_aim, propose_aim, cancel_aim}
 use Rattle.td_machine.specs.Taking.{Stepped, stepped, misfit, take, keep_waiting, fit_step, op_step}
 use Rattle.td_machine.proofs.Aims.{FitsAim, aimed}
-use Rattle.td_machine.proofs.Induction.{Anything}
-use Rattle.td_machine.proofs.Parts.{RoomFor, IsBuilt, MayMake, IsProposing}
+use Rattle.td_machine.specs.Parts.{Anything, RoomFor, IsBuilt, MayMake, IsProposing}
 use Rattle.td_machine.proofs.Room.{room}
 use Rattle.td_machine.proofs.Turns.{placed}
 use Rattle.td_history.specs.Past.{IsDoneAs}

@@ -5,8 +5,7 @@ use Rattle.td_op.specs.Op.{OpValue}
 use Rattle.td_machine.specs.Machine.{Machine}
 use Rattle.td_machine.specs.Ready.{is_ready, next_ready}
 use Rattle.td_machine.specs.Taking.{misfit}
-use Rattle.td_machine.proofs.Induction.{Anything}
-use Rattle.td_machine.proofs.Parts.{IsBuilt, IsFit}
+use Rattle.td_machine.specs.Parts.{Anything, IsBuilt, IsFit}
 use Rattle.td_machine.proofs.StepKinds.{least_in}
 use Rattle.td_machine.proofs.Walk.{offered}
 

@@ -26,7 +26,7 @@ use Rattle.td_op.specs.declared.reply.Reply.TheVariants.{Made, Limit}
 use Rattle.td_base.proofs.Elements.{either}
 use Rattle.td_machine.specs.History.{Family, machine}
 use Rattle.td_machine.proofs.Induction.{IsSent}
-use Rattle.td_machine.proofs.Parts.{IsOffered, proposed_here}
+use Rattle.td_machine.specs.Parts.{IsOffered, proposed_here}
 use Rattle.td_machine.proofs.Turns.{length_have}
 use Rattle.td_machine.proofs.Vectors.{bump_other}
 use Rattle.td_machine.proofs.Walk.{offered}

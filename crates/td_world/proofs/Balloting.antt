@@ -30,12 +30,13 @@ use Rattle.td_machine.specs.Request.{perform}
 use Rattle.td_machine.specs.Step.{step}
 use Rattle.td_machine.specs.History.{IsReached}
 use Rattle.td_machine.proofs.Ballots.{find_ballot, closed_in}
-use Rattle.td_machine.proofs.Parts.{IsBuilt, Part, Makes, Proposes, Counts, Takes, Agrees}
-use Rattle.td_machine.proofs.Parts.{Declines, Delays, Forgets, proposed_here, by_parts}
+use Rattle.td_machine.specs.Parts.{IsBuilt, Part, Makes, Proposes, Counts, Takes, Agrees, Declines, Delays, Forgets}
+use Rattle.td_machine.specs.Parts.{proposed_here, Anything}
+use Rattle.td_machine.proofs.Parts.{by_parts}
 use Rattle.td_machine.proofs.Turns.{placed}
 use Rattle.td_machine.proofs.OwnProposals.{polls}
 use Rattle.td_machine.proofs.StepKinds.{by_kinds}
-use Rattle.td_machine.proofs.Induction.{Anything, built_of, by_steps}
+use Rattle.td_machine.proofs.Induction.{built_of, by_steps}
 
 -- ---- numbers
 

@@ -21,7 +21,8 @@ use Rattle.td_op.specs.Message.{sender}
 use Rattle.td_machine.specs.Machine.{Machine, next_op}
 use Rattle.td_machine.proofs.Counting.{total, found, Found}
 use Rattle.td_machine.proofs.Induction.{built_of}
-use Rattle.td_machine.proofs.Parts.{IsBuilt, Part, Makes, Proposes, Takes, Agrees, Declines, vote_here, by_parts}
+use Rattle.td_machine.specs.Parts.{IsBuilt, Part, Makes, Proposes, Takes, Agrees, Declines, vote_here}
+use Rattle.td_machine.proofs.Parts.{by_parts}
 use Rattle.td_machine.proofs.Turns.{counted, length_counts}
 use Rattle.td_op.specs.declared.body.Body.TheVariants.{Propose}
 use Rattle.td_law_replay.proofs.Values.{values_of}

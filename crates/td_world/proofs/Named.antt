@@ -14,7 +14,7 @@ use Rattle.td_machine.specs.History.{Family, IsConsistent, IsOpOf, IsReached, Is
 use Rattle.td_machine.proofs.Family.{sent_ops, made_at}
 use Rattle.td_machine.proofs.Induction.{IsSent, the_end, built_at, reached_at}
 use Rattle.td_machine.proofs.OwnProposals.{logged_had}
-use Rattle.td_machine.proofs.Parts.{IsBuilt}
+use Rattle.td_machine.specs.Parts.{IsBuilt}
 use Rattle.td_machine.proofs.Reached.{past_of}
 use Rattle.td_machine.proofs.Turns.{placed}
 use Rattle.td_world.proofs.Sending.{IsSending, sending}

@@ -14,8 +14,9 @@ use Rattle.td_op.specs.Op.{OpValue}
 use Rattle.td_machine.specs.Log.{proposed}
 use Rattle.td_machine.specs.Machine.{Machine, next_op}
 use Rattle.td_op.specs.Message.{sender}
-use Rattle.td_machine.proofs.Parts.{IsBuilt, Part, Makes, Proposes, Counts, Takes, Agrees}
-use Rattle.td_machine.proofs.Parts.{Declines, Delays, Forgets, vote_here, by_parts}
+use Rattle.td_machine.specs.Parts.{IsBuilt, Part, Makes, Proposes, Counts, Takes, Agrees, Declines, Delays, Forgets}
+use Rattle.td_machine.specs.Parts.{vote_here}
+use Rattle.td_machine.proofs.Parts.{by_parts}
 
 pub proposal_of : (slot : Slot) (b : Body) → proposed b ≡ Some slot → b ≡ Propose slot
 proposal_of slot (Propose s) e = ap Propose (same s slot e)

@@ -35,7 +35,7 @@ use Rattle.td_machine.proofs.Family.{made_at, unique, log_in_turn, sent_ops, siz
 use Rattle.td_machine.proofs.Induction.{IsSent, the_end}
 use Rattle.td_machine.proofs.Naming.{own_ballots}
 use Rattle.td_machine.proofs.OwnProposals.{logged_had, open_proposed}
-use Rattle.td_machine.proofs.Parts.{IsOffered, IsBuilt}
+use Rattle.td_machine.specs.Parts.{IsOffered, IsBuilt}
 use Rattle.td_machine.proofs.Reached.{of_sites}
 use Rattle.td_machine.proofs.Turns.{counted, length_have}
 use Rattle.td_machine.proofs.Walk.{offered}

@@ -34,10 +34,11 @@ use Rattle.td_machine.specs.Request.{perform}
 use Rattle.td_machine.specs.Step.{step}
 use Rattle.td_machine.specs.Taking.{Stepped, answer, vote_on, take_as, take, keep_waiting, forget, misfit, count}
 use Rattle.td_machine.specs.History.{IsReached}
-use Rattle.td_machine.proofs.Induction.{Anything, built_of}
+use Rattle.td_machine.specs.Parts.{Anything, IsBuilt, proposed_here}
+use Rattle.td_machine.proofs.Induction.{built_of}
 use Rattle.td_machine.proofs.Ballots.{find_ballot}
 use Rattle.td_machine.proofs.OwnProposals.{polls}
-use Rattle.td_machine.proofs.Parts.{IsBuilt, Other, proposed_here}
+use Rattle.td_machine.proofs.Parts.{Other}
 use Rattle.td_machine.proofs.StepKinds.{by_kinds}
 use Rattle.td_machine.proofs.Turns.{comes_next}
 use Rattle.td_machine.proofs.Growing.{step_sends}

@@ -5,7 +5,7 @@ use Rattle.td_op.specs.declared.reply.Reply.TheVariants.{Made}
 use Rattle.td_machine.specs.Machine.{Machine, next_dot}
 use Rattle.td_machine.specs.Making.{make}
 use Rattle.td_machine.specs.Taking.{Stepped, stepped}
-use Rattle.td_machine.proofs.Parts.{MayMake}
+use Rattle.td_machine.specs.Parts.{MayMake}
 use Rattle.td_replica.specs.Steps.{IsStep}
 use Rattle.td_replica.proofs.Verdicts.{put_of, is_insert, put_done}
 use Rattle.td_replica.proofs.state.State.make_insertion.Goals as goal
