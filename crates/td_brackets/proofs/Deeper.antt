@@ -11,7 +11,7 @@ use Rattle.td_path.specs.declared.slot.Slot.TheVariants.{At}
 use Rattle.td_doc.specs.Document.{DocRow, find_row, is_empty_list}
 use Rattle.td_doc.specs.Slots.{rows_in_slot, own_slot}
 use Rattle.td_brackets.specs.Brackets.{Token, Open, Atom, Close, Leaf, Entry, Level, move_all, slot_of}
-use Rattle.td_brackets.specs.Brackets.{slot_round, rows_from, rows_of, IsBrackets}
+use Rattle.td_brackets.specs.Brackets.{slot_round, rows_from, rows_of, IsBrackets, LeafIn}
 use Rattle.td_brackets.specs.Laws.{leaf_word, exploded}
 use Rattle.td_brackets.specs.RowNumbers.{row_numbers, entry_of}
 use Rattle.td_brackets.proofs.Words.{move-append, word_moves, Node, node}
@@ -71,20 +71,13 @@ module _ (table : ℕ → Entry) where
             (λ rs r i j. b.live rs r (there_right (Leaf rs) i) j);
       }
 
-  -- among tokens of the same rows a leaf of these rows stands in a slot
-  pub record LeafIn (rows : List DocRow) (rs : List ℕ) (round : Slot) : Type 0 where
-    pub front : List Token
-    pub back : List Token
-    pub brackets : IsBrackets table (front ++ Leaf rs ∷ back)
-    pub same : rows ≡ rows_of table (front ++ Leaf rs ∷ back)
-    pub round_is : slot_round table (move_all [] front) ≡ round
-
   not_empty : (before : List ℕ) (m : ℕ) (after : List ℕ) → is_empty_list (before ++ m ∷ after) ≡ false
   not_empty [] m after = refl
   not_empty (x ∷ before) m after = refl
 
   module _ (rows : List DocRow) (before : List ℕ) (m : ℕ) (after : List ℕ) (round : Slot)
-      (half : length before ≡ length (before ++ m ∷ after) / 2) (l : LeafIn rows (before ++ m ∷ after) round) where
+      (half : length before ≡ length (before ++ m ∷ after) / 2)
+      (l : LeafIn table rows (before ++ m ∷ after) round) where
     abbrev rs : List ℕ
     rs = before ++ m ∷ after
 
@@ -134,7 +127,7 @@ module _ (table : ℕ → Entry) where
     one_leaf (r ∷ others) e = refl
 
     -- the rows before the middle one stand on its left
-    pub leaf_left : is_empty_list before ≡ false → LeafIn rows before (At (table m).id Left)
+    pub leaf_left : is_empty_list before ≡ false → LeafIn table rows before (At (table m).id Left)
     leaf_left some =
         let back : List Token = Atom m ∷ (leaf_word after ++ Close m ∷ l.back) in
         let is : tokens ≡ (l.front ++ Open m ∷ []) ++ Leaf before ∷ back =
@@ -149,7 +142,7 @@ module _ (table : ℕ → Entry) where
         }
 
     -- and those after it on its right
-    pub leaf_right : is_empty_list after ≡ false → LeafIn rows after (At (table m).id Right)
+    pub leaf_right : is_empty_list after ≡ false → LeafIn table rows after (At (table m).id Right)
     leaf_right some =
         let front : List Token = l.front ++ Open m ∷ (leaf_word before ++ Atom m ∷ []) in
         let is : tokens ≡ front ++ Leaf after ∷ (Close m ∷ l.back) =

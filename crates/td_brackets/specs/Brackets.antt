@@ -131,3 +131,11 @@ next_row (Leaf (r ∷ rs) ∷ tokens) = Some r
 abbrev pub slot_round : (ℕ → Entry) → List Level → Slot
 slot_round table [] = Root
 slot_round table (l ∷ stack) = At (table l.0).id l.1
+
+-- among tokens of the same rows a leaf of these rows stands in a slot
+pub record LeafIn (table : ℕ → Entry) (rows : List DocRow) (rs : List ℕ) (round : Slot) : Type 0 where
+  pub front : List Token
+  pub back : List Token
+  pub brackets : IsBrackets table (front ++ Leaf rs ∷ back)
+  pub same : rows ≡ rows_of table (front ++ Leaf rs ∷ back)
+  pub round_is : slot_round table (move_all [] front) ≡ round

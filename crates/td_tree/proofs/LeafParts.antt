@@ -6,8 +6,8 @@ use Rattle.td_path.specs.declared.slot.Slot.{Slot}
 use Rattle.td_path.specs.declared.slot.Slot.TheVariants.{At}
 use Rattle.td_doc.specs.Document.{is_empty_list}
 use Rattle.td_list.specs.Items.{Item}
-use Rattle.td_brackets.specs.Brackets.{Token, Leaf, move_all, slot_round, IsBrackets, rows_of}
-use Rattle.td_brackets.proofs.Deeper.{LeafIn, RowTold, told_top, leaf_left, leaf_right}
+use Rattle.td_brackets.specs.Brackets.{Token, Leaf, move_all, slot_round, IsBrackets, rows_of, LeafIn}
+use Rattle.td_brackets.proofs.Deeper.{RowTold, told_top, leaf_left, leaf_right}
 use Rattle.td_tree.specs.Parts.{Parts, table, array_at, part, row_of_array, leaf_item}
 use Rattle.td_tree.specs.Parts.{tokens_of, tokens, doc_rows, IsPart, IsTree}
 use Rattle.td_tree.proofs.ArrayParts.{part_length, part_split}

@@ -11,9 +11,9 @@ use Rattle.td_path.specs.declared.slot.Slot.TheVariants.{At}
 use Rattle.td_doc.specs.Document.{is_empty_list}
 use Rattle.td_doc.specs.Slots.{rows_in_slot, is_within}
 use Rattle.td_list.specs.Items.{items_before, items_after}
-use Rattle.td_brackets.specs.Brackets.{move_all, slot_round}
+use Rattle.td_brackets.specs.Brackets.{move_all, slot_round, LeafIn}
 use Rattle.td_brackets.specs.RowNumbers.{entry_of}
-use Rattle.td_brackets.proofs.Deeper.{LeafIn, RowTold}
+use Rattle.td_brackets.proofs.Deeper.{RowTold}
 use Rattle.td_tree.specs.declared.tree_row.RowState.{RowState}
 use Rattle.td_tree.specs.declared.tree_row.RowState.TheVariants.{Node, InArray, Gone}
 use Rattle.td_tree.specs.Parts.{Parts, state_at, IsAt, Stand, table, array_at, part, row_of_array}

@@ -9,10 +9,10 @@ use Rattle.td_doc.specs.Document.{DocRow, row_id, find_row}
 use Rattle.td_doc.specs.Slots.{own_slot}
 use Rattle.td_doc.specs.Answers.{row_told, live_before}
 use Rattle.td_list.specs.Items.{Item, items_before, items_after}
-use Rattle.td_brackets.specs.Brackets.{Token, Entry, move, move_all, slot_round}
+use Rattle.td_brackets.specs.Brackets.{Token, Entry, move, move_all, slot_round, LeafIn}
 use Rattle.td_brackets.specs.RowNumbers.{entry_of}
 use Rattle.td_brackets.proofs.Words.{move-append}
-use Rattle.td_brackets.proofs.Deeper.{LeafIn, RowTold}
+use Rattle.td_brackets.proofs.Deeper.{RowTold}
 use Rattle.td_tree.specs.declared.tree_row.RowState.TheVariants.{Gone}
 use Rattle.td_tree.specs.Parts.{Parts, state_at, table, array_at, part, row_of_array, leaf_item}
 use Rattle.td_tree.specs.Parts.{token_of, tokens_of, doc_rows, IsPart, IsTree}

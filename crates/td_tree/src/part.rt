@@ -5,7 +5,7 @@ ghost use Rattle.td_path.specs.declared.slot.Slot.{Slot};
 ghost use Rattle.td_path.specs.declared.slot.Slot.TheVariants.{At};
 ghost use Rattle.td_doc.specs.Slots.{rows_in_slot};
 ghost use Rattle.td_brackets.specs.RowNumbers.{entry_of};
-ghost use Rattle.td_brackets.proofs.Deeper.{LeafIn, RowTold};
+ghost use Rattle.td_brackets.specs.Brackets.{LeafIn};
 ghost use Rattle.td_tree.specs.declared.tree_row.RowState.TheVariants.{InArray};
 ghost use Rattle.td_tree.specs.Parts.{state_at, table, array_at, part, row_of_array, leaf_item, doc_rows, IsPart, IsTree, Stand};
 ghost use Rattle.td_tree.specs.Reading.{slot_or};

@@ -2,7 +2,7 @@ use Rattle.std.proofs.Common.{◌≡◌, ◌≢◌, ◌<◌, ◌≤◌, ◌+◌,
 use Rattle.td_base.specs.declared.bit.Bit.TheVariants.{Left, Right}
 use Rattle.td_base.specs.Value.{AtomIdValue}
 use Rattle.td_path.specs.declared.slot.Slot.TheVariants.{At}
-use Rattle.td_brackets.proofs.Deeper.{LeafIn}
+use Rattle.td_brackets.specs.Brackets.{LeafIn}
 use Rattle.td_tree.specs.Parts.{table, array_at, part, row_of_array, doc_rows}
 use Rattle.td_tree.specs.Reading.{slot_or}
 use Rattle.td_tree.proofs.LeafParts.{into_left, into_right, left_part, right_part}

@@ -1,6 +1,6 @@
 use Rattle.std.proofs.Common.{◌≡◌, ◌<◌, ◌≤◌, ◌+◌}
 use Rattle.td_path.specs.declared.slot.Slot.{Slot}
-use Rattle.td_brackets.proofs.Deeper.{LeafIn}
+use Rattle.td_brackets.specs.Brackets.{LeafIn}
 use Rattle.td_tree.specs.Parts.{table, array_at, part, doc_rows, IsPart}
 use Rattle.td_tree.specs.Reading.{slot_or}
 use Rattle.td_tree.proofs.tokens.Tokens.part_of.Given as goal
