@@ -40,7 +40,7 @@ use Rattle.td_machine.proofs.Room.{room}
 use Rattle.td_machine.proofs.Turns.{placed}
 use Rattle.td_history.specs.Past.{IsDoneAs}
 use Rattle.td_history.specs.Texts.{run_of, run_at, text_of}
-use Rattle.td_replica.specs.declared.making.Done.{Done}
+use Rattle.td_replica.specs.declared.done.Done.{Done}
 use Rattle.td_replica.specs.declared.requests.Verdict.{Verdict}
 use Rattle.td_replica.specs.declared.requests.Verdict.TheVariants.{Answer, Put, Delete as DeleteRow, Propose, Cancel}
 use Rattle.td_replica.specs.declared.operations.Judged.{Judged}

@@ -9,7 +9,7 @@ use Rattle.td_op.specs.declared.body.Body.TheVariants.{Insert, Delete, Propose, 
 use Rattle.td_machine.specs.Machine.{Machine}
 use Rattle.td_machine.specs.Shown.{change_between}
 use Rattle.td_machine.specs.Taking.{Stepped}
-use Rattle.td_replica.specs.declared.making.Done.{Done}
+use Rattle.td_replica.specs.declared.done.Done.{Done}
 use Rattle.td_replica.specs.LastChange.{change_of}
 use Rattle.td_replica.specs.Parts.{StateValue}
 

@@ -10,7 +10,7 @@ ghost use Rattle.td_replica.specs.Parts.{IsAsBefore};
 ghost use Rattle.td_replica.specs.Replica.{is_repeat};
 ghost use Rattle.td_replica.specs.Steps.{IsStep};
 
-use crate::making::Done;
+use crate::done::Done;
 use crate::state::State;
 use td_base::Memory;
 use td_coord::Counted;

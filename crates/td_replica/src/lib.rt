@@ -9,6 +9,7 @@
 #![tactic(auto)]
 
 mod answering;
+mod done;
 mod given;
 mod last_change;
 mod making;

@@ -18,6 +18,7 @@ ghost use Rattle.td_replica.specs.Parts.{IsAsBefore};
 ghost use Rattle.td_replica.specs.Steps.{IsStep, IsEdit, IsDue};
 ghost use Rattle.td_replica.specs.Verdict.{verdict};
 
+use crate::done::Done;
 use crate::last_change::LastChange;
 use crate::requests::{Verdict, insert_in};
 use crate::state::{Origin, State};
@@ -25,16 +26,6 @@ use td_base::{AtomId, Dot, Memory};
 use td_doc::Doc;
 use td_op::{Body, Reply, Request, Vote};
 use td_path::Slot;
-
-/// What a step did.
-#[derive(Clone, Copy, Debug, PartialEq, Eq)]
-pub struct Done {
-    pub reply: Reply,
-    /// What it did to the list of live atoms.
-    pub change: LastChange,
-    /// The number of the operation that was made or given, where it is stored.
-    pub number: Option<u32>,
-}
 
 impl<D: Doc> State<D> {
     // Nothing is done but the answer given.

@@ -15,8 +15,8 @@ ghost use Rattle.td_replica.specs.declared.operations.Judged.TheVariants.{Delay}
 ghost use Rattle.td_replica.specs.Parts.{IsAsBefore, ComesFrom, IsFromOutside, number_from};
 ghost use Rattle.td_replica.specs.Steps.{IsStep};
 
+use crate::done::Done;
 use crate::last_change::LastChange;
-use crate::making::Done;
 use crate::same::same_op;
 use crate::state::{Origin, State};
 use td_base::{AtomId, Dot, Memory, Site};

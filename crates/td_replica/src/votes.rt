@@ -9,8 +9,8 @@ ghost use Rattle.td_replica.specs.Parts.{IsAsBefore};
 ghost use Rattle.td_replica.specs.Steps.{IsStep};
 ghost use Rattle.td_replica.specs.Judging.{vote_misfit, IsUndue};
 
+use crate::done::Done;
 use crate::last_change::LastChange;
-use crate::making::Done;
 use crate::state::State;
 use td_base::Memory;
 use td_coord::Counted;
