@@ -14,7 +14,7 @@ use Rattle.td_op.specs.declared.reply.Reply.{Reply}
 use Rattle.td_op.specs.Op.{OpValue}
 use Rattle.td_machine.specs.Counts.{ops_of}
 use Rattle.td_machine.specs.Log.{proposed_slot, decision}
-use Rattle.td_history.specs.Texts.{run_at, text_of}
+use Rattle.td_history.specs.Texts.{run_at, run_asked}
 
 pub record Past : Type 0 where
   -- its own site, and the number of sites
@@ -64,12 +64,12 @@ abbrev pub resumed : OpValue → Past → Past
 resumed x p = record p { log = x ∷ p.log; room = p.room - 1 }
 
 -- both at once
-abbrev pub taken : OpValue → Past → Past
-taken x p = record p { ops = p.ops ++ x ∷ []; log = x ∷ p.log; room = p.room - 1 }
+abbrev pub with_taken : OpValue → Past → Past
+with_taken x p = record p { ops = p.ops ++ x ∷ []; log = x ∷ p.log; room = p.room - 1 }
 
 -- and it is sent
-abbrev pub made : OpValue → Past → Past
-made x p =
+abbrev pub with_made : OpValue → Past → Past
+with_made x p =
     record p { ops = p.ops ++ x ∷ []; log = x ∷ p.log; sent = p.sent ++ Op x ∷ []; room = p.room - 1 }
 
 abbrev pub voted : DotValue → Bool → Past → Past
@@ -107,5 +107,5 @@ pub record IsNextIn (size site : ℕ) (log : List OpValue) (x : OpValue) : Type 
 abbrev pub IsDoneAs : List OpValue → Input → ℕ → Type 0
 IsDoneAs ops (Take (Op x)) k = slice_get ops k ≡ Some x
 IsDoneAs ops (Take (AVote v)) k = Unit {0}
-IsDoneAs ops (Local request) k = IfSome (text_of request) (λ text. run_at ops k ≡ Some text)
+IsDoneAs ops (Local request) k = IfSome (run_asked request) (λ text. run_at ops k ≡ Some text)
 IsDoneAs ops Next k = Unit {0}

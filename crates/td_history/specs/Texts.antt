@@ -23,13 +23,13 @@ abbrev pub run_at : List OpValue → ℕ → Option (List (List ℕ))
 run_at ops number = option_and_then (λ (x : OpValue). run_of x.body) (slice_get ops number)
 
 -- the text that a request puts
-abbrev pub text_of : Request → Option (List (List ℕ))
-text_of (AskInsert index atom) = Some (atom ∷ [])
-text_of (InsertAfter after atom) = Some (atom ∷ [])
-text_of (Paste index run) = Some run
-text_of (PasteAfter after run) = Some run
-text_of (AskDelete index) = None
-text_of (DeleteAtom id) = None
-text_of (AskPropose slot) = None
-text_of (ProposeAt index bit) = None
-text_of (Cancel proposal) = None
+abbrev pub run_asked : Request → Option (List (List ℕ))
+run_asked (AskInsert index atom) = Some (atom ∷ [])
+run_asked (InsertAfter after atom) = Some (atom ∷ [])
+run_asked (Paste index run) = Some run
+run_asked (PasteAfter after run) = Some run
+run_asked (AskDelete index) = None
+run_asked (DeleteAtom id) = None
+run_asked (AskPropose slot) = None
+run_asked (ProposeAt index bit) = None
+run_asked (Cancel proposal) = None

@@ -5,7 +5,7 @@ ghost use Rattle.td_base.specs.declared.site.TheConstants.{MAX_SITE};
 ghost use Rattle.td_machine.specs.Counts.{ops_of};
 ghost use Rattle.td_machine.specs.Log.{decision, proposed_slot};
 ghost use Rattle.td_machine.specs.Ready.{is_dot_of};
-ghost use Rattle.td_history.specs.Past.{IsAsBefore, empty_past, kept, resumed, taken, made, voted, entered};
+ghost use Rattle.td_history.specs.Past.{IsAsBefore, empty_past, kept, resumed, with_taken, with_made, voted, entered};
 ghost use Rattle.td_history.specs.Past.{IsNextIn, IsDoneAs};
 ghost use Rattle.td_base.specs.Lists.{kth};
 
@@ -100,7 +100,7 @@ impl History {
         requires room { 1 ≤ self.old.room }
         requires next { IsNextIn self.old.size self.old.room_site self.old.log op.now }
         requires own { op.now.dot.site ≡ self.old.site }
-        ensures { self.new ≡ made op.now self.old }
+        ensures { self.new ≡ with_made op.now self.old }
     {
         let number = self.log.add(op);
         self.sent.push_reserved(CompactMessage::Op { number });
@@ -111,7 +111,7 @@ impl History {
     pub fn take(&mut self, op: &Op)
         requires room { 1 ≤ self.old.room }
         requires next { IsNextIn self.old.size self.old.room_site self.old.log op.now }
-        ensures { self.new ≡ taken op.now self.old }
+        ensures { self.new ≡ with_taken op.now self.old }
     {
         let _number = self.log.add(op);
         self.room -= 1;

@@ -29,7 +29,7 @@ use Rattle.td_base.proofs.Places.{get_more}
 use Rattle.td_vote.specs.Commits.{in_order}
 use Rattle.td_vote.specs.Holds.{HoldsValue}
 use Rattle.td_coord.specs.Tally.{TallyValue}
-use Rattle.td_history.specs.Past.{Past, IsUndecided, IsNextIn, decided_by, made, taken, resumed, kept}
+use Rattle.td_history.specs.Past.{Past, IsUndecided, IsNextIn, decided_by, with_made, with_taken, resumed, kept}
 use Rattle.td_replica.specs.declared.state.Origin.{Origin}
 use Rattle.td_replica.specs.declared.state.Origin.TheVariants.{Here, There, Waiting as Waited}
 use Rattle.td_replica.specs.Parts.{with_note, machine_of, state_of, waiting_too, ComesFrom}
@@ -195,8 +195,8 @@ noted site have waiting holds holds2 tally past origin x s next u cs = at origin
         }
 
     at : (from : Origin) → IsState site (vector_bump have x.dot.site) waiting holds2 tally (logged from x past)
-    at Here = with_past (made x past) refl refl refl (stored_more past.ops (x ∷ []) waiting s.stored)
-    at There = with_past (taken x past) refl refl refl (stored_more past.ops (x ∷ []) waiting s.stored)
+    at Here = with_past (with_made x past) refl refl refl (stored_more past.ops (x ∷ []) waiting s.stored)
+    at There = with_past (with_taken x past) refl refl refl (stored_more past.ops (x ∷ []) waiting s.stored)
     at (Waited number) = with_past (resumed x past) refl refl refl s.stored
 
 -- ---- what waits

@@ -39,7 +39,7 @@ use Rattle.td_machine.specs.Parts.{Anything, RoomFor, IsBuilt, MayMake, IsPropos
 use Rattle.td_machine.proofs.Room.{room}
 use Rattle.td_machine.proofs.Turns.{placed}
 use Rattle.td_history.specs.Past.{IsDoneAs}
-use Rattle.td_history.specs.Texts.{run_of, run_at, text_of}
+use Rattle.td_history.specs.Texts.{run_of, run_at, run_asked}
 use Rattle.td_replica.specs.declared.done.Done.{Done}
 use Rattle.td_replica.specs.declared.requests.Verdict.{Verdict}
 use Rattle.td_replica.specs.declared.requests.Verdict.TheVariants.{Answer, Put, Delete as DeleteRow, Propose, Cancel}
@@ -95,7 +95,7 @@ module _ (m : Machine) where
       at true = refl
       at false = tt
 
-  fits : (request : Request) → FitsIn (text_of request) (aim request m)
+  fits : (request : Request) → FitsIn (run_asked request) (aim request m)
   fits (AskInsert index atom) = fits_at (atom ∷ []) index
   fits (InsertAfter after atom) = fits_after (atom ∷ []) after
   fits (Paste index run) = fits_at run index
@@ -147,13 +147,13 @@ aim_within run index m within some =
 -- the run of the request is put in the slot
 pub record IsPut (request : Request) (m : Machine) (slot : Slot) : Type 0 where
   pub run : List (List ℕ)
-  pub text : text_of request ≡ Some run
+  pub text : run_asked request ≡ Some run
   pub may : IsRequest request → MayMake (Insert slot run) m
   pub step : request_step request m ≡ stepped (Made (next_dot m)) (make (Insert slot run) m)
 
 -- the row is deleted
 pub record IsDelete (request : Request) (m : Machine) (x : AtomIdValue) : Type 0 where
-  pub text : text_of request ≡ None
+  pub text : run_asked request ≡ None
   pub may : IsRequest request → MayMake (Delete x) m
   pub step : request_step request m ≡ stepped (Made (next_dot m)) (make (Delete x) m)
 
@@ -184,8 +184,8 @@ module _ (request : Request) (m : Machine) where
       ∙ ap (λ (t : Bool). if t then stepped (Limit (made m) (undecided m)) m
       else stepped (Made (next_dot m)) (perform k.attempt.body m)) k.room
 
-  fits_of : {v : Verdict} (k : IsAllowed request m v) → Fits (text_of request) k.attempt.body
-  fits_of k = subst (FitsIn (text_of request)) k.aims (fits m request)
+  fits_of : {v : Verdict} (k : IsAllowed request m v) → Fits (run_asked request) k.attempt.body
+  fits_of k = subst (FitsIn (run_asked request)) k.aims (fits m request)
 
   body_proposed : (body : Body) (slot : Slot) → allowed body ≡ Propose slot → body ≡ ProposeIn slot
   body_proposed (Insert s run) slot e = absurd cc
@@ -210,7 +210,7 @@ module _ (request : Request) (m : Machine) where
           let is : k.attempt.body ≡ Insert slot run = f ∙ ap (λ (t : Slot). Insert t run) (same g) in
           record {
             run = run;
-            text = subst (Fits (text_of request)) is (fits_of k);
+            text = subst (Fits (run_asked request)) is (fits_of k);
             may = λ valid. subst (λ (c : Body). MayMake c m) is (allowed_may valid (Put slot) k);
             step = allowed_step (Put slot) k ∙ ap (λ (c : Body). stepped (Made (next_dot m)) (perform c m)) is;
           }
@@ -232,7 +232,7 @@ module _ (request : Request) (m : Machine) where
       at (Delete y) f g =
           let is : k.attempt.body ≡ Delete x = f ∙ ap (λ (z : AtomIdValue). Delete z) (same g) in
           record {
-            text = subst (Fits (text_of request)) is (fits_of k);
+            text = subst (Fits (run_asked request)) is (fits_of k);
             may = λ valid. subst (λ (c : Body). MayMake c m) is (allowed_may valid (DeleteRow x) k);
             step = allowed_step (DeleteRow x) k ∙ ap (λ (c : Body). stepped (Made (next_dot m)) (perform c m)) is;
           }
@@ -286,7 +286,7 @@ module _ (request : Request) (m : Machine) where
 
 -- the body of an insert with the text of its request
 pub is_insert : {request : Request} {m : Machine} {slot : Slot} (k : IsPut request m slot) (body : Body)
-    → IfSome (text_of request) (λ run. body ≡ Insert slot run) → body ≡ Insert slot k.run
+    → IfSome (run_asked request) (λ run. body ≡ Insert slot run) → body ≡ Insert slot k.run
 is_insert {slot = slot} k body h =
     subst (λ (text : Option (List (List ℕ))). IfSome text (λ run. body ≡ Insert slot run)) k.text h
 

@@ -23,7 +23,7 @@ use Rattle.td_machine.specs.Taking.{keep_waiting}
 use Rattle.td_vote.specs.Commits.{in_order, put_commit}
 use Rattle.td_vote.specs.Holds.{HoldsValue}
 use Rattle.td_coord.specs.Tally.{TallyValue}
-use Rattle.td_history.specs.Past.{Past, made, taken, resumed}
+use Rattle.td_history.specs.Past.{Past, with_made, with_taken, resumed}
 use Rattle.td_replica.specs.declared.state.Origin.{Origin}
 use Rattle.td_replica.specs.declared.state.Origin.TheVariants.{Here, There, Waiting as Waited}
 
@@ -150,8 +150,8 @@ ComesFrom (Waited number) x site ops = slice_get ops number ≡ Some x
 
 -- the past with the operation in its log
 abbrev pub logged : Origin → OpValue → Past → Past
-logged Here x p = made x p
-logged There x p = taken x p
+logged Here x p = with_made x p
+logged There x p = with_taken x p
 logged (Waited number) x p = resumed x p
 
 -- the commits after the operation

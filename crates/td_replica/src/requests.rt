@@ -11,7 +11,7 @@ ghost use Rattle.td_doc.specs.Document.{live_id_at};
 ghost use Rattle.td_doc.specs.Allocation.{anchor};
 ghost use Rattle.td_machine.specs.Machine.{made, undecided};
 ghost use Rattle.td_machine.specs.Request.{aim, insert_aim, insert_aim_at, insert_aim_after, delete_aim, propose_aim, propose_aim_of, live_aim, len, is_past_limit};
-ghost use Rattle.td_history.specs.Texts.{text_of};
+ghost use Rattle.td_history.specs.Texts.{run_asked};
 ghost use Rattle.td_replica.specs.Verdict.{verdict, verdict_on, standing, put_aim};
 
 use crate::state::State;
@@ -182,8 +182,8 @@ impl<D: Doc> State<D> {
 
 // The insert that the request asks for, in this slot.
 pub(crate) fn insert_in(slot: Slot, request: &Request) -> Body
-    requires { IsSome (text_of request.now) }
-    ensures { IfSome (text_of request.now) (λ run. result ≡ InsertIn slot run) }
+    requires { IsSome (run_asked request.now) }
+    ensures { IfSome (run_asked request.now) (λ run. result ≡ InsertIn slot run) }
 {
     let run = match request {
         Request::Insert { atom, .. } | Request::InsertAfter { atom, .. } => Run::one(*atom),
