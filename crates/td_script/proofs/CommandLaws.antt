@@ -16,7 +16,7 @@ use Rattle.td_script.specs.Shared.{index_and_text, place_at, proposal_at, two_nu
 use Rattle.td_script.specs.Spelling.{line_of, spaced}
 use Rattle.td_script.specs.Words.{spelling}
 use Rattle.td_script.proofs.NumberWords.{number_back}
-use Rattle.td_script.proofs.SharedLaws.{ended, fixed_word, made_back, index_and_text_back, two_numbers_back}
+use Rattle.td_script.proofs.SharedLaws.{ended, fixed_word, mapped_back, index_and_text_back, two_numbers_back}
 use Rattle.td_script.proofs.SharedLaws.{place_back, proposal_back}
 use Rattle.td_script.proofs.Splitting.{Lacks}
 use Rattle.td_script.proofs.WordLaws.{behind_back, last_back, word_at_back, with_rest_back}
@@ -37,7 +37,7 @@ said_with sites site word rest written made c e whole fits line =
 ins_back : (sites site : ℕ) (rest : List ℕ) (c : Command) → IsUtf8 rest → Lacks 10 rest
     → site_command sites site At.Ins rest ≡ Ok c → IsSaid sites site At.Ins rest c
 ins_back sites site rest c u lacks e =
-    let got = made_back (λ asked. Ins site asked.0 asked.1) (index_and_text rest) c e in
+    let got = mapped_back (λ asked. Ins site asked.0 asked.1) (index_and_text rest) c e in
     let asked = index_and_text_back rest got.0 u lacks got.1 in
     said_with sites site At.Ins rest _ (Ins site got.0.0 got.0.1) c got.2 asked.whole
     (λ s. (s, asked.fits.0, asked.fits.1)) refl
@@ -45,7 +45,7 @@ ins_back sites site rest c u lacks e =
 paste_back : (sites site : ℕ) (rest : List ℕ) (c : Command) → IsUtf8 rest → Lacks 10 rest
     → site_command sites site At.Paste rest ≡ Ok c → IsSaid sites site At.Paste rest c
 paste_back sites site rest c u lacks e =
-    let got = made_back (λ asked. Paste site asked.0 asked.1) (index_and_text rest) c e in
+    let got = mapped_back (λ asked. Paste site asked.0 asked.1) (index_and_text rest) c e in
     let asked = index_and_text_back rest got.0 u lacks got.1 in
     said_with sites site At.Paste rest _ (Paste site got.0.0 got.0.1) c got.2 asked.whole
     (λ s. (s, asked.fits.0, asked.fits.1)) refl
@@ -53,7 +53,7 @@ paste_back sites site rest c u lacks e =
 del_back : (sites site : ℕ) (rest : List ℕ) (c : Command) → site_command sites site At.Del rest ≡ Ok c
     → IsSaid sites site At.Del rest c
 del_back sites site rest c e =
-    let got = made_back (λ asked. Del site asked.0 asked.1) (two_numbers rest) c e in
+    let got = mapped_back (λ asked. Del site asked.0 asked.1) (two_numbers rest) c e in
     let asked = two_numbers_back rest got.0 got.1 in
     said_with sites site At.Del rest _ (Del site got.0.0 got.0.1) c got.2 asked.whole
     (λ s. (s, asked.fits.0, asked.fits.1)) refl
@@ -65,7 +65,7 @@ flat_fits sites site (Beside index bit) h s = (s, h)
 flat_back : (sites site : ℕ) (rest : List ℕ) (c : Command) → site_command sites site At.Flat rest ≡ Ok c
     → IsSaid sites site At.Flat rest c
 flat_back sites site rest c e =
-    let got = made_back (λ place. Flat site place) (place_at rest) c e in
+    let got = mapped_back (λ place. Flat site place) (place_at rest) c e in
     let asked = place_back rest got.0 got.1 in
     said_with sites site At.Flat rest _ (Flat site got.0) c got.2 asked.whole
     (flat_fits sites site got.0 asked.fits) refl
@@ -73,7 +73,7 @@ flat_back sites site rest c e =
 cancel_back : (sites site : ℕ) (rest : List ℕ) (c : Command) → site_command sites site At.Cancel rest ≡ Ok c
     → IsSaid sites site At.Cancel rest c
 cancel_back sites site rest c e =
-    let got = made_back (λ proposal. Cancel site proposal) (proposal_at sites rest) c e in
+    let got = mapped_back (λ proposal. Cancel site proposal) (proposal_at sites rest) c e in
     let asked = proposal_back sites rest got.0 got.1 in
     said_with sites site At.Cancel rest _ (Cancel site got.0) c got.2 asked.whole
     (λ s. (s, asked.fits)) refl

@@ -29,7 +29,7 @@ use Rattle.td_script.specs.declared.word.SiteWord.{SiteWord}
 use Rattle.td_script.specs.declared.word.SiteWord.TheVariants as At
 use Rattle.td_script.specs.Arguments.{by_word, cut_word, site_of}
 use Rattle.td_script.specs.Faults.{command, is_misplaced, is_too_much, judged, command_named, within}
-use Rattle.td_script.specs.Shared.{made, sites_at}
+use Rattle.td_script.specs.Shared.{mapped, sites_at}
 use Rattle.std.specs.Char.{is_ascii_control}
 use Rattle.td_script.specs.Lines.{is_skipped, is_text_line}
 use Rattle.td_script.specs.Script.{IsCommand, IsLine, requests}
@@ -38,7 +38,7 @@ use Rattle.td_script.specs.Words.{spelling, word_named, words}
 use Rattle.td_script.proofs.ArgumentLaws.{site_at_back}
 use Rattle.td_script.proofs.CommandLaws.{site_command_back}
 use Rattle.td_script.proofs.JudgingLaws.{IsJudged, judged_line_back, judged_line_there}
-use Rattle.td_script.proofs.SharedLaws.{IsSitesFor, lacks_behind, made_back, sites_back, spaced_utf8}
+use Rattle.td_script.proofs.SharedLaws.{IsSitesFor, lacks_behind, mapped_back, sites_back, spaced_utf8}
 use Rattle.td_script.proofs.Results.{ok_same, err_is_no_ok}
 use Rattle.td_script.proofs.SpellingLaws.{IsLineOf, line_there, sites_line_there}
 use Rattle.td_script.proofs.Splitting.{Lacks}
@@ -123,9 +123,9 @@ record SaysCommand (size : ℕ) (before : Before) (word : Word) (rest : List ℕ
   placed : IsPlaced size before word c
 
 sites_command_back : (size : ℕ) (before : Before) (rest : List ℕ) (c : Command)
-    → made (λ n. Sites n) (sites_at size rest) ≡ Ok c → SaysCommand size before First.Sites rest c
+    → mapped (λ n. Sites n) (sites_at size rest) ≡ Ok c → SaysCommand size before First.Sites rest c
 sites_command_back size before rest c e =
-    let got = made_back (λ n. Sites n) (sites_at size rest) c e in
+    let got = mapped_back (λ n. Sites n) (sites_at size rest) c e in
     let sites = sites_back size rest got.0 got.1 in
     subst (SaysCommand size before First.Sites rest) got.2
     (record {

@@ -33,15 +33,16 @@ use Rattle.td_script.specs.LiveScript.{IsEditorLine, IsLiveCommand}
 use Rattle.td_script.specs.LiveSpelling.{line_of_editor, live_line_of}
 use Rattle.td_script.specs.LiveWords.{live_spelling, live_word_named, live_words}
 use Rattle.td_script.specs.Script.{IsLine}
-use Rattle.td_script.specs.Shared.{index_and_text, made, place_at, proposal_at, sites_at, two_numbers}
+use Rattle.td_script.specs.Shared.{index_and_text, mapped, place_at, proposal_at, sites_at, two_numbers}
 use Rattle.td_script.specs.Spelling.{spaced, spaced_dot, spaced_place, spaced_text}
 use Rattle.td_script.proofs.ArgumentLaws.{site_at_back, site_at_there, tested_at_back, tested_at_there}
 use Rattle.td_script.proofs.JudgingLaws.{IsJudged, judged_line_back, judged_line_there}
 use Rattle.td_script.proofs.LineLaws.{ascii_by_test}
 use Rattle.td_script.proofs.Results.{err_is_no_ok, in_range, ok_same, range_in}
-use Rattle.td_script.proofs.SharedLaws.{IsSitesFor, ended, lacks_behind, made_back, made_there, sites_back, sites_there}
-use Rattle.td_script.proofs.SharedLaws.{index_and_text_back, index_and_text_there, place_back, place_open, place_there}
-use Rattle.td_script.proofs.SharedLaws.{proposal_back, proposal_there, spaced_utf8, two_numbers_back, two_numbers_there}
+use Rattle.td_script.proofs.SharedLaws.{IsSitesFor, ended, lacks_behind, mapped_back, mapped_there, sites_back}
+use Rattle.td_script.proofs.SharedLaws.{sites_there, index_and_text_back, index_and_text_there, place_back, place_open}
+use Rattle.td_script.proofs.SharedLaws.{place_there, proposal_back, proposal_there, spaced_utf8, two_numbers_back}
+use Rattle.td_script.proofs.SharedLaws.{two_numbers_there}
 use Rattle.td_script.proofs.Splitting.{Lacks}
 use Rattle.td_script.proofs.WordLaws.{IsOpen, behind_back, behind_there, cut_back, last_back}
 
@@ -133,23 +134,23 @@ asked_with sites editor word rest written made line e whole fits spelled =
 editor_line_back : (sites editor : ℕ) (word : EditorWord) (rest : List ℕ) (line : EditorLine) → IsUtf8 rest
     → Lacks 10 rest → editor_line sites word rest ≡ Ok line → IsAsked sites editor word rest line
 editor_line_back sites editor At.Ins rest line u lacks e =
-    let got = made_back (λ asked. Asked.Ins asked.0 asked.1) (index_and_text rest) line e in
+    let got = mapped_back (λ asked. Asked.Ins asked.0 asked.1) (index_and_text rest) line e in
     let asked = index_and_text_back rest got.0 u lacks got.1 in
     asked_with sites editor At.Ins rest _ (Asked.Ins got.0.0 got.0.1) line got.2 asked.whole asked.fits refl
 editor_line_back sites editor At.Paste rest line u lacks e =
-    let got = made_back (λ asked. Asked.Paste asked.0 asked.1) (index_and_text rest) line e in
+    let got = mapped_back (λ asked. Asked.Paste asked.0 asked.1) (index_and_text rest) line e in
     let asked = index_and_text_back rest got.0 u lacks got.1 in
     asked_with sites editor At.Paste rest _ (Asked.Paste got.0.0 got.0.1) line got.2 asked.whole asked.fits refl
 editor_line_back sites editor At.Del rest line u lacks e =
-    let got = made_back (λ asked. Asked.Del asked.0 asked.1) (two_numbers rest) line e in
+    let got = mapped_back (λ asked. Asked.Del asked.0 asked.1) (two_numbers rest) line e in
     let asked = two_numbers_back rest got.0 got.1 in
     asked_with sites editor At.Del rest _ (Asked.Del got.0.0 got.0.1) line got.2 asked.whole asked.fits refl
 editor_line_back sites editor At.Flat rest line u lacks e =
-    let got = made_back (λ place. Asked.Flat place) (place_at rest) line e in
+    let got = mapped_back (λ place. Asked.Flat place) (place_at rest) line e in
     let asked = place_back rest got.0 got.1 in
     asked_with sites editor At.Flat rest _ (Asked.Flat got.0) line got.2 asked.whole asked.fits refl
 editor_line_back sites editor At.Cancel rest line u lacks e =
-    let got = made_back (λ proposal. Asked.Cancel proposal) (proposal_at sites rest) line e in
+    let got = mapped_back (λ proposal. Asked.Cancel proposal) (proposal_at sites rest) line e in
     let asked = proposal_back sites rest got.0 got.1 in
     asked_with sites editor At.Cancel rest _ (Asked.Cancel got.0) line got.2 asked.whole asked.fits refl
 editor_line_back sites editor At.Look rest line u lacks e =
@@ -171,7 +172,7 @@ sites_command_back : (size : ℕ) (before : LiveBefore) (rest : List ℕ) (c : L
     → live_command size before.sites (length before.homes) First.Sites rest ≡ Ok c
     → SaysLive size before First.Sites rest c
 sites_command_back size before rest c e =
-    let got = made_back (λ n. Sites n) (sites_at size rest) c e in
+    let got = mapped_back (λ n. Sites n) (sites_at size rest) c e in
     let sites = sites_back size rest got.0 got.1 in
     subst (SaysLive size before First.Sites rest) got.2 (record {
       whole = ap (λ (xs : List ℕ). codes "sites" ++ xs) sites.whole;
@@ -212,7 +213,7 @@ loss_command_back : (size : ℕ) (before : LiveBefore) (rest : List ℕ) (c : Li
     → live_command size before.sites (length before.homes) First.Loss rest ≡ Ok c
     → SaysLive size before First.Loss rest c
 loss_command_back size before rest c e =
-    let got = made_back (λ asked. Loss (record { drop_each = asked.0; double_each = asked.1 })) (two_numbers rest) c e
+    let got = mapped_back (λ asked. Loss (record { drop_each = asked.0; double_each = asked.1 })) (two_numbers rest) c e
     in
     let asked = two_numbers_back rest got.0 got.1 in
     subst (SaysLive size before First.Loss rest) got.2 (record {
@@ -243,7 +244,7 @@ line_command_back size before word rest c few u lacks e =
     let editor = tested_at_back (is_in_range 1 (length before.homes)) Fault.Editor (IsInRange 1 (length before.homes))
     (range_in 1 (length before.homes)) rest first.value first.rest first.is in
     let small : first.value < 10 ^ 9 = omega (arith, editor.fits.1) in
-    let got = made_back (λ line. Line first.value line) (editor_line before.sites word first.rest) c first.then_is in
+    let got = mapped_back (λ line. Line first.value line) (editor_line before.sites word first.rest) c first.then_is in
     let asked = editor_line_back before.sites first.value word first.rest got.0
     (IsUtf8-after rest (spaced first.value) first.rest u (spaced_utf8 first.value small) editor.whole)
     (lacks_behind 10 (spaced first.value) first.rest (subst (Lacks 10) editor.whole lacks)) got.1 in
@@ -354,10 +355,10 @@ at_editor : (size sites editors : ℕ) (word : EditorWord) (editor : ℕ) (rest 
     → editors ≤ MAX_EDITORS → IsInRange 1 editors editor → IsOpen rest → editor_line sites word rest ≡ Ok line
     → live_command size sites editors (First.AtEditor word) (spaced editor ++ rest) ≡ Ok (Line editor line)
 at_editor size sites editors word editor rest line few h free e =
-    behind_there _ (λ editor rest. made (λ line. Line editor line) (editor_line sites word rest)) editor rest
+    behind_there _ (λ editor rest. mapped (λ line. Line editor line) (editor_line sites word rest)) editor rest
     (tested_at_there (is_in_range 1 editors) Fault.Editor editor rest (omega (arith, h.1))
     (in_range 1 editors editor h) free)
-    ∙ made_there (λ line. Line editor line) (editor_line sites word rest) line e
+    ∙ mapped_there (λ line. Line editor line) (editor_line sites word rest) line e
 
 line_of : (size : ℕ) (before : LiveBefore) (word : EditorWord) (editor : ℕ) (rest line : List ℕ) (asked : EditorLine)
     → cut_word line ≡ (live_spelling (First.AtEditor word), spaced editor ++ rest) → IsLiveGood before
@@ -376,19 +377,19 @@ editor_line_there : (size : ℕ) (before : LiveBefore) (editor : ℕ) (line : Ed
     → LiveFollows before (Line editor line) → IsLiveLineOf size before (line_of_editor editor line) (Line editor line)
 editor_line_there size before editor (Asked.Ins index atoms) good h =
     line_of size before At.Ins editor (spaced index ++ spaced_text atoms) _ _ refl good h refl
-    (made_there _ _ (index, atoms) (index_and_text_there index atoms h.fits.0 h.fits.1))
+    (mapped_there _ _ (index, atoms) (index_and_text_there index atoms h.fits.0 h.fits.1))
 editor_line_there size before editor (Asked.Paste index atoms) good h =
     line_of size before At.Paste editor (spaced index ++ spaced_text atoms) _ _ refl good h refl
-    (made_there _ _ (index, atoms) (index_and_text_there index atoms h.fits.0 h.fits.1))
+    (mapped_there _ _ (index, atoms) (index_and_text_there index atoms h.fits.0 h.fits.1))
 editor_line_there size before editor (Asked.Del index count) good h =
     line_of size before At.Del editor (spaced index ++ spaced count) _ _ refl good h refl
-    (made_there _ _ (index, count) (two_numbers_there index count h.fits.0 h.fits.1))
+    (mapped_there _ _ (index, count) (two_numbers_there index count h.fits.0 h.fits.1))
 editor_line_there size before editor (Asked.Flat place) good h =
     line_of size before At.Flat editor (spaced_place place) _ _ refl good h (place_open place)
-    (made_there _ _ place (place_there place h.fits))
+    (mapped_there _ _ place (place_there place h.fits))
 editor_line_there size before editor (Asked.Cancel proposal) good h =
     line_of size before At.Cancel editor (spaced_dot proposal) _ _ refl good h refl
-    (made_there _ _ proposal (proposal_there before.sites proposal good.sites h.fits))
+    (mapped_there _ _ proposal (proposal_there before.sites proposal good.sites h.fits))
 editor_line_there size before editor Asked.Look good h =
     subst (λ (xs : List ℕ). IsLiveLineOf size before (codes "look" ++ xs) (Line editor Asked.Look))
     (append-nil (spaced editor)) (line_of size before At.Look editor [] (codes "look" ++ (spaced editor ++ []))
@@ -415,7 +416,7 @@ live_line_there size before (Loss loss) good h = record {
   word = First.Loss;
   rest = spaced loss.drop_each ++ spaced loss.double_each;
   cut = refl;
-  read = made_there _ _ (loss.drop_each, loss.double_each)
+  read = mapped_there _ _ (loss.drop_each, loss.double_each)
       (two_numbers_there loss.drop_each loss.double_each h.fits.0 h.fits.1);
   placed = ne_eqb before.sites 0 (λ (e : before.sites ≡ 0). absurd (omega (arith, h.some)));
   none = ap (λ o. cond {A = Option Kind} (is_some o) (Some Fault.Loss) None) h.place;
@@ -445,7 +446,7 @@ sites_line_there size before n none h = record {
   word = First.Sites;
   rest = spaced n;
   cut = refl;
-  read = made_there (λ n. Sites n) (sites_at size (spaced n)) n (sites_there size n h);
+  read = mapped_there (λ n. Sites n) (sites_at size (spaced n)) n (sites_there size n h);
   placed = le-ltb 0 before.sites (omega (arith, none));
   none = refl;
 }

@@ -21,7 +21,7 @@ use Rattle.td_script.specs.declared.kind.Kind.TheVariants as Fault
 use Rattle.td_script.specs.Arguments.{by_word, with_rest, last, number_of, sites_of, dot_of, bit_of}
 use Rattle.td_script.specs.Arguments.{text_at, word_at}
 use Rattle.td_script.specs.Script.{IsNumber, IsSiteOf, IsDotOf, IsClusters, IsPlace}
-use Rattle.td_script.specs.Shared.{index_and_text, is_too_wide, made, place_at, place_beside, place_of, proposal_at}
+use Rattle.td_script.specs.Shared.{index_and_text, is_too_wide, mapped, place_at, place_beside, place_of, proposal_at}
 use Rattle.td_script.specs.Shared.{sites_at, two_numbers}
 use Rattle.td_script.specs.Spelling.{spaced, spaced_bit, spaced_dot, spaced_place, spaced_text}
 use Rattle.td_script.proofs.ArgumentLaws.{number_at_back, sites_at_back, dot_at_back, bit_at_back}
@@ -70,13 +70,13 @@ pub record AreRead {V : Type 0} (written : V → List ℕ) (Fits : V → Type 0)
   pub fits : Fits value
   pub whole : rest ≡ written value
 
-pub made_back : {V W : Type 0} (make : V → W) (r : Result V Kind) (w : W) → made make r ≡ Ok w
+pub mapped_back : {V W : Type 0} (make : V → W) (r : Result V Kind) (w : W) → mapped make r ≡ Ok w
     → (v : V) × (r ≡ Ok v) × (make v ≡ w)
-made_back make (Ok v) w e = (v, refl, ok_same (make v) w e)
-made_back make (Err kind) w e = absurd (err_is_no_ok kind w e)
+mapped_back make (Ok v) w e = (v, refl, ok_same (make v) w e)
+mapped_back make (Err kind) w e = absurd (err_is_no_ok kind w e)
 
-pub made_there : {V W : Type 0} (make : V → W) (r : Result V Kind) (v : V) → r ≡ Ok v → made make r ≡ Ok (make v)
-made_there make r v e = ap (made make) e
+pub mapped_there : {V W : Type 0} (make : V → W) (r : Result V Kind) (v : V) → r ≡ Ok v → mapped make r ≡ Ok (make v)
+mapped_there make r v e = ap (mapped make) e
 
 abbrev pub spaced_index_and_text : ℕ × List (List ℕ) → List ℕ
 spaced_index_and_text asked = spaced asked.0 ++ spaced_text asked.1

@@ -17,7 +17,7 @@ use Rattle.td_script.specs.Arguments.{behind, number_of, with_rest, last}
 use Rattle.td_script.specs.Arguments.{cut_word}
 use Rattle.td_script.specs.Faults.{command, give_at, is_misplaced, site_command}
 use Rattle.td_script.specs.Shared.{sites_at}
-use Rattle.td_script.proofs.SharedLaws.{IsSitesFor, made_there, index_and_text_there, two_numbers_there, place_there}
+use Rattle.td_script.proofs.SharedLaws.{IsSitesFor, mapped_there, index_and_text_there, two_numbers_there, place_there}
 use Rattle.td_script.proofs.SharedLaws.{proposal_there, sites_there, not_name}
 use Rattle.td_script.specs.Script.{IsNumber, IsSiteOf, IsCommand}
 use Rattle.td_script.specs.Spelling.{line_of, spaced, spaced_bit, spaced_dot, spaced_text}
@@ -74,26 +74,26 @@ line_there size before (Sites n) few h = absurd h
 line_there size before (Ins site index atoms) few h =
     line_at_site size before At.Ins (spaced site ++ (spaced index ++ spaced_text atoms)) _ _ refl
     (at_site size before At.Ins site (spaced index ++ spaced_text atoms) (Ins site index atoms) few h.0 refl
-    (made_there _ _ (index, atoms) (index_and_text_there index atoms h.1 h.2)))
+    (mapped_there _ _ (index, atoms) (index_and_text_there index atoms h.1 h.2)))
 line_there size before (Paste site index atoms) few h =
     line_at_site size before At.Paste (spaced site ++ (spaced index ++ spaced_text atoms)) _ _ refl
     (at_site size before At.Paste site (spaced index ++ spaced_text atoms) (Paste site index atoms) few h.0 refl
-    (made_there _ _ (index, atoms) (index_and_text_there index atoms h.1 h.2)))
+    (mapped_there _ _ (index, atoms) (index_and_text_there index atoms h.1 h.2)))
 line_there size before (Del site index count) few h =
     line_at_site size before At.Del (spaced site ++ (spaced index ++ spaced count)) _ _ refl
     (at_site size before At.Del site (spaced index ++ spaced count) (Del site index count) few h.0 refl
-    (made_there _ _ (index, count) (two_numbers_there index count h.1 h.2)))
+    (mapped_there _ _ (index, count) (two_numbers_there index count h.1 h.2)))
 line_there size before (Flat site Whole) few h =
     line_at_site size before At.Flat (spaced site ++ codes " root") _ _ refl
     (at_site size before At.Flat site (codes " root") (Flat site Whole) few h refl refl)
 line_there size before (Flat site (Beside index bit)) few h =
     line_at_site size before At.Flat (spaced site ++ (spaced index ++ spaced_bit bit)) _ _ refl
     (at_site size before At.Flat site (spaced index ++ spaced_bit bit) (Flat site (Beside index bit)) few h.0 refl
-    (made_there _ _ (Beside index bit) (place_there (Beside index bit) h.1)))
+    (mapped_there _ _ (Beside index bit) (place_there (Beside index bit) h.1)))
 line_there size before (Cancel site proposal) few h =
     line_at_site size before At.Cancel (spaced site ++ spaced_dot proposal) _ _ refl
     (at_site size before At.Cancel site (spaced_dot proposal) (Cancel site proposal) few h.0 refl
-    (made_there _ _ proposal (proposal_there before.sites proposal few h.1)))
+    (mapped_there _ _ proposal (proposal_there before.sites proposal few h.1)))
 line_there size before (Give site number) few h =
     line_at_site size before At.Give (spaced site ++ spaced number) _ _ refl
     (at_site size before At.Give site (spaced number) (Give site number) few h.0 refl
@@ -119,5 +119,5 @@ sites_line_there size before n h = record {
   rest = spaced n;
   cut = refl;
   placed = refl;
-  read = made_there (λ n. Sites n) (sites_at size (spaced n)) n (sites_there size n h);
+  read = mapped_there (λ n. Sites n) (sites_at size (spaced n)) n (sites_there size n h);
 }

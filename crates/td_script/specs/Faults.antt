@@ -15,7 +15,7 @@ use Rattle.td_script.specs.declared.word.SiteWord.{SiteWord}
 use Rattle.td_script.specs.declared.word.SiteWord.TheVariants as AtSite
 use Rattle.td_script.specs.Arguments.{behind, last, with_rest, by_word, word_at, cut_word}
 use Rattle.td_script.specs.Arguments.{number_of, site_of}
-use Rattle.td_script.specs.Shared.{made, sites_at, index_and_text, two_numbers, place_at, proposal_at}
+use Rattle.td_script.specs.Shared.{mapped, sites_at, index_and_text, two_numbers, place_at, proposal_at}
 use Rattle.td_script.specs.Judging.{Judged, judged_each, judged_line, fault_in}
 use Rattle.td_script.specs.Lines.{lines_of}
 use Rattle.td_script.specs.Script.{requests}
@@ -29,11 +29,11 @@ give_at site word rest =
 
 -- what each command asks for behind its site, from left to right, among so many sites
 abbrev pub site_command : ℕ → ℕ → SiteWord → List ℕ → Result Command Kind
-site_command sites site AtSite.Ins rest = made (λ asked. Ins site asked.0 asked.1) (index_and_text rest)
-site_command sites site AtSite.Paste rest = made (λ asked. Paste site asked.0 asked.1) (index_and_text rest)
-site_command sites site AtSite.Del rest = made (λ asked. Del site asked.0 asked.1) (two_numbers rest)
-site_command sites site AtSite.Flat rest = made (λ place. Flat site place) (place_at rest)
-site_command sites site AtSite.Cancel rest = made (λ proposal. Cancel site proposal) (proposal_at sites rest)
+site_command sites site AtSite.Ins rest = mapped (λ asked. Ins site asked.0 asked.1) (index_and_text rest)
+site_command sites site AtSite.Paste rest = mapped (λ asked. Paste site asked.0 asked.1) (index_and_text rest)
+site_command sites site AtSite.Del rest = mapped (λ asked. Del site asked.0 asked.1) (two_numbers rest)
+site_command sites site AtSite.Flat rest = mapped (λ place. Flat site place) (place_at rest)
+site_command sites site AtSite.Cancel rest = mapped (λ proposal. Cancel site proposal) (proposal_at sites rest)
 site_command sites site AtSite.Give rest = behind (word_at rest) (give_at site)
 site_command sites site AtSite.Show rest = last (Show site) rest
 site_command sites site AtSite.Tree rest = last (Tree site) rest
@@ -41,7 +41,7 @@ site_command sites site AtSite.Count rest = last (Count site) rest
 
 -- what each command asks for behind its word, in a script of so many bytes, behind what stands before the line
 abbrev pub command : ℕ → Before → Word → List ℕ → Result Command Kind
-command size before First.Sites rest = made (λ n. Sites n) (sites_at size rest)
+command size before First.Sites rest = mapped (λ n. Sites n) (sites_at size rest)
 command size before First.Settle rest = last Settle rest
 command size before (First.AtSite word) rest =
     behind (by_word (site_of before.sites) rest) (λ site rest. site_command before.sites site word rest)

@@ -25,17 +25,17 @@ use Rattle.td_script.specs.Judging.{Judged, fault_in, judged_each, judged_line}
 use Rattle.td_script.specs.Lines.{lines_of}
 use Rattle.td_script.specs.LiveScript.{calls}
 use Rattle.td_script.specs.LiveWords.{live_word_named}
-use Rattle.td_script.specs.Shared.{made, sites_at, index_and_text, two_numbers, place_at, proposal_at}
+use Rattle.td_script.specs.Shared.{mapped, sites_at, index_and_text, two_numbers, place_at, proposal_at}
 
 -- ---- the arguments
 
 -- what each line asks for behind its editor, from left to right, among so many sites
 abbrev pub editor_line : ℕ → EditorWord → List ℕ → Result EditorLine Kind
-editor_line sites AtEditor.Ins rest = made (λ asked. Asked.Ins asked.0 asked.1) (index_and_text rest)
-editor_line sites AtEditor.Paste rest = made (λ asked. Asked.Paste asked.0 asked.1) (index_and_text rest)
-editor_line sites AtEditor.Del rest = made (λ asked. Asked.Del asked.0 asked.1) (two_numbers rest)
-editor_line sites AtEditor.Flat rest = made (λ place. Asked.Flat place) (place_at rest)
-editor_line sites AtEditor.Cancel rest = made (λ proposal. Asked.Cancel proposal) (proposal_at sites rest)
+editor_line sites AtEditor.Ins rest = mapped (λ asked. Asked.Ins asked.0 asked.1) (index_and_text rest)
+editor_line sites AtEditor.Paste rest = mapped (λ asked. Asked.Paste asked.0 asked.1) (index_and_text rest)
+editor_line sites AtEditor.Del rest = mapped (λ asked. Asked.Del asked.0 asked.1) (two_numbers rest)
+editor_line sites AtEditor.Flat rest = mapped (λ place. Asked.Flat place) (place_at rest)
+editor_line sites AtEditor.Cancel rest = mapped (λ proposal. Asked.Cancel proposal) (proposal_at sites rest)
 editor_line sites AtEditor.Look rest = last Asked.Look rest
 
 -- how many turns
@@ -50,20 +50,20 @@ abbrev pub turns_at : List ℕ → Result LiveCommand Kind
 turns_at rest = behind (by_word turns_of rest) (λ turns rest. last (Turns turns) rest)
 
 abbrev pub loss_at : List ℕ → Result LiveCommand Kind
-loss_at rest = made (λ asked. Loss (record { drop_each = asked.0; double_each = asked.1 })) (two_numbers rest)
+loss_at rest = mapped (λ asked. Loss (record { drop_each = asked.0; double_each = asked.1 })) (two_numbers rest)
 
 abbrev pub editor_at : ℕ → List ℕ → Result LiveCommand Kind
 editor_at sites rest = behind (by_word (site_of sites) rest) (λ site rest. last (Editor site) rest)
 
 -- what each command asks for behind its word, in a script of so many bytes, among so many sites and editors
 abbrev pub live_command : (size sites editors : ℕ) → LiveWord → List ℕ → Result LiveCommand Kind
-live_command size sites editors First.Sites rest = made (λ n. Sites n) (sites_at size rest)
+live_command size sites editors First.Sites rest = mapped (λ n. Sites n) (sites_at size rest)
 live_command size sites editors First.Turns rest = turns_at rest
 live_command size sites editors First.Loss rest = loss_at rest
 live_command size sites editors First.Editor rest = editor_at sites rest
 live_command size sites editors (First.AtEditor word) rest =
     behind (by_word (editor_of editors) rest) (λ editor rest.
-    made (λ line. Line editor line) (editor_line sites word rest))
+    mapped (λ line. Line editor line) (editor_line sites word rest))
 
 -- ---- what stands before
 

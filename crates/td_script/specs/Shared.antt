@@ -12,9 +12,9 @@ use Rattle.td_script.specs.Arguments.{behind, last, with_rest, by_word, word_at}
 use Rattle.td_script.specs.Arguments.{number_of, sites_of, dot_of, bit_of, text_at}
 
 -- what is made of arguments that have no fault
-abbrev pub made : {V W : Type 0} → (V → W) → Result V Kind → Result W Kind
-made make (Ok value) = Ok (make value)
-made make (Err kind) = Err kind
+abbrev pub mapped : {V W : Type 0} → (V → W) → Result V Kind → Result W Kind
+mapped make (Ok value) = Ok (make value)
+mapped make (Err kind) = Err kind
 
 -- many sites in a script that is too large for them
 abbrev pub is_too_wide : ℕ → ℕ → Bool
