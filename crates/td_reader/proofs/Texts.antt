@@ -13,7 +13,7 @@ use Rattle.td_script.specs.Texts.{escaped}
 use Rattle.td_script.proofs.LineLaws.{ascii_by_test}
 use Rattle.td_script.proofs.TextWords.{unquoted_there, unquoted_utf8, written_utf8}
 use Rattle.td_reader.specs.Arguments.{onto_raw, byte_then, turned, is_escape, raw_at, plain}
-use Rattle.td_reader.specs.Arguments.{text_of, text_at, IsRaw}
+use Rattle.td_reader.specs.Arguments.{plain_read, text_at, IsRaw}
 use Rattle.td_reader.specs.Reading.{Reading}
 
 -- bytes that were read before what is read from here on
@@ -186,7 +186,7 @@ pub text_at_there : (text rest : List ℕ) → IsUtf8 text → text_at (flat_map
     (text, rest)
 unfolding text_at
 text_at_there text rest u =
-    ap text_of (raw_there text rest)
+    ap plain_read (raw_there text rest)
     ∙ cond-true {A = Reading (List ℕ)} (is_utf8 (flat_map escaped text))
     (Some (plain false (flat_map escaped text), rest)) None
     (is_utf8-from_IsUtf8 (flat_map escaped text) (written_utf8 text u))
@@ -196,13 +196,13 @@ pub text_read : (bs raw rest : List ℕ) → raw_at false bs ≡ Some (raw, rest
     (plain false raw, rest)
 unfolding text_at
 text_read bs raw rest e u =
-    ap text_of e ∙ cond-true {A = Reading (List ℕ)} (is_utf8 raw) (Some (plain false raw, rest)) None
+    ap plain_read e ∙ cond-true {A = Reading (List ℕ)} (is_utf8 raw) (Some (plain false raw, rest)) None
     (is_utf8-from_IsUtf8 raw u)
 
 pub no_text_read : (bs raw rest : List ℕ) → raw_at false bs ≡ Some (raw, rest) → ¬ IsUtf8 raw → text_at bs ≡ None
 unfolding text_at
 no_text_read bs raw rest e none =
-    ap text_of e ∙ cond-false {A = Reading (List ℕ)} (is_utf8 raw) (Some (plain false raw, rest)) None
+    ap plain_read e ∙ cond-false {A = Reading (List ℕ)} (is_utf8 raw) (Some (plain false raw, rest)) None
     (false_from_ne_true (is_utf8 raw) (λ (h : is_utf8 raw ≡ true). none (IsUtf8-from_is_utf8 raw h)))
 
 -- a text that was read
@@ -214,7 +214,7 @@ pub text_at_back : (bytes text rest : List ℕ) → text_at bytes ≡ Some (text
 unfolding text_at
 text_at_back bytes text rest e = at_raw (raw_at false bytes) refl e
   where
-    at_raw : (o : Reading (List ℕ)) → raw_at false bytes ≡ o → text_of o ≡ Some (text, rest) → IsText bytes text rest
+    at_raw : (o : Reading (List ℕ)) → raw_at false bytes ≡ o → plain_read o ≡ Some (text, rest) → IsText bytes text rest
     at_raw None h e = absurd (none-some (text, rest) e)
     at_raw (Some read) h e =
         let got = cond_some (is_utf8 read.0) (plain false read.0, read.1) (text, rest) e in

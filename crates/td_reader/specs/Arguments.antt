@@ -124,13 +124,13 @@ pub record IsRaw (raw : List ℕ) : Type 0 where
   pub written : raw ≡ flat_map escaped (plain false raw)
   pub utf8 : IsUtf8 (plain false raw)
 
-abbrev pub text_of : Reading (List ℕ) → Reading (List ℕ)
-text_of None = None
-text_of (Some read) = if is_utf8 read.0 then Some (plain false read.0, read.1) else None
+abbrev pub plain_read : Reading (List ℕ) → Reading (List ℕ)
+plain_read None = None
+plain_read (Some read) = if is_utf8 read.0 then Some (plain false read.0, read.1) else None
 
 -- a text of UTF-8
 unfoldable pub text_at : List ℕ → Reading (List ℕ)
-text_at bytes = text_of (raw_at false bytes)
+text_at bytes = plain_read (raw_at false bytes)
 
 abbrev pub is_atom_len : ℕ → Bool
 is_atom_len len = nat_lt 0 len && nat_le len MAX_ATOM_LEN

@@ -9,16 +9,16 @@ use Rattle.td_script.specs.Spelling.{spaced}
 use Rattle.td_report.specs.Parts.{line}
 
 -- how a site took a message, and how many waiting operations after it
-abbrev pub taken : Reply → ℕ → List ℕ
-taken New next = codes " new" ++ spaced next
-taken Later next = codes " later"
-taken Repeat next = codes " repeat"
-taken _ next = []
+abbrev pub taken_part : Reply → ℕ → List ℕ
+taken_part New next = codes " new" ++ spaced next
+taken_part Later next = codes " later"
+taken_part Repeat next = codes " repeat"
+taken_part _ next = []
 
 abbrev pub given_part : Given → List ℕ
 given_part NoSuch = codes " none"
 given_part Stray = codes " stray"
-given_part (Took reply next) = taken reply next
+given_part (Took reply next) = taken_part reply next
 
 abbrev pub give_line : ℕ → ℕ → Given → List ℕ
 give_line site number given = line (codes "give") site (spaced number ++ given_part given)

@@ -1,5 +1,5 @@
 ghost use Rattle.std.specs.Prelude.{◌≡◌, ◌++◌, IfOk, OnOk};
-ghost use Rattle.td_report.specs.Given.{give_line, given_part, settle_line, taken};
+ghost use Rattle.td_report.specs.Given.{give_line, given_part, settle_line, taken_part};
 
 use crate::parts::{begin, push_spaced};
 use std::alloc::Global;
@@ -31,7 +31,7 @@ fn push_given(line: &mut Bytes, given: &Given) -> Result<(), Memory>
 
 // How the site took the message, and how many waiting operations after it.
 fn push_taken(line: &mut Bytes, reply: &Reply, next: u32) -> Result<(), Memory>
-    ensures { OnOk result (line.new ≡ line.old ++ taken reply.now next) }
+    ensures { OnOk result (line.new ≡ line.old ++ taken_part reply.now next) }
 {
     match reply {
         Reply::New => {
