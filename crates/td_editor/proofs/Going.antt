@@ -8,7 +8,8 @@ use Rattle.td_op.specs.declared.input.Input.{Input}
 use Rattle.td_op.specs.declared.input.Input.TheVariants.{Next}
 use Rattle.td_machine.specs.Machine.{Machine}
 use Rattle.td_machine.specs.Step.{step}
-use Rattle.td_editor.specs.Editors.{EditorValue, after_input, after_inputs, is_ready, nexts, IsStopped}
+use Rattle.td_replica.specs.Replica.{has_ready}
+use Rattle.td_editor.specs.Editors.{EditorValue, after_input, after_inputs, nexts, IsStopped}
 use Rattle.td_editor.proofs.Steps.{after_more, after_first}
 
 -- so many steps are done, and of those that are to be done these are left
@@ -21,10 +22,10 @@ pub record IsGoing {T : Type 0} (heard : T → Change → T) (most done : ℕ) (
 abbrev on_or_off : ℕ → Machine → Bool → List Input
 on_or_off k m b = if b then Next ∷ nexts k (step m Next).machine else []
 
-nexts_on : (n k : ℕ) (m : Machine) → n ≡ suc k → is_ready m ≡ true → nexts n m ≡ Next ∷ nexts k (step m Next).machine
+nexts_on : (n k : ℕ) (m : Machine) → n ≡ suc k → has_ready m ≡ true → nexts n m ≡ Next ∷ nexts k (step m Next).machine
 nexts_on n k m e on = ap (λ (j : ℕ). nexts j m) e ∙ ap (on_or_off k m) on
 
-nexts_off : (n : ℕ) (m : Machine) → is_ready m ≡ false → nexts n m ≡ []
+nexts_off : (n : ℕ) (m : Machine) → has_ready m ≡ false → nexts n m ≡ []
 nexts_off zero m off = refl
 nexts_off (suc k) m off = ap (on_or_off k m) off
 
@@ -39,7 +40,7 @@ module _ {T : Type 0} (heard : T → Change → T) (most : ℕ) (old : EditorVal
         all = ap (λ (k : ℕ). nexts k old.replica.machine) all;
       }
 
-  left : (done : ℕ) (now : EditorValue T) → done < most → is_ready now.replica.machine ≡ true
+  left : (done : ℕ) (now : EditorValue T) → done < most → has_ready now.replica.machine ≡ true
       → nexts (most - done) now.replica.machine ≡ Next ∷ nexts (most - (done + 1))
       (step now.replica.machine Next).machine
   left done now few on =
@@ -47,7 +48,7 @@ module _ {T : Type 0} (heard : T → Change → T) (most : ℕ) (old : EditorVal
       nexts_on (most - done) (most - (done + 1)) now.replica.machine n on
 
   pub more : (done : ℕ) (now new : EditorValue T) → done < most → IsGoing heard most done old now
-      → is_ready now.replica.machine ≡ true → new ≡ after_input heard Next now → IsGoing heard most (done + 1) old new
+      → has_ready now.replica.machine ≡ true → new ≡ after_input heard Next now → IsGoing heard most (done + 1) old new
   more done now new few g on is =
       record {
         front = g.front ++ Next ∷ [];
@@ -78,7 +79,7 @@ module _ {T : Type 0} (heard : T → Change → T) (most : ℕ) (old : EditorVal
         count = sym g.count ∙ ap (λ (l : List Input). length l) (sym e);
       }
 
-  pub off : (done : ℕ) (now : EditorValue T) → IsGoing heard most done old now → is_ready now.replica.machine ≡ false
+  pub off : (done : ℕ) (now : EditorValue T) → IsGoing heard most done old now → has_ready now.replica.machine ≡ false
       → IsThrough done now
   off done now g idle = through done now g (nexts_off (most - done) now.replica.machine idle)
 
@@ -88,7 +89,7 @@ module _ {T : Type 0} (heard : T → Change → T) (most : ℕ) (old : EditorVal
       through done now g (ap (λ (k : ℕ). nexts k now.replica.machine) n)
 
   pub stopped : (done : ℕ) (now new : EditorValue T) → done < most → IsGoing heard most done old now
-      → is_ready now.replica.machine ≡ true → new ≡ now → IsStopped heard (nexts most old.replica.machine) old new
+      → has_ready now.replica.machine ≡ true → new ≡ now → IsStopped heard (nexts most old.replica.machine) old new
   stopped done now new few g on is =
       record {
         front = g.front;

@@ -12,12 +12,12 @@ use Rattle.td_op.specs.Op.{OpValue}
 use Rattle.td_machine.specs.Log.{proposed}
 use Rattle.td_machine.specs.Machine.{Machine}
 use Rattle.td_machine.specs.Making.{done}
-use Rattle.td_machine.specs.Ready.{is_ready as is_ready_op, next_ready, is_dot_of}
+use Rattle.td_machine.specs.Ready.{is_ready, next_ready, is_dot_of}
 use Rattle.td_machine.specs.Step.{step}
 use Rattle.td_machine.specs.Taking.{misfit, forget, waited, next_of, take_as, answer, vote_on}
 use Rattle.td_machine.proofs.StepKinds.{least_in}
-use Rattle.td_replica.specs.Replica.{ReplicaValue, is_idle, after_step}
-use Rattle.td_editor.specs.Editors.{is_ready, nexts, all_nexts, after_steps}
+use Rattle.td_replica.specs.Replica.{ReplicaValue, is_idle, after_step, has_ready}
+use Rattle.td_editor.specs.Editors.{nexts, all_nexts, after_steps}
 
 -- ---- one fewer waits
 
@@ -54,7 +54,7 @@ take_waiting (Some slot) x m = at (vote_on x slot m)
     at true = refl
     at false = refl
 
-next_fewer : (m : Machine) → is_ready m ≡ true → length (step m Next).machine.waiting < length m.waiting
+next_fewer : (m : Machine) → has_ready m ≡ true → length (step m Next).machine.waiting < length m.waiting
 next_fewer m e = at (next_ready m.have m.waiting) refl e
   where
     fewer : (x : OpValue) → In x m.waiting → length (forget x m).waiting < length m.waiting
@@ -68,7 +68,7 @@ next_fewer m e = at (next_ready m.have m.waiting) refl e
     at (Some x) f k =
         cases (misfit x m)
         (fewer x
-        (In-filter (is_ready_op m.have) x m.waiting (least_in (filter (is_ready_op m.have) m.waiting) x f)).0)
+        (In-filter (is_ready m.have) x m.waiting (least_in (filter (is_ready m.have) m.waiting) x f)).0)
       where
         cases : (why : Option Why) → length (forget x m).waiting < length m.waiting
             → length (waited why x (forget x m)).machine.waiting < length m.waiting
@@ -77,7 +77,7 @@ next_fewer m e = at (next_ready m.have m.waiting) refl e
             subst (λ (l : List OpValue). length l < length m.waiting)
             (sym (take_waiting (proposed x.body) x (forget x m))) h
 
-nobody_waits : (m : Machine) → length m.waiting ≤ 0 → is_ready m ≡ false
+nobody_waits : (m : Machine) → length m.waiting ≤ 0 → has_ready m ≡ false
 nobody_waits m few =
     ap (λ (l : List OpValue). not (is_idle (next_of (next_ready m.have l) m).reply)) (none m.waiting few)
   where
@@ -88,19 +88,19 @@ nobody_waits m few =
 -- ---- so often is enough
 
 drained : (k : ℕ) (r : ReplicaValue) → length r.machine.waiting ≤ k
-    → is_ready (after_steps (nexts k r.machine) r).machine ≡ false
+    → has_ready (after_steps (nexts k r.machine) r).machine ≡ false
 drained zero r few = nobody_waits r.machine few
 drained (suc k) r few =
-    at (is_ready r.machine) refl
+    at (has_ready r.machine) refl
     (λ (less : length (step r.machine Next).machine.waiting < length r.machine.waiting).
     drained k (after_step Next r) (omega (arith, less, few)))
   where
-    at : (b : Bool) → is_ready r.machine ≡ b
+    at : (b : Bool) → has_ready r.machine ≡ b
         → (length (step r.machine Next).machine.waiting < length r.machine.waiting
-        → is_ready (after_steps (nexts k (step r.machine Next).machine) (after_step Next r)).machine ≡ false)
-        → is_ready (after_steps (if b then Next ∷ nexts k (step r.machine Next).machine else []) r).machine ≡ false
+        → has_ready (after_steps (nexts k (step r.machine Next).machine) (after_step Next r)).machine ≡ false)
+        → has_ready (after_steps (if b then Next ∷ nexts k (step r.machine Next).machine else []) r).machine ≡ false
     at true e on = on (next_fewer r.machine e)
     at false e on = e
 
-pub all_drained : (r : ReplicaValue) → is_ready (after_steps (all_nexts r.machine) r).machine ≡ false
+pub all_drained : (r : ReplicaValue) → has_ready (after_steps (all_nexts r.machine) r).machine ≡ false
 all_drained r = drained (length r.machine.waiting) r (omega arith)

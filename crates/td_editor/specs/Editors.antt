@@ -1,5 +1,5 @@
 -- An editor as contracts see it, and what its calls do.
-use Rattle.std.specs.Prelude.{◌≡◌, ◌++◌, ℕ, zero, suc, List, [], ◌∷◌, Bool, false, not, length, if◌then◌else◌}
+use Rattle.std.specs.Prelude.{◌≡◌, ◌++◌, ℕ, zero, suc, List, [], ◌∷◌, false, length, if◌then◌else◌}
 use Rattle.std.specs.Option.{option_to_list}
 use Rattle.td_op.specs.declared.change.Change.{Change}
 use Rattle.td_op.specs.declared.input.Input.{Input}
@@ -9,7 +9,7 @@ use Rattle.td_op.specs.declared.reply.Reply.{Reply}
 use Rattle.td_doc.specs.Document.{live_atoms}
 use Rattle.td_machine.specs.Machine.{Machine, start}
 use Rattle.td_machine.specs.Step.{step}
-use Rattle.td_replica.specs.Replica.{ReplicaValue, after_step, is_idle}
+use Rattle.td_replica.specs.Replica.{ReplicaValue, after_step, has_ready}
 use Rattle.td_editor.specs.declared.received.Received.{Received}
 use Rattle.td_editor.specs.declared.received.Received.TheVariants.{Took}
 use Rattle.td_editor.specs.Screens.{hear_all}
@@ -68,14 +68,10 @@ pub record IsStopped {T : Type 0} (heard : T → Change → T) (inputs : List In
 
 -- ---- what waits
 
--- an operation that waits can be taken
-abbrev pub is_ready : Machine → Bool
-is_ready m = not (is_idle (step m Next).reply)
-
 -- as long as an operation that waits can be taken, and at most so often
 abbrev pub nexts : ℕ → Machine → List Input
 nexts zero m = []
-nexts (suc k) m = if is_ready m then Next ∷ nexts k (step m Next).machine else []
+nexts (suc k) m = if has_ready m then Next ∷ nexts k (step m Next).machine else []
 
 -- as many as wait: each takes one away from those
 abbrev pub all_nexts : Machine → List Input
@@ -97,4 +93,4 @@ pub record IsTaken {T : Type 0} (heard : T → Change → T) (message : Message)
     (answer : Received) : Type 0 where
   pub answered : answer ≡ answer_to message old.replica.machine
   pub after : new ≡ after_inputs heard (taking message old.replica.machine) old
-  pub ready : is_ready new.replica.machine ≡ false
+  pub ready : has_ready new.replica.machine ≡ false

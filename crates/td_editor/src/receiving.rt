@@ -5,7 +5,8 @@ ghost use Rattle.td_wire.specs.declared.reading.Malformed.{Malformed as WireFaul
 ghost use Rattle.td_wire.specs.Spelling.{SpellsIn, IsFaultAt};
 ghost use Rattle.td_editor.specs.declared.received.Received.TheVariants.{Malformed, Stray};
 ghost use Rattle.td_editor.specs.Due.{IsDue};
-ghost use Rattle.td_editor.specs.Editors.{after_inputs, is_ready, all_nexts, taking, IsTaken, IsStopped};
+ghost use Rattle.td_replica.specs.Replica.{has_ready};
+ghost use Rattle.td_editor.specs.Editors.{after_inputs, all_nexts, taking, IsTaken, IsStopped};
 
 use crate::editor::Editor;
 use crate::received::Received;
@@ -56,7 +57,7 @@ impl<D: Doc, S: Screen> Editor<D, S> {
     pub fn catch_up(&mut self) -> Result<u32, Memory>
         ensures count { IfOk result (λ count. count ≡ length (all_nexts self.old.replica.machine)) }
         ensures ok { OnOk result (self.new ≡ after_inputs S.heard (all_nexts self.old.replica.machine) self.old) }
-        ensures ready { OnOk result (is_ready self.new.replica.machine ≡ false) }
+        ensures ready { OnOk result (has_ready self.new.replica.machine ≡ false) }
         ensures err { OnErr result (IsStopped S.heard (all_nexts self.old.replica.machine) self.old self.new) }
     {
         let waiting = self.replica().waiting();

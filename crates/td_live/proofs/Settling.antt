@@ -10,12 +10,12 @@ use Rattle.td_op.specs.declared.input.Input.{Input}
 use Rattle.td_op.specs.declared.message.Message.{Message}
 use Rattle.td_machine.specs.History.{History, history}
 use Rattle.td_machine.specs.Step.{step}
-use Rattle.td_replica.specs.Replica.{ReplicaValue, after_step}
+use Rattle.td_replica.specs.Replica.{ReplicaValue, after_step, has_ready}
 use Rattle.td_line.specs.Calls.{local_in, local_at}
 use Rattle.td_line.proofs.Calling.{local_same}
 use Rattle.td_script.specs.declared.live.editor_line.EditorLine.{EditorLine}
 use Rattle.td_world.specs.World.{WorldValue, Move, size, replica, replica_from, machine_of, family_of, moved, moved_all}
-use Rattle.td_world.specs.Calls.{is_ready, is_wanted, next, nexts, take, give_moves, wanted_moves}
+use Rattle.td_world.specs.Calls.{is_wanted, next, nexts, take, give_moves, wanted_moves}
 use Rattle.td_world.specs.Calls.{moves_of, give_all_moves, pass_from, pass, passes, IsSettled}
 use Rattle.td_world.proofs.Moves.{size_family, size_moved, size_after, moved_here, moved_there}
 use Rattle.td_world.proofs.Replicas.{history_from}
@@ -73,7 +73,7 @@ quietly_moved (move ∷ moves) w quiet j =
 
 nexts_quiet : (k site : ℕ) (w : WorldValue) → AllByRecursion IsQuiet (nexts k site w)
 nexts_quiet zero site w = tt
-nexts_quiet (suc k) site w = at (is_ready (machine_of w site)) (nexts_quiet k site (moved (next site) w))
+nexts_quiet (suc k) site w = at (has_ready (machine_of w site)) (nexts_quiet k site (moved (next site) w))
   where
     at : (b : Bool) → AllByRecursion IsQuiet (nexts k site (moved (next site) w))
         → AllByRecursion IsQuiet (if b then next site ∷ nexts k site (moved (next site) w) else [])

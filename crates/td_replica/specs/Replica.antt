@@ -1,9 +1,11 @@
 -- A replica as contracts see it: its machine, and the history that led there.
-use Rattle.std.specs.Prelude.{◌≡◌, ◌<◌, ◌≤◌, ◌++◌, ℕ, [], ◌∷◌, Bool, true, false, Option, None}
+use Rattle.std.specs.Prelude.{◌≡◌, ◌<◌, ◌≤◌, ◌++◌, ℕ, [], ◌∷◌, Bool, true, false, not, Option, None}
 use Rattle.td_base.specs.declared.site.TheConstants.{MAX_SITE}
 use Rattle.td_op.specs.declared.change.Change.{Change}
 use Rattle.td_op.specs.declared.entry.Entry.{Entry}
 use Rattle.td_op.specs.declared.input.Input.{Input}
+use Rattle.td_op.specs.declared.input.Input.TheVariants.{Take, Next}
+use Rattle.td_op.specs.declared.message.Message.{Message}
 use Rattle.td_op.specs.declared.reply.Reply.{Reply}
 use Rattle.td_op.specs.declared.reply.Reply.TheVariants.{Made, Cancelled, Held, Position, Gone, Limit, NotOpen, New}
 use Rattle.td_op.specs.declared.reply.Reply.TheVariants.{Later, Repeat, Unfit, Taken, Dropped, Idle}
@@ -74,3 +76,11 @@ is_idle Later = false
 is_idle (Unfit why) = false
 is_idle (Taken dot) = false
 is_idle (Dropped dot why) = false
+
+-- to take the message again would change nothing
+abbrev pub knows_message : Message → Machine → Bool
+knows_message message m = is_repeat (step m (Take message)).reply
+
+-- an operation that waits can be taken
+abbrev pub has_ready : Machine → Bool
+has_ready m = not (is_idle (step m Next).reply)

@@ -1,16 +1,14 @@
 // What a replica tells of itself. Of these calls only `text` takes memory.
-ghost use Rattle.std.specs.Prelude.{◌≡◌, ◌≤◌, length, not, slice_get, IfOk};
+ghost use Rattle.std.specs.Prelude.{◌≡◌, ◌≤◌, length, slice_get, IfOk};
 ghost use Rattle.std.specs.List.{find};
-ghost use Rattle.td_op.specs.declared.input.Input.TheVariants.{Take, Next};
 ghost use Rattle.td_doc.specs.Document.{text_of};
 ghost use Rattle.td_machine.specs.Counts.{ops_of};
 ghost use Rattle.td_machine.specs.Hold.{held_over};
 ghost use Rattle.td_machine.specs.Log.{decision};
 ghost use Rattle.td_machine.specs.Machine.{made, undecided};
 ghost use Rattle.td_machine.specs.Ready.{is_dot_of};
-ghost use Rattle.td_machine.specs.Step.{step};
 ghost use Rattle.td_base.specs.Lists.{kth};
-ghost use Rattle.td_replica.specs.Replica.{IsReplica, is_repeat, is_idle};
+ghost use Rattle.td_replica.specs.Replica.{IsReplica, knows_message, has_ready};
 
 use crate::replica::Replica;
 use std::alloc::Global;
@@ -79,14 +77,14 @@ impl<D: Doc> Replica<D> {
 
     /// Whether `take` would answer Repeat.
     pub fn known(&self, message: &Message) -> bool
-        ensures { result ≡ is_repeat (step self.now.machine (Take message.now)).reply }
+        ensures { result ≡ knows_message message.now self.now.machine }
     {
         self.state.known(message)
     }
 
     /// Whether `next` would not answer Idle.
     pub fn ready(&self) -> bool
-        ensures { result ≡ not (is_idle (step self.now.machine Next).reply) }
+        ensures { result ≡ has_ready self.now.machine }
     {
         self.state.has_ready()
     }

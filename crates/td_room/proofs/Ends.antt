@@ -7,10 +7,9 @@ use Rattle.std.specs.List.{AllByRecursion, AllZip}
 use Rattle.td_base.specs.declared.site.TheConstants.{MAX_SITE}
 use Rattle.td_machine.specs.Machine.{Machine, start}
 use Rattle.td_machine.specs.History.{Family, History, after, IsLegal, IsConsistent}
-use Rattle.td_replica.specs.Replica.{ReplicaValue}
+use Rattle.td_replica.specs.Replica.{ReplicaValue, has_ready}
 use Rattle.td_world.specs.World.{AreSites, replica_from, world_of}
 use Rattle.td_world.specs.Promises.{NobodyReady}
-use Rattle.td_world.specs.Calls.{is_ready}
 use Rattle.td_law_meeting.specs.Takes.{TakesWelcome}
 use Rattle.td_law_meeting.specs.Peers.{PeerValue, Hears, Tells, Met}
 use Rattle.td_law_meeting.specs.Accounts.{Account, IsAccount, AreSettled, others, family_of}
@@ -430,4 +429,4 @@ module _ (es : List EditorValue) (ws : List WorkerValue) (rs : List ReplicaValue
       let n : length rs ≡ length ws = (lengths es ws rs gs rows h).0 in
       let few : site - 1 < length ws = omega (arith, n, some, within) in
       let k = at_place es ws rs gs rows h (site - 1) few in
-      subst (λ (x : ReplicaValue). is_ready x.machine ≡ false) (sym k.one) k.ended.left.still
+      subst (λ (x : ReplicaValue). has_ready x.machine ≡ false) (sym k.one) k.ended.left.still

@@ -11,7 +11,8 @@ use Rattle.td_replica.specs.declared.given.Given.{Given}
 use Rattle.td_report.specs.Given.{give_line}
 use Rattle.td_world.specs.World.{WorldValue, Move, machine_of, moved_all}
 use Rattle.td_op.specs.Message.{is_for}
-use Rattle.td_world.specs.Calls.{give_moves, is_known, is_wanted, offered, offered_by, offer_moves}
+use Rattle.td_replica.specs.Replica.{knows_message}
+use Rattle.td_world.specs.Calls.{give_moves, is_wanted, offered, offered_by, offer_moves}
 use Rattle.td_world.specs.Calls.{offer_moves_of, took, wanted_answer, wanted_moves}
 use Rattle.td_world.specs.Parts.{ArePassed}
 use Rattle.td_run.specs.Printing.{Printed, and_then, give_each, give_wanted, line_and_events, only_line}
@@ -140,10 +141,10 @@ none_left site number messages p none =
 -- ---- those that are passed
 
 unwanted : (site : ℕ) (m : Message) (w : WorldValue)
-    → (is_for site m ≡ true → is_known m (machine_of w site) ≡ true) → is_wanted site m w ≡ false
+    → (is_for site m ≡ true → knows_message m (machine_of w site) ≡ true) → is_wanted site m w ≡ false
 unwanted site m w known = at (is_for site m) refl
   where
-    at : (b : Bool) → is_for site m ≡ b → (b && not (is_known m (machine_of w site))) ≡ false
+    at : (b : Bool) → is_for site m ≡ b → (b && not (knows_message m (machine_of w site))) ≡ false
     at true e = ap not (known e)
     at false e = refl
 

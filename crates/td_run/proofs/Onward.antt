@@ -15,7 +15,7 @@ use Rattle.td_op.specs.declared.message.Message.{Message}
 use Rattle.td_op.specs.declared.reply.Reply.{Reply}
 use Rattle.td_op.specs.declared.request.Request.TheVariants.{Cancel as GiveUp, Delete}
 use Rattle.td_history.specs.Past.{kth}
-use Rattle.td_replica.specs.Replica.{ReplicaValue}
+use Rattle.td_replica.specs.Replica.{ReplicaValue, has_ready}
 use Rattle.td_report.specs.Given.{settle_line}
 use Rattle.td_report.specs.Numbers.{count_line}
 use Rattle.td_report.specs.Tree.{show_line, tree_lines}
@@ -30,7 +30,7 @@ use Rattle.td_script.specs.declared.script.Script.{Script}
 use Rattle.td_script.proofs.RunLemmas.{runs_are_runs}
 use Rattle.td_world.specs.World.{IsWorld, WorldValue, family_of, is_for, machine_of, moved}
 use Rattle.td_world.specs.World.{moved_all, new_world, reply_to, size}
-use Rattle.td_world.specs.Calls.{ask, count_given, found_moves, give_moves, is_ready}
+use Rattle.td_world.specs.Calls.{ask, count_given, found_moves, give_moves}
 use Rattle.td_world.specs.Calls.{next, nexts, passes, take, wanted_moves}
 use Rattle.td_world.specs.Calls.{IsSettled}
 use Rattle.td_world.proofs.Beginnings.{new_is_world}
@@ -110,7 +110,7 @@ nexts_lead : (k site : ℕ) (w : WorldValue) → IsWorld w → 0 < site → site
     → IsWorld (moved_all (nexts k site w) w)
 nexts_lead zero site w i some within = i
 nexts_lead (suc k) site w i some within =
-    at (is_ready (machine_of w site)) (nexts_lead k site v here some low)
+    at (has_ready (machine_of w site)) (nexts_lead k site v here some low)
   where
     none : (message : Message) → Next ≡ Take message → ⊥
     none message e = cc

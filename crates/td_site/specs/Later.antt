@@ -1,13 +1,12 @@
 -- A site that goes on.
-use Rattle.std.specs.Prelude.{◌≡◌, ◌++◌, ◌⊎◌, true, false, not}
+use Rattle.std.specs.Prelude.{◌≡◌, ◌++◌, ◌⊎◌, true, false}
 use Rattle.std.specs.List.{AllByRecursion}
 use mathlib.Core.List.{IsPrefix}
 use Rattle.td_op.specs.declared.entry.Entry.{Entry}
 use Rattle.td_op.specs.declared.input.Input.TheVariants.{Next}
 use Rattle.td_machine.specs.History.{History}
 use Rattle.td_machine.specs.Machine.{Machine}
-use Rattle.td_machine.specs.Step.{step}
-use Rattle.td_replica.specs.Replica.{is_idle}
+use Rattle.td_replica.specs.Replica.{is_idle, has_ready}
 use Rattle.td_site.specs.Sites.{SiteValue}
 
 -- the same site, later
@@ -31,8 +30,8 @@ pub record OnlyNexts (old new : History) : Type 0 where
 
 -- no operation that waits can be taken
 abbrev pub NothingReady : Machine → Type 0
-NothingReady m = not (is_idle (step m Next).reply) ≡ false
+NothingReady m = has_ready m ≡ false
 
 -- something is left to do: the last step is not shown, or an operation that waits can be taken
 abbrev pub IsBehind : SiteValue → Type 0
-IsBehind s = (s.late ≡ true) ⊎ (not (is_idle (step s.replica.machine Next).reply) ≡ true)
+IsBehind s = (s.late ≡ true) ⊎ (has_ready s.replica.machine ≡ true)

@@ -1,8 +1,6 @@
 // How a site catches up with what it has been given.
-ghost use Rattle.std.specs.Prelude.{◌≡◌, ◌<◌, true, false, not, length, OnOk, OnErr};
-ghost use Rattle.td_op.specs.declared.input.Input.TheVariants.{Next};
-ghost use Rattle.td_machine.specs.Step.{step};
-ghost use Rattle.td_replica.specs.Replica.{is_idle};
+ghost use Rattle.std.specs.Prelude.{◌≡◌, ◌<◌, true, false, length, OnOk, OnErr};
+ghost use Rattle.td_replica.specs.Replica.{has_ready};
 ghost use Rattle.td_site.specs.Shows.{texts_to};
 ghost use Rattle.td_site.specs.Later.{LaterSite, OnlyNexts, NothingReady, IsBehind};
 
@@ -34,7 +32,7 @@ impl<D: Doc> Site<D> {
     // Takes the next of what waits.
     fn take_next<R: Wait>(&mut self, rt: &R) -> Result<(), Memory>
         requires late { self.old.late ≡ false }
-        requires ready { not (is_idle (step self.old.replica.machine Next).reply) ≡ true }
+        requires ready { has_ready self.old.replica.machine ≡ true }
         ensures nexts { OnlyNexts self.old.replica.entries self.new.replica.entries }
         ensures fewer { OnOk result
             (length self.new.replica.machine.waiting < length self.old.replica.machine.waiting) }

@@ -17,7 +17,7 @@ use Rattle.td_op.specs.Op.{OpValue}
 use Rattle.td_machine.specs.Decision.{outcome, new_ballot}
 use Rattle.td_machine.specs.Machine.{Machine, made, undecided, next_dot}
 use Rattle.td_machine.specs.Making.{make, decide}
-use Rattle.td_machine.specs.Ready.{is_had, is_ready as is_ready_op}
+use Rattle.td_machine.specs.Ready.{is_had, is_ready}
 use Rattle.td_machine.specs.Request.{Aim, Refuse, Do, GiveUp, aim, aim_step, attempt_step}
 use Rattle.td_machine.specs.Request.{is_past_limit, perform, request_step}
 use Rattle.td_machine.specs.Step.{step}
@@ -30,9 +30,8 @@ use Rattle.td_machine.specs.Parts.{IsOffered, proposed_here}
 use Rattle.td_machine.proofs.Turns.{length_have}
 use Rattle.td_machine.proofs.Vectors.{bump_other}
 use Rattle.td_machine.proofs.Walk.{offered}
-use Rattle.td_replica.specs.Replica.{ReplicaValue}
+use Rattle.td_replica.specs.Replica.{ReplicaValue, has_ready}
 use Rattle.td_world.specs.World.{WorldValue, Move, IsWorld, size, machine_of, family_of, moved}
-use Rattle.td_world.specs.Calls.{is_ready}
 use Rattle.td_world.specs.Promises.{NobodyReady}
 use Rattle.td_world.proofs.Moves.{size_family, size_moved, moved_here, moved_there}
 use Rattle.td_world.proofs.Named.{built_end, site_is, size_is, own_named}
@@ -91,8 +90,8 @@ request_change request m some = at (aim request m)
 -- what is ready then was ready before, if it waits for no own operation
 still_late : (m n : Machine) → IsOwnChange m n → (x : OpValue) → 0 < x.dot.site → x.dot.site ≢ m.site
     → vector_get x.deps m.site ≤ vector_get m.have m.site → length x.deps ≤ length m.have → 0 < m.site
-    → is_ready_op m.have x ≡ false → is_ready_op n.have x ≡ false
-still_late m n c x up foreign own long some late = at (is_ready_op n.have x) refl
+    → is_ready m.have x ≡ false → is_ready n.have x ≡ false
+still_late m n c x up foreign own long some late = at (is_ready n.have x) refl
   where
     had : is_had n.have x ≡ is_had m.have x
     had = ap (λ (k : ℕ). nat_le x.dot.seq k) (c.others x.dot.site up foreign)
@@ -122,7 +121,7 @@ still_late m n c x up foreign own long some late = at (is_ready_op n.have x) ref
             c.others (suc (d.site - 1)) (omega arith) other in
             le-leb d.seq (vector_get m.have d.site) (omega (arith, had_d, first, second, same))
 
-    at : (b : Bool) → is_ready_op n.have x ≡ b → is_ready_op n.have x ≡ false
+    at : (b : Bool) → is_ready n.have x ≡ b → is_ready n.have x ≡ false
     at false e = e
     at true e =
         let p = and_parts (not (is_had n.have x)) (vector_covers n.have x.deps) e in
@@ -150,7 +149,7 @@ module _ (w : WorldValue) (i : IsWorld w) (nobody : NobodyReady w) (site : ℕ) 
   at_site = ap (λ (n : Machine). n.site) same ∙ site_is (family_of w) i.consistent site some low
 
   late : (x : OpValue) → In x (machine_of w site).waiting
-      → is_ready_op (step (machine_of w site) (Local request)).machine.have x ≡ false
+      → is_ready (step (machine_of w site) (Local request)).machine.have x ≡ false
   late x j =
       let o : IsOffered (IsSent (family_of w) site) (machine (family_of w) site).site
       (machine (family_of w) site).size x =
@@ -188,7 +187,7 @@ module _ (w : WorldValue) (i : IsWorld w) (nobody : NobodyReady w) (site : ℕ) 
   pub asked_nobody : NobodyReady (moved (record { site = site; input = Local request }) w)
   asked_nobody =
       still_nobody w (moved move w) site some (size_moved w move) (moved_there w move some)
-      (subst (λ (r : ReplicaValue). is_ready r.machine ≡ false) (sym (moved_here w move some within))
+      (subst (λ (r : ReplicaValue). has_ready r.machine ≡ false) (sym (moved_here w move some within))
       (idle_from (step (machine_of w site) (Local request)).machine
       (ready_none (step (machine_of w site) (Local request)).machine.have
       (step (machine_of w site) (Local request)).machine.waiting

@@ -17,13 +17,12 @@ use Rattle.td_machine.specs.Machine.{start}
 use Rattle.td_machine.specs.History.{History, IsConsistent, machine, after, history}
 use Rattle.td_op.specs.Message.{sender}
 use Rattle.td_machine.proofs.Growing.{consistent_start}
-use Rattle.td_replica.specs.Replica.{ReplicaValue, IsReplica, new_replica}
+use Rattle.td_replica.specs.Replica.{ReplicaValue, IsReplica, new_replica, has_ready}
 use Rattle.td_replica.proofs.Legal.{built}
 use Rattle.td_world.specs.declared.post.Post.{Post}
 use Rattle.td_world.specs.World.{WorldValue, IsWorld, AreSites, replica, replica_from, machine_of, family_of}
 use Rattle.td_world.specs.World.{new_replicas, new_world, all_sent, world_of, is_sent_by}
 use Rattle.td_world.specs.Parts.{posted, world_value, new_posts, ArePassed, IsWorldParts}
-use Rattle.td_world.specs.Calls.{is_ready}
 use Rattle.td_world.specs.Promises.{NobodyReady}
 use Rattle.td_world.proofs.Moves.{size_family}
 use Rattle.td_world.proofs.Posts.{news_stand, stand_both}
@@ -336,5 +335,5 @@ pub new_nobody : (n : ℕ) → NobodyReady (new_world n)
 new_nobody n site up within =
     let long : length (new_replicas n n 1) ≡ n = new_length n n 1 in
     let same : 1 + (site - 1) ≡ site = omega (arith, up) in
-    ap (λ (r : ReplicaValue). is_ready r.machine)
+    ap (λ (r : ReplicaValue). has_ready r.machine)
     (new_from n n 1 (site - 1) (omega (arith, up, within, long)) ∙ ap (λ (s : ℕ). new_replica s n) same)

@@ -41,7 +41,7 @@ use Rattle.td_machine.proofs.Parts.{Other}
 use Rattle.td_machine.proofs.StepKinds.{by_kinds}
 use Rattle.td_machine.proofs.Turns.{comes_next}
 use Rattle.td_law_replay.proofs.Matching.{take_parts}
-use Rattle.td_world.specs.Calls.{is_known}
+use Rattle.td_replica.specs.Replica.{knows_message}
 use Rattle.td_world.proofs.Known.{from_op, from_vote, IsPlaced}
 use Rattle.td_world.proofs.Sending.{proposal_of}
 use Rattle.td_world.proofs.Steps.{IsCountedIn, as_much, decide_more, found_closed, had_taken}
@@ -64,7 +64,7 @@ put_there x (y ∷ waiting) = at (dot_lt y.dot x.dot) (put_there x waiting)
 
 -- a step that is not refused leads where the message is known
 abbrev Knows : Message → Stepped → Type 0
-Knows message s = ((why : Why) → s.reply ≡ Unfit why → ⊥) → is_known message s.machine ≡ true
+Knows message s = ((why : Why) → s.reply ≡ Unfit why → ⊥) → knows_message message s.machine ≡ true
 
 module _ (m : Machine) (r : IsReached m) where
   op_known : (x : OpValue) → IsInput (Take (AnOp x)) → Knows (AnOp x) (op_step x m)
@@ -140,7 +140,7 @@ module _ (m : Machine) (r : IsReached m) where
           there says = found_counted v.proposal v.voter says b m.ballots e
 
           known_from : (n : Machine) → n.site ≡ m.site → n.size ≡ m.size → IsCountedIn v.proposal v.voter n.ballots
-              → is_known (AVote v) n ≡ true
+              → knows_message (AVote v) n ≡ true
           known_from n site size k =
               from_vote v n
               (record {
@@ -149,7 +149,7 @@ module _ (m : Machine) (r : IsReached m) where
               })
               (record { ballot = k.0; found = k.1; counted = k.2 })
 
-          both : (y : Bool) → is_known (AVote v)
+          both : (y : Bool) → knows_message (AVote v)
               (decide v.proposal (outcome m.size y (counted v.voter y b))
               (record m { ballots = revise v.proposal (counted v.voter y) m.ballots })) ≡ true
           both true =
@@ -174,7 +174,7 @@ module _ (m : Machine) (r : IsReached m) where
   -- a message that is not refused is known from then on
   pub came_known : (message : Message) → IsInput (Take message)
       → ((why : Why) → (step m (Take message)).reply ≡ Unfit why → ⊥)
-      → is_known message (step m (Take message)).machine ≡ true
+      → knows_message message (step m (Take message)).machine ≡ true
   came_known (AnOp x) valid = op_known x valid
   came_known (AVote v) valid = vote_known v
 

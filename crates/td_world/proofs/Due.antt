@@ -20,7 +20,8 @@ use Rattle.td_machine.proofs.Family.{sent_ops}
 use Rattle.td_law_replay.proofs.Values.{values_of}
 use Rattle.td_world.specs.World.{WorldValue, Move, IsWorld, IsFit, size, machine_of}
 use Rattle.td_world.specs.World.{family_of, is_sent_by, moved, moved_all}
-use Rattle.td_world.specs.Calls.{is_known, is_ready, is_wanted, next, take, nexts, give_moves}
+use Rattle.td_replica.specs.Replica.{knows_message, has_ready}
+use Rattle.td_world.specs.Calls.{is_wanted, next, take, nexts, give_moves}
 use Rattle.td_world.specs.Calls.{wanted_moves, moves_of, give_all_moves, pass_from, pass, passes}
 use Rattle.td_world.proofs.Moves.{low, size_moved, size_after, still_sent, moved_both, world_moved}
 use Rattle.td_world.proofs.Named.{built_end, reached_end, sending_end}
@@ -51,7 +52,7 @@ due_front (move ∷ front) back w f = (f.0, due_front front back (moved move w) 
 due_nexts : (k site : ℕ) (w : WorldValue) → 0 < site → site ≤ size w → AreDue (nexts k site w) w
 due_nexts zero site w some within = tt
 due_nexts (suc k) site w some within =
-    at (is_ready (machine_of w site))
+    at (has_ready (machine_of w site))
     (due_nexts k site (moved (next site) w) some (subst (λ (n : ℕ). site ≤ n) (sym (size_moved w (next site))) within))
   where
     at : (b : Bool) → AreDue (nexts k site (moved (next site) w)) (moved (next site) w)
@@ -157,7 +158,7 @@ module _ (w : WorldValue) (i : IsWorld w) where
         valid = sent_valid message sent;
         came = λ other e.
             subst (λ (m : Message). In m w.sent × (is_for site m ≡ true)) (same other e)
-            (sent, (and_parts (is_for site message) (not (is_known message (machine_of w site))) wanted).0);
+            (sent, (and_parts (is_for site message) (not (knows_message message (machine_of w site))) wanted).0);
       }
     where
       same : (other : Message) → Take message ≡ Take other → message ≡ other
@@ -173,18 +174,18 @@ world_due (move ∷ moves) w i d = world_due moves (moved move w) (due_moved w i
 -- ---- where moves were made, nothing is ready afterwards
 
 abbrev pub AreAwake : WorldValue → List Move → Type 0
-AreAwake end moves = AllByRecursion (λ (move : Move). is_ready (machine_of end move.site) ≡ false) moves
+AreAwake end moves = AllByRecursion (λ (move : Move). has_ready (machine_of end move.site) ≡ false) moves
 
 awake_both : (end : WorldValue) (front back : List Move) → AreAwake end front → AreAwake end back
     → AreAwake end (front ++ back)
 awake_both end [] back f b = b
 awake_both end (move ∷ front) back f b = (f.0, awake_both end front back f.1 b)
 
-awake_at : (end : WorldValue) (site : ℕ) (moves : List Move) → AreAt site moves → is_ready (machine_of end site) ≡ false
-    → AreAwake end moves
+awake_at : (end : WorldValue) (site : ℕ) (moves : List Move) → AreAt site moves
+    → has_ready (machine_of end site) ≡ false → AreAwake end moves
 awake_at end site [] a h = tt
 awake_at end site (move ∷ moves) a h =
-    (subst (λ (s : ℕ). is_ready (machine_of end s) ≡ false) (sym a.0) h, awake_at end site moves a.1 h)
+    (subst (λ (s : ℕ). has_ready (machine_of end s) ≡ false) (sym a.0) h, awake_at end site moves a.1 h)
 
 moves_at : (site : ℕ) (messages : List Message) (w : WorldValue) → AreAt site (moves_of site messages w)
 moves_at site [] w = tt
@@ -197,7 +198,7 @@ moves_at site (message ∷ messages) w =
     wanted false = tt
 
 none_or_awake : (site : ℕ) (messages : List Message) (w : WorldValue) → 0 < site → site ≤ size w
-    → (moves_of site messages w ≡ []) ⊎ (is_ready (machine_of (moved_all (moves_of site messages w) w) site) ≡ false)
+    → (moves_of site messages w ≡ []) ⊎ (has_ready (machine_of (moved_all (moves_of site messages w) w) site) ≡ false)
 none_or_awake site [] w some within = inl refl
 none_or_awake site (message ∷ messages) w some within =
     at (is_wanted site message w) refl (none_or_awake site messages w some within)
@@ -206,15 +207,15 @@ none_or_awake site (message ∷ messages) w some within =
     given = give_moves site message w
 
     at : (b : Bool) → is_wanted site message w ≡ b
-        → (moves_of site messages w ≡ []) ⊎ (is_ready (machine_of (moved_all (moves_of site messages w) w) site)
+        → (moves_of site messages w ≡ []) ⊎ (has_ready (machine_of (moved_all (moves_of site messages w) w) site)
         ≡ false)
         → ((if b then given else []) ++ moves_of site messages (moved_all (if b then given else []) w) ≡ [])
-        ⊎ (is_ready (machine_of (moved_all ((if b then given else [])
+        ⊎ (has_ready (machine_of (moved_all ((if b then given else [])
         ++ moves_of site messages (moved_all (if b then given else []) w)) w) site) ≡ false)
     at false e h = h
     at true e h =
         inr
-        (subst (λ (v : WorldValue). is_ready (machine_of v site) ≡ false)
+        (subst (λ (v : WorldValue). has_ready (machine_of v site) ≡ false)
         (sym (moved_both (give_moves site message w) (moves_of site messages
         (moved_all (give_moves site message w) w)) w))
         (all_awake site messages (moved_all (give_moves site message w) w) some
@@ -242,7 +243,7 @@ awake_from (suc k) site w some within =
     here =
         ⊎_elim
         (λ (e : front ≡ []). subst (λ (l : List Move). AreAwake (moved_all back (moved_all front w)) l) (sym e) tt)
-        (λ (h : is_ready (machine_of (moved_all front w) site) ≡ false).
+        (λ (h : has_ready (machine_of (moved_all front w) site) ≡ false).
         awake_at (moved_all back (moved_all front w)) site front (moves_at site w.sent w)
         (pass_awake k (suc site) (moved_all front w) (omega arith) (omega (arith, within, same)) site some h))
         (none_or_awake site w.sent w some (omega (arith, within)))

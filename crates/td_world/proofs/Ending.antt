@@ -28,7 +28,8 @@ use Rattle.td_machine.proofs.Walk.{offered}
 use Rattle.td_world.specs.World.{WorldValue, Move, IsWorld, size, machine_of, family_of}
 use Rattle.td_world.specs.World.{is_sent_by, sent_by, moved, moved_all}
 use Rattle.td_op.specs.Message.{is_for}
-use Rattle.td_world.specs.Calls.{is_known, is_ready, is_wanted, pass, passes, count_given, IsSettled}
+use Rattle.td_replica.specs.Replica.{knows_message, has_ready}
+use Rattle.td_world.specs.Calls.{is_wanted, pass, passes, count_given, IsSettled}
 use Rattle.td_world.specs.Promises.{NobodyReady}
 use Rattle.td_world.proofs.Causes.{passes_end, settled_one}
 use Rattle.td_world.proofs.Settling.{IsSettling}
@@ -152,7 +153,7 @@ Informed A w =
 abbrev VotesKnown : WorldValue → Type 0
 VotesKnown w =
     (s : ℕ) → 0 < s → s ≤ size w → (v : Vote) → In (AVote v) w.sent → is_for s (AVote v) ≡ true
-    → is_known (AVote v) (machine_of w s) ≡ true
+    → knows_message (AVote v) (machine_of w s) ≡ true
 
 module _ (A : ℕ → Type 0) where
   abbrev AllIn : List Move → Type 0
@@ -171,7 +172,8 @@ module _ (A : ℕ → Type 0) where
         let g = given_is w move d (AnOp r.op) e in (
           g.0,
           (for_parts move.site (AnOp r.op)
-              (and_parts (is_for move.site (AnOp r.op)) (not (is_known (AnOp r.op) (machine_of w move.site))) g.1).0).0,
+              (and_parts (is_for move.site (AnOp r.op)) (not (knows_message (AnOp r.op) (machine_of w move.site)))
+              g.1).0).0,
         ))
         (λ (k : In r.op (machine_of w move.site).waiting).
         waiting_sent w i move.site (due_site w move d).0 (due_site w move d).1 r.op k)
@@ -202,12 +204,12 @@ module _ (A : ℕ → Type 0) where
         (λ (k : In message (sent_by move w)).
         let r = verdict_of message k in
         let g = given_is w move d (AVote r.vote) r.from in
-        let p = and_parts (is_for move.site (AVote r.vote)) (not (is_known (AVote r.vote) (machine_of w move.site)))
-        g.1 in
+        let p = and_parts (is_for move.site (AVote r.vote))
+        (not (knows_message (AVote r.vote) (machine_of w move.site))) g.1 in
         absurd
         (true≢false
         (sym (known move.site (due_site w move d).0 (due_site w move d).1 r.vote g.0 p.0)
-        ∙ not-true (is_known (AVote r.vote) (machine_of w move.site)) p.1)))
+        ∙ not-true (knows_message (AVote r.vote) (machine_of w move.site)) p.1)))
         (In-append message w.sent (sent_by move w) j)
 
     known_moved : VotesKnown w → VotesKnown (moved move w)
@@ -262,15 +264,16 @@ module _ (old : WorldValue) (before : IsWorld old) (w : WorldValue) (i : IsWorld
       (same_op (family_of w) i.consistent y z.0 p (sent_is_op w i z.0 (there (AnOp z.0) sent)) z.2) sent
 
   -- so a site that knows all that, and where nothing is ready, has all operations of it
-  all_had : (t : ℕ) → 0 < t → t ≤ size w → is_ready (machine_of w t) ≡ false
-      → ((message : Message) → In message old.sent → is_for t message ≡ true → is_known message (machine_of w t) ≡ true)
+  all_had : (t : ℕ) → 0 < t → t ≤ size w → has_ready (machine_of w t) ≡ false
+      → ((message : Message) → In message old.sent → is_for t message ≡ true
+      → knows_message message (machine_of w t) ≡ true)
       → (x : OpValue) → In (AnOp x) old.sent → IsTrue (vector_has (machine_of w t).have x.dot)
   all_had t some within idle known x soon =
       let same : machine_of w t ≡ machine (family_of w) t = i.machines t some within in
       subst (λ (m : Machine). IsTrue (vector_has m.have x.dot)) (sym same)
       (had_early (family_of w) i.consistent (λ (y : OpValue). In (AnOp y) old.sent) closed t some (low w i t within)
-      (subst (λ (m : Machine). is_ready m ≡ false) same idle)
-      (λ y o early to. subst (λ (m : Machine). is_known (AnOp y) m ≡ true) same (known (AnOp y) early to))
+      (subst (λ (m : Machine). has_ready m ≡ false) same idle)
+      (λ y o early to. subst (λ (m : Machine). knows_message (AnOp y) m ≡ true) same (known (AnOp y) early to))
       x (sent_is_op w i x (there (AnOp x) soon)) soon)
 
 -- ---- three passes
@@ -285,8 +288,8 @@ size_passed : (w : WorldValue) → size (passed w) ≡ size w
 size_passed w = size_after (pass w) w
 
 module _ (w : WorldValue) (i : IsWorld w)
-    (still : (s : ℕ) → 0 < s → s ≤ size w → is_ready (machine_of (passed (passed (passed w))) s) ≡ false
-    → is_ready (machine_of (passed w) s) ≡ false) where
+    (still : (s : ℕ) → 0 < s → s ≤ size w → has_ready (machine_of (passed (passed (passed w))) s) ≡ false
+    → has_ready (machine_of (passed w) s) ≡ false) where
   abbrev first : WorldValue
   first = passed w
 
@@ -298,7 +301,7 @@ module _ (w : WorldValue) (i : IsWorld w)
 
   -- nothing is ready there at the end
   abbrev Awake : ℕ → Type 0
-  Awake s = is_ready (machine_of third s) ≡ false
+  Awake s = has_ready (machine_of third s) ≡ false
 
   at_first : IsWorld first
   at_first = world_passed w i
@@ -351,8 +354,8 @@ passes_on k w = moved_both (pass w) (passes k (passed w)) w
 three_on : (w : WorldValue) → moved_all (passes 3 w) w ≡ passed (passed (passed w))
 three_on w = passes_on 2 w ∙ passes_on 1 (passed w) ∙ passes_on 0 (passed (passed w))
 
-awake_passed : (w : WorldValue) (s : ℕ) → 0 < s → is_ready (machine_of w s) ≡ false
-    → is_ready (machine_of (passed w) s) ≡ false
+awake_passed : (w : WorldValue) (s : ℕ) → 0 < s → has_ready (machine_of w s) ≡ false
+    → has_ready (machine_of (passed w) s) ≡ false
 awake_passed w s up h = pass_awake (size w) 1 w (omega arith) (omega arith) s up h
 
 -- where nobody is ready, three are enough
@@ -365,12 +368,12 @@ three_enough w i nobody =
 -- at how many of the first k sites something is ready
 readies : ℕ → WorldValue → ℕ
 readies zero w = 0
-readies (suc k) w = if is_ready (machine_of w (suc k)) then suc (readies k w) else readies k w
+readies (suc k) w = if has_ready (machine_of w (suc k)) then suc (readies k w) else readies k w
 
 few_ready : (k : ℕ) (w : WorldValue) → readies k w ≤ k
 unfolding readies
 few_ready zero w = omega arith
-few_ready (suc k) w = at (is_ready (machine_of w (suc k))) (few_ready k w)
+few_ready (suc k) w = at (has_ready (machine_of w (suc k))) (few_ready k w)
   where
     at : (b : Bool) → readies k w ≤ k → (if b then suc (readies k w) else readies k w) ≤ suc k
     at true h = omega (arith, h)
@@ -379,7 +382,7 @@ few_ready (suc k) w = at (is_ready (machine_of w (suc k))) (few_ready k w)
 -- where nothing is ready in v, nothing is in w
 abbrev StayAwake : ℕ → WorldValue → WorldValue → Type 0
 StayAwake k v w =
-    (s : ℕ) → 0 < s → s ≤ k → is_ready (machine_of v s) ≡ false → is_ready (machine_of w s) ≡ false
+    (s : ℕ) → 0 < s → s ≤ k → has_ready (machine_of v s) ≡ false → has_ready (machine_of w s) ≡ false
 
 shorter : (k : ℕ) (v w : WorldValue) → StayAwake (suc k) v w → StayAwake k v w
 shorter k v w h s up within = h s up (omega (arith, within))
@@ -388,10 +391,10 @@ no_more_ready : (k : ℕ) (v w : WorldValue) → StayAwake k v w → readies k w
 unfolding readies
 no_more_ready zero v w h = omega arith
 no_more_ready (suc k) v w h =
-    at (is_ready (machine_of v (suc k))) refl (is_ready (machine_of w (suc k))) refl
+    at (has_ready (machine_of v (suc k))) refl (has_ready (machine_of w (suc k))) refl
     (no_more_ready k v w (shorter k v w h))
   where
-    at : (b : Bool) → is_ready (machine_of v (suc k)) ≡ b → (c : Bool) → is_ready (machine_of w (suc k)) ≡ c
+    at : (b : Bool) → has_ready (machine_of v (suc k)) ≡ b → (c : Bool) → has_ready (machine_of w (suc k)) ≡ c
         → readies k w ≤ readies k v
         → (if c then suc (readies k w) else readies k w) ≤ (if b then suc (readies k v) else readies k v)
     at true e true f less = omega (arith, less)
@@ -404,26 +407,26 @@ same_ready : (k : ℕ) (v w : WorldValue) → StayAwake k v w → readies k v �
 unfolding readies
 same_ready zero v w h many s up within awake = absurd (omega (arith, up, within))
 same_ready (suc k) v w h many s up within awake =
-    at (is_ready (machine_of v (suc k))) refl (is_ready (machine_of w (suc k))) refl many
+    at (has_ready (machine_of v (suc k))) refl (has_ready (machine_of w (suc k))) refl many
     (no_more_ready k v w (shorter k v w h)) (nat_eq s (suc k)) refl
     (λ (more : readies k v ≤ readies k w) (few : s ≤ k). same_ready k v w (shorter k v w h) more s up few awake)
   where
     below : nat_eq s (suc k) ≡ false → s ≤ k
     below e = let other = eqb-false s (suc k) e in omega (arith, within, other)
 
-    at : (b : Bool) → is_ready (machine_of v (suc k)) ≡ b → (c : Bool) → is_ready (machine_of w (suc k)) ≡ c
+    at : (b : Bool) → has_ready (machine_of v (suc k)) ≡ b → (c : Bool) → has_ready (machine_of w (suc k)) ≡ c
         → (if b then suc (readies k v) else readies k v) ≤ (if c then suc (readies k w) else readies k w)
         → readies k w ≤ readies k v → (t : Bool) → nat_eq s (suc k) ≡ t
-        → (readies k v ≤ readies k w → s ≤ k → is_ready (machine_of v s) ≡ false) → is_ready (machine_of v s) ≡ false
+        → (readies k v ≤ readies k w → s ≤ k → has_ready (machine_of v s) ≡ false) → has_ready (machine_of v s) ≡ false
     at true e false f more less t g rest = absurd (omega (arith, more, less))
     at false e true f more less t g rest =
         absurd (true≢false (sym f ∙ h (suc k) (omega arith) (omega arith) e))
     at true e true f more less true g rest =
         let here : s ≡ suc k = eqb-true s (suc k) g in
-        absurd (true≢false (sym f ∙ ap (λ (z : ℕ). is_ready (machine_of w z)) (sym here) ∙ awake))
+        absurd (true≢false (sym f ∙ ap (λ (z : ℕ). has_ready (machine_of w z)) (sym here) ∙ awake))
     at true e true f more less false g rest = rest (omega (arith, more)) (below g)
     at false e false f more less true g rest =
-        let here : s ≡ suc k = eqb-true s (suc k) g in ap (λ (z : ℕ). is_ready (machine_of v z)) here ∙ e
+        let here : s ≡ suc k = eqb-true s (suc k) g in ap (λ (z : ℕ). has_ready (machine_of v z)) here ∙ e
     at false e false f more less false g rest = rest more (below g)
 
 stay_two : (w : WorldValue) → StayAwake (size w) (passed w) (passed (passed (passed w)))

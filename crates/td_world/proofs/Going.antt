@@ -2,7 +2,8 @@
 use Rattle.std.proofs.Common.{◌≡◌, ◌<◌, ◌+◌, ◌-◌, ◌++◌, ℕ, zero, suc, List, [], ◌∷◌, Bool, true, false, if◌then◌else◌}
 use Rattle.std.proofs.Common.{length, refl, sym, ap, ◌∙◌, subst, append-nil, append_assoc, arith}
 use Rattle.td_world.specs.World.{WorldValue, Move, size, machine_of, moved, moved_all}
-use Rattle.td_world.specs.Calls.{is_ready, next, nexts, IsCutShort, IsStopped}
+use Rattle.td_replica.specs.Replica.{has_ready}
+use Rattle.td_world.specs.Calls.{next, nexts, IsCutShort, IsStopped}
 use Rattle.td_world.proofs.Cuts.{cut_after, stopped_here, stopped_after}
 use Rattle.td_world.proofs.Moves.{moved_both, size_after}
 
@@ -51,7 +52,7 @@ pub record IsGoing (site count k : ℕ) (old now : WorldValue) : Type 0 where
   pub doing : IsDoing (nexts count site old) (nexts (count - k) site now) old now
   pub many : length (nexts count site old) ≡ k + length (nexts (count - k) site now)
 
-nexts_on : (site count : ℕ) (w : WorldValue) → is_ready (machine_of w site) ≡ true → 0 < count
+nexts_on : (site count : ℕ) (w : WorldValue) → has_ready (machine_of w site) ≡ true → 0 < count
     → nexts count site w ≡ next site ∷ nexts (count - 1) site (moved (next site) w)
 nexts_on site zero w e some = absurd (omega (arith, some))
 nexts_on site (suc count) w e some =
@@ -59,13 +60,13 @@ nexts_on site (suc count) w e some =
     ap (λ (b : Bool). if b then next site ∷ nexts count site (moved (next site) w) else []) e
     ∙ ap (λ (k : ℕ). next site ∷ nexts k site (moved (next site) w)) (sym same)
 
-nexts_off : (site count : ℕ) (w : WorldValue) → is_ready (machine_of w site) ≡ false → nexts count site w ≡ []
+nexts_off : (site count : ℕ) (w : WorldValue) → has_ready (machine_of w site) ≡ false → nexts count site w ≡ []
 nexts_off site zero w e = refl
 nexts_off site (suc count) w e =
     ap (λ (b : Bool). if b then next site ∷ nexts count site (moved (next site) w) else []) e
 
 pub going_more : (site count k : ℕ) (old now new : WorldValue) → k < count → IsGoing site count k old now
-    → is_ready (machine_of now site) ≡ true → new ≡ moved (next site) now → IsGoing site count (k + 1) old new
+    → has_ready (machine_of now site) ≡ true → new ≡ moved (next site) now → IsGoing site count (k + 1) old new
 going_more site count k old now new less g e is =
     let left : List Move = nexts (count - (k + 1)) site (moved (next site) now) in
     let same : count - k - 1 ≡ count - (k + 1) = omega (arith, less) in
@@ -87,7 +88,7 @@ going_more site count k old now new less g e is =
 
 -- the next one finds no memory
 pub going_stopped : (site count k : ℕ) (old now new : WorldValue) → k < count → IsGoing site count k old now
-    → is_ready (machine_of now site) ≡ true → new ≡ now → IsStopped (nexts count site old) old new
+    → has_ready (machine_of now site) ≡ true → new ≡ now → IsStopped (nexts count site old) old new
 going_stopped site count k old now new less g e is =
     let some : 0 < count - k = omega (arith, less) in
     doing_stopped (nexts count site old) (nexts (count - k) site now) old now new g.doing
@@ -96,7 +97,7 @@ going_stopped site count k old now new less g e is =
 
 -- nothing is ready any more
 pub going_off : (site count k : ℕ) (old now : WorldValue) → IsGoing site count k old now
-    → is_ready (machine_of now site) ≡ false
+    → has_ready (machine_of now site) ≡ false
     → (now ≡ moved_all (nexts count site old) old) × (k ≡ length (nexts count site old))
 going_off site count k old now g e =
     let off : nexts (count - k) site now ≡ [] = nexts_off site (count - k) now e in

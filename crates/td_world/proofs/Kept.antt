@@ -19,13 +19,12 @@ use Rattle.td_machine.specs.Machine.{Machine}
 use Rattle.td_machine.specs.Step.{step}
 use Rattle.td_machine.specs.History.{IsReached}
 use Rattle.td_op.specs.Message.{sender, is_for}
-use Rattle.td_replica.specs.Replica.{ReplicaValue, after_step}
+use Rattle.td_replica.specs.Replica.{ReplicaValue, after_step, knows_message}
 use Rattle.td_world.specs.declared.post.Post.{Post}
 use Rattle.td_world.specs.declared.sites.Done.{Done}
 use Rattle.td_world.specs.Sending.{IsDone}
 use Rattle.td_world.specs.World.{WorldValue, Move, IsWorld, size, replica_from, machine_of}
 use Rattle.td_world.specs.World.{family_of, reply_to, sent_by, moved, IsFit}
-use Rattle.td_world.specs.Calls.{is_known}
 use Rattle.td_world.specs.Parts.{posted, world_value, new_posts, ArePassed, IsWorldParts, is_dropped, looked_again}
 use Rattle.td_world.proofs.Moves.{low, moved_here, moved_there, world_moved}
 use Rattle.td_world.proofs.Named.{reached_end, sending_end, site_is}
@@ -58,8 +57,8 @@ reached_in w i site some within =
 
 -- where the machine of the site knows at least as much
 passed_on : (w new : WorldValue) (more : List Message) (site count : ℕ) → new.sent ≡ w.sent ++ more
-    → ((message : Message) → is_known message (machine_of w site) ≡ true → is_known message (machine_of new site)
-    ≡ true)
+    → ((message : Message) → knows_message message (machine_of w site) ≡ true
+    → knows_message message (machine_of new site) ≡ true)
     → ArePassed site w count → ArePassed site new count
 passed_on w new more site count sent knows p =
     let few : count ≤ length w.sent = p.0 in
@@ -100,10 +99,10 @@ module _ (replicas : List ReplicaValue) (posts : List Post) (passed : List ℕ) 
 
   -- at the site itself
   known_here : is_dropped (reply_to (move_of site input) (world_value replicas posts)) ≡ false → (message : Message)
-      → is_known message (machine_of (world_value replicas posts) site) ≡ true
-      → is_known message (machine_of (moved (move_of site input) (world_value replicas posts)) site) ≡ true
+      → knows_message message (machine_of (world_value replicas posts) site) ≡ true
+      → knows_message message (machine_of (moved (move_of site input) (world_value replicas posts)) site) ≡ true
   known_here kept message e =
-      subst (λ (r : ReplicaValue). is_known message r.machine ≡ true)
+      subst (λ (r : ReplicaValue). knows_message message r.machine ≡ true)
       (sym (moved_here (world_value replicas posts) (move_of site input) some within))
       (known_more message (machine_of (world_value replicas posts) site)
       (step (machine_of (world_value replicas posts) site) input).machine
@@ -118,8 +117,9 @@ module _ (replicas : List ReplicaValue) (posts : List Post) (passed : List ℕ) 
       (is_dropped (reply_to (move_of site input) (world_value replicas posts))) refl
     where
       on : slice_get passed place ≡ Some count
-          → ((message : Message) → is_known message (machine_of (world_value replicas posts) (place + 1)) ≡ true
-          → is_known message (machine_of (moved (move_of site input) (world_value replicas posts)) (place + 1)) ≡ true)
+          → ((message : Message) → knows_message message (machine_of (world_value replicas posts) (place + 1)) ≡ true
+          → knows_message message (machine_of (moved (move_of site input) (world_value replicas posts)) (place + 1))
+          ≡ true)
           → ArePassed (place + 1) (moved (move_of site input) (world_value replicas posts)) count
       on e knows =
           passed_on (world_value replicas posts) (moved (move_of site input) (world_value replicas posts)) more
@@ -130,10 +130,11 @@ module _ (replicas : List ReplicaValue) (posts : List Post) (passed : List ℕ) 
       here e = omega (arith, e, some)
 
       elsewhere : (site - 1 ≡ place → ⊥) → (message : Message)
-          → is_known message (machine_of (world_value replicas posts) (place + 1)) ≡ true
-          → is_known message (machine_of (moved (move_of site input) (world_value replicas posts)) (place + 1)) ≡ true
+          → knows_message message (machine_of (world_value replicas posts) (place + 1)) ≡ true
+          → knows_message message (machine_of (moved (move_of site input) (world_value replicas posts)) (place + 1))
+          ≡ true
       elsewhere other message e =
-          subst (λ (r : ReplicaValue). is_known message r.machine ≡ true)
+          subst (λ (r : ReplicaValue). knows_message message r.machine ≡ true)
           (sym (moved_there (world_value replicas posts) (move_of site input) some (place + 1) (omega arith)
           (λ (f : place + 1 ≡ site). other (omega (arith, f))))) e
 
@@ -151,11 +152,12 @@ module _ (replicas : List ReplicaValue) (posts : List Post) (passed : List ℕ) 
           let same : site - 1 ≡ place = eqb-true (site - 1) place e in
           on g
           (λ message h.
-          subst (λ (s : ℕ). is_known message (machine_of (moved (move_of site input) (world_value replicas posts)) s)
-          ≡ true)
+          subst (λ (s : ℕ).
+          knows_message message (machine_of (moved (move_of site input) (world_value replicas posts)) s) ≡ true)
           (here same)
           (known_here f message
-          (subst (λ (s : ℕ). is_known message (machine_of (world_value replicas posts) s) ≡ true) (sym (here same)) h)))
+          (subst (λ (s : ℕ). knows_message message (machine_of (world_value replicas posts) s) ≡ true)
+          (sym (here same)) h)))
       at false e true f g =
           let other = eqb-false (site - 1) place e in
           on (sym (set_there passed (site - 1) place 0 other) ∙ g) (elsewhere other)

@@ -15,11 +15,11 @@ use Rattle.td_op.specs.declared.reply.Reply.TheVariants.{Later, Repeat, Unfit, T
 use Rattle.td_op.specs.declared.reply.Why.{Why}
 use Rattle.td_machine.specs.Step.{step}
 use Rattle.td_law_logs.specs.Entries.{EntryOf}
-use Rattle.td_replica.specs.Replica.{ReplicaValue}
+use Rattle.td_replica.specs.Replica.{ReplicaValue, knows_message}
 use Rattle.td_world.specs.World.{WorldValue, Move, IsWorld, IsFit, size, replica}
 use Rattle.td_world.specs.World.{machine_of, family_of, reply_to, moved, moved_all}
 use Rattle.td_op.specs.Message.{is_for}
-use Rattle.td_world.specs.Calls.{is_known, is_wanted, take, give_moves, nexts_after}
+use Rattle.td_world.specs.Calls.{is_wanted, take, give_moves, nexts_after}
 use Rattle.td_world.specs.Calls.{wanted_moves, moves_of, give_all_moves, pass_from, pass}
 use Rattle.td_world.specs.Parts.{is_dropped}
 use Rattle.td_world.proofs.Came.{came_known}
@@ -97,8 +97,8 @@ module _ (w : WorldValue) (i : IsWorld w) (move : Move) (fit : IsFit w move) whe
           subst (λ (r : ReplicaValue). KnowsMore (machine_of w s) r.machine)
           (sym (moved_there w move fit.some s up (eqb-false s move.site e))) (as_much (machine_of w s))
 
-  pub stays_known : (s : ℕ) → 0 < s → s ≤ size w → (message : Message) → is_known message (machine_of w s) ≡ true
-      → is_known message (machine_of (moved move w) s) ≡ true
+  pub stays_known : (s : ℕ) → 0 < s → s ≤ size w → (message : Message) → knows_message message (machine_of w s) ≡ true
+      → knows_message message (machine_of (moved move w) s) ≡ true
   stays_known s up within message e =
       known_more message (machine_of w s) (machine_of (moved move w) s) (more_known s up within) e
 
@@ -111,8 +111,8 @@ low_after : (moves : List Move) (w : WorldValue) (s : ℕ) → s ≤ size w → 
 low_after moves w s within = subst (λ (n : ℕ). s ≤ n) (sym (size_after moves w)) within
 
 known_after : (moves : List Move) (w : WorldValue) → IsWorld w → AreDue moves w → (s : ℕ) → 0 < s → s ≤ size w
-    → (message : Message) → is_known message (machine_of w s) ≡ true
-    → is_known message (machine_of (moved_all moves w) s) ≡ true
+    → (message : Message) → knows_message message (machine_of w s) ≡ true
+    → knows_message message (machine_of (moved_all moves w) s) ≡ true
 known_after [] w i d s up within message e = e
 known_after (move ∷ moves) w i d s up within message e =
     known_after moves (moved move w) (due_moved w i move d.0) d.1 s up
@@ -133,14 +133,14 @@ had_after (move ∷ moves) w i d s up within dot e =
 -- what was offered to a site that is to have it is known there
 wanted_known : (site : ℕ) (message : Message) (w : WorldValue) → IsWorld w → 0 < site → site ≤ size w
     → In message w.sent → is_for site message ≡ true
-    → is_known message (machine_of (moved_all (wanted_moves site message w) w) site) ≡ true
+    → knows_message message (machine_of (moved_all (wanted_moves site message w) w) site) ≡ true
 wanted_known site message w i some within sent to = at (is_wanted site message w) refl
   where
     move : Move
     move = take site message
 
     at : (b : Bool) → is_wanted site message w ≡ b
-        → is_known message (machine_of (moved_all (if b then give_moves site message w else []) w) site) ≡ true
+        → knows_message message (machine_of (moved_all (if b then give_moves site message w else []) w) site) ≡ true
     at false e = unwanted_known site message w e to
     at true e =
         let due : AreDue (give_moves site message w) w =
@@ -150,7 +150,7 @@ wanted_known site message w i some within sent to = at (is_wanted site message w
         let same : size (moved (take site message) w) ≡ size w = size_moved w (take site message) in
         known_after (nexts_after site (moved (take site message) w)) (moved (take site message) w)
         (due_moved w i (take site message) due.0) due.1 site some (omega (arith, within, same)) message
-        (subst (λ (r : ReplicaValue). is_known message r.machine ≡ true)
+        (subst (λ (r : ReplicaValue). knows_message message r.machine ≡ true)
         (sym (moved_here w (take site message) some within))
         (came_known (machine_of w site) (reached_in w i site some within) message (sent_valid w i message sent)
         (not_unfit w i (take site message) fit)))
@@ -160,17 +160,17 @@ wanted_known site message w i some within sent to = at (is_wanted site message w
 moves_known : (site : ℕ) (messages : List Message) (w : WorldValue) → IsWorld w → 0 < site → site ≤ size w
     → ((message : Message) → In message messages → In message w.sent)
     → (message : Message) → In message messages → is_for site message ≡ true
-    → is_known message (machine_of (moved_all (moves_of site messages w) w) site) ≡ true
+    → knows_message message (machine_of (moved_all (moves_of site messages w) w) site) ≡ true
 moves_known site [] w i some within sent message j to = absurd j
 moves_known site (first ∷ messages) w i some within sent message j to =
-    subst (λ (v : WorldValue). is_known message (machine_of v site) ≡ true)
+    subst (λ (v : WorldValue). knows_message message (machine_of v site) ≡ true)
     (sym (moved_both (wanted_moves site first w) (moves_of site messages middle) w))
     (⊎_elim
     (λ (e : message ≡ first).
     known_after (moves_of site messages middle) middle is (due_moves site messages middle some within_now sent_now)
     site some
     within_now message
-    (subst (λ (m : Message). is_known m (machine_of middle site) ≡ true) (sym e)
+    (subst (λ (m : Message). knows_message m (machine_of middle site) ≡ true) (sym e)
     (wanted_known site first w i some within (sent first (inl refl))
     (subst (λ (m : Message). is_for site m ≡ true) e to))))
     (λ (k : In message messages). moves_known site messages middle is some within_now sent_now message k to)
@@ -190,7 +190,7 @@ moves_known site (first ∷ messages) w i some within sent message j to =
 
 from_known : (k site : ℕ) (w : WorldValue) → IsWorld w → 0 < site → site + k ≤ size w + 1
     → (s : ℕ) → site ≤ s → s < site + k → (message : Message) → In message w.sent → is_for s message ≡ true
-    → is_known message (machine_of (moved_all (pass_from k site w) w) s) ≡ true
+    → knows_message message (machine_of (moved_all (pass_from k site w) w) s) ≡ true
 from_known zero site w i some within s from to message j f = absurd (omega (arith, from, to))
 from_known (suc k) site w i some within s from to message j f =
     let middle : WorldValue = moved_all (give_all_moves site w) w in
@@ -199,7 +199,7 @@ from_known (suc k) site w i some within s from to message j f =
     let is : IsWorld (moved_all (give_all_moves site w) w) =
     world_due (give_all_moves site w) w i (due_moves site w.sent w some low (λ m l. l)) in
     let within_now : suc site + k ≤ size (moved_all (give_all_moves site w) w) + 1 = omega (arith, within, same) in
-    subst (λ (v : WorldValue). is_known message (machine_of v s) ≡ true)
+    subst (λ (v : WorldValue). knows_message message (machine_of v s) ≡ true)
     (sym (moved_both (give_all_moves site w) (pass_from k (suc site) middle) w))
     (at low is within_now (nat_eq s site) refl
     (λ (more : suc site ≤ s).
@@ -209,13 +209,13 @@ from_known (suc k) site w i some within s from to message j f =
     at : site ≤ size w → IsWorld (moved_all (give_all_moves site w) w)
         → suc site + k ≤ size (moved_all (give_all_moves site w) w) + 1 → (b : Bool) → nat_eq s site ≡ b
         → (suc site ≤ s
-        → is_known message (machine_of (moved_all (pass_from k (suc site) (moved_all (give_all_moves site w) w))
+        → knows_message message (machine_of (moved_all (pass_from k (suc site) (moved_all (give_all_moves site w) w))
         (moved_all (give_all_moves site w) w)) s) ≡ true)
-        → is_known message (machine_of (moved_all (pass_from k (suc site) (moved_all (give_all_moves site w) w))
+        → knows_message message (machine_of (moved_all (pass_from k (suc site) (moved_all (give_all_moves site w) w))
         (moved_all (give_all_moves site w) w)) s) ≡ true
     at low is within_now true e rest =
         let here : s ≡ site = eqb-true s site e in
-        subst (λ (t : ℕ). is_known message (machine_of
+        subst (λ (t : ℕ). knows_message message (machine_of
         (moved_all (pass_from k (suc site) (moved_all (give_all_moves site w) w))
         (moved_all (give_all_moves site w) w)) t) ≡ true) (sym here)
         (known_after (pass_from k (suc site) (moved_all (give_all_moves site w) w))
@@ -227,7 +227,7 @@ from_known (suc k) site w i some within s from to message j f =
 
 -- after a pass each site knows what was sent to it before
 pub pass_known : (w : WorldValue) → IsWorld w → (s : ℕ) → 0 < s → s ≤ size w → (message : Message)
-    → In message w.sent → is_for s message ≡ true → is_known message (machine_of (moved_all (pass w) w) s) ≡ true
+    → In message w.sent → is_for s message ≡ true → knows_message message (machine_of (moved_all (pass w) w) s) ≡ true
 pass_known w i s up within message j to =
     from_known (size w) 1 w i (omega arith) (omega arith) s (omega (arith, up)) (omega (arith, within)) message j to
 
@@ -252,7 +252,7 @@ nothing_from (suc k) site w h =
 
 pub known_pass : (w : WorldValue)
     → ((s : ℕ) → 0 < s → s ≤ size w → (message : Message) → In message w.sent → is_for s message ≡ true
-    → is_known message (machine_of w s) ≡ true)
+    → knows_message message (machine_of w s) ≡ true)
     → pass w ≡ []
 known_pass w h =
     nothing_from (size w) 1 w

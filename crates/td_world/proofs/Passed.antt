@@ -10,10 +10,11 @@ use Rattle.std.proofs.lemmas.Option.{same_Some}
 use Rattle.td_op.specs.declared.message.Message.{Message}
 use Rattle.td_op.specs.declared.message.Message.TheVariants.{Op, Vote}
 use Rattle.td_op.specs.Message.{sender, is_for}
-use Rattle.td_replica.specs.Replica.{ReplicaValue}
+use Rattle.td_replica.specs.Replica.{ReplicaValue, knows_message}
 use Rattle.td_world.specs.declared.post.Post.{Post}
 use Rattle.td_world.specs.World.{WorldValue, machine_of, moved_all}
-use Rattle.td_world.specs.Calls.{is_known, is_wanted, give_moves, took, wanted_moves, wanted_answer, moves_of, given_of}
+use Rattle.td_world.specs.Calls.{is_wanted, give_moves, took, wanted_moves, wanted_answer, moves_of}
+use Rattle.td_world.specs.Calls.{given_of}
 use Rattle.td_world.specs.Parts.{IsPassed, ArePassed, IsWorldParts, world_value}
 use Rattle.td_world.proofs.Kept.{get_found, set_there, set_value}
 
@@ -31,20 +32,20 @@ passed_at replicas posts passed p w is site place count e some within k =
 
 -- where a message is not wanted, it may be passed
 pub unwanted_known : (site : ℕ) (message : Message) (w : WorldValue) → is_wanted site message w ≡ false
-    → is_for site message ≡ true → is_known message (machine_of w site) ≡ true
-unwanted_known site message w e to = at (is_known message (machine_of w site)) refl
+    → is_for site message ≡ true → knows_message message (machine_of w site) ≡ true
+unwanted_known site message w e to = at (knows_message message (machine_of w site)) refl
   where
-    at : (b : Bool) → is_known message (machine_of w site) ≡ b → is_known message (machine_of w site) ≡ true
+    at : (b : Bool) → knows_message message (machine_of w site) ≡ b → knows_message message (machine_of w site) ≡ true
     at true f = f
     at false f =
-        absurd (true≢false (sym (and_from (is_for site message) (not (is_known message (machine_of w site))) to
+        absurd (true≢false (sym (and_from (is_for site message) (not (knows_message message (machine_of w site))) to
         (ap (λ (b : Bool). not b) f)) ∙ e))
 
 pub unwanted_passed : (site k : ℕ) (message : Message) (w : WorldValue) → slice_get w.sent k ≡ Some message
     → is_wanted site message w ≡ false → IsPassed site w k
 unwanted_passed site k message w sent unwanted = λ m f to.
     let same : message ≡ m = same_Some message m (sym sent ∙ f) in
-    subst (λ (z : Message). is_known z (machine_of w site) ≡ true) same
+    subst (λ (z : Message). knows_message z (machine_of w site) ≡ true) same
     (unwanted_known site message w unwanted (subst (λ (z : Message). is_for site z ≡ true) (sym same) to))
 
 is_itself : (site : ℕ) → (site == site) ≡ true
@@ -110,14 +111,14 @@ parts_passed replicas posts passed p w is site place k e some within at less nex
 -- ---- what is passed is not wanted
 
 pub not_wanted : (site : ℕ) (message : Message) (w : WorldValue)
-    → (is_for site message ≡ true → is_known message (machine_of w site) ≡ true) → is_wanted site message w ≡ false
+    → (is_for site message ≡ true → knows_message message (machine_of w site) ≡ true) → is_wanted site message w ≡ false
 not_wanted site message w h = at (is_for site message) refl
   where
     at : (b : Bool) → is_for site message ≡ b → is_wanted site message w ≡ false
     at true e =
-        ap (λ (b : Bool). b && not (is_known message (machine_of w site))) e
+        ap (λ (b : Bool). b && not (knows_message message (machine_of w site))) e
         ∙ ap (λ (b : Bool). not b) (h e)
-    at false e = ap (λ (b : Bool). b && not (is_known message (machine_of w site))) e
+    at false e = ap (λ (b : Bool). b && not (knows_message message (machine_of w site))) e
 
 -- what a site sent is not given to it
 pub own_moves : (site : ℕ) (m : Message) (w : WorldValue) → sender m ≡ site → w ≡ moved_all (wanted_moves site m w) w
@@ -136,7 +137,7 @@ own_answer site m w own =
 module _ (site : ℕ) (w : WorldValue) where
   pub skip_moves : (k : ℕ) (messages : List Message)
       → ((j : ℕ) → j < k → (message : Message) → slice_get messages j ≡ Some message → is_for site message ≡ true
-      → is_known message (machine_of w site) ≡ true)
+      → knows_message message (machine_of w site) ≡ true)
       → moves_of site messages w ≡ moves_of site (drop k messages) w
   skip_moves zero messages h = refl
   skip_moves (suc k) [] h = refl
@@ -148,7 +149,7 @@ module _ (site : ℕ) (w : WorldValue) where
 
   pub skip_given : (k number : ℕ) (messages : List Message)
       → ((j : ℕ) → j < k → (message : Message) → slice_get messages j ≡ Some message → is_for site message ≡ true
-      → is_known message (machine_of w site) ≡ true)
+      → knows_message message (machine_of w site) ≡ true)
       → k ≤ length messages
       → given_of site number messages w ≡ given_of site (number + k) (drop k messages) w
   skip_given zero number messages h few =

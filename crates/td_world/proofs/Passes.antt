@@ -8,7 +8,8 @@ use Rattle.td_op.specs.declared.message.Message.{Message}
 use Rattle.td_machine.specs.Machine.{Machine, undecided}
 use Rattle.td_world.specs.World.{WorldValue, Move, IsWorld, size, machine_of, family_of, is_sent_by, moved_all}
 use Rattle.td_op.specs.Message.{is_for}
-use Rattle.td_world.specs.Calls.{is_known, is_wanted, is_ready, give_moves, wanted_moves}
+use Rattle.td_replica.specs.Replica.{knows_message, has_ready}
+use Rattle.td_world.specs.Calls.{is_wanted, give_moves, wanted_moves}
 use Rattle.td_world.specs.Calls.{moves_of, give_all_moves, pass_from, pass}
 use Rattle.td_world.specs.Promises.{NobodyReady, SameVectors, AllDecided}
 use Rattle.td_world.proofs.Moves.{size_family}
@@ -54,7 +55,7 @@ none_given (suc k) site w e s from to =
 
 -- what a site is to have it knows
 pub all_known : (w : WorldValue) → pass w ≡ [] → (site : ℕ) → 0 < site → site ≤ size w → (message : Message)
-    → In message w.sent → is_for site message ≡ true → is_known message (machine_of w site) ≡ true
+    → In message w.sent → is_for site message ≡ true → knows_message message (machine_of w site) ≡ true
 all_known w e site some within message i to =
     unwanted_known site message w
     (none_wanted site w.sent w (none_given (size w) 1 w e site some (omega (arith, within))) message i) to
@@ -68,7 +69,7 @@ module _ (w : WorldValue) (i : IsWorld w) (nobody : NobodyReady w) (still : pass
 
   none_ready_of : NoneReady (family_of w)
   none_ready_of t up low =
-      subst (λ (m : Machine). is_ready m ≡ false) (i.machines t up (within_world t low))
+      subst (λ (m : Machine). has_ready m ≡ false) (i.machines t up (within_world t low))
       (nobody t up (within_world t low))
 
   all_known_of : AllKnown (family_of w)
@@ -78,7 +79,7 @@ module _ (w : WorldValue) (i : IsWorld w) (nobody : NobodyReady w) (still : pass
       let sent : In message w.sent =
       (In-filter (is_sent_by s) message w.sent
       (subst (λ (l : List Message). In message l) (sym (i.sent s a (within_world s b))) here)).0 in
-      subst (λ (m : Machine). is_known message m ≡ true) (i.machines t up (within_world t low))
+      subst (λ (m : Machine). knows_message message m ≡ true) (i.machines t up (within_world t low))
       (all_known w still t up (within_world t low) message sent to)
 
   pub settled_vectors : SameVectors w

@@ -27,7 +27,7 @@ use Rattle.td_machine.specs.Counts.{counts, ops_of}
 use Rattle.td_machine.specs.Decision.{Ballot, is_open}
 use Rattle.td_machine.specs.Log.{proposed, proposed_slot}
 use Rattle.td_machine.specs.Machine.{undecided}
-use Rattle.td_machine.specs.Ready.{is_had, is_ready as is_ready_op, waits, is_dot_of}
+use Rattle.td_machine.specs.Ready.{is_had, is_ready, waits, is_dot_of}
 use Rattle.td_machine.specs.History.{Family, IsConsistent, IsOpOf, machine, log_of}
 use Rattle.td_machine.proofs.Ballots.{find_ballot}
 use Rattle.td_machine.proofs.Counting.{total, found, Found}
@@ -40,7 +40,7 @@ use Rattle.td_machine.proofs.Reached.{of_sites}
 use Rattle.td_machine.proofs.Turns.{counted, length_have}
 use Rattle.td_machine.proofs.Walk.{offered}
 use Rattle.td_op.specs.Message.{is_for}
-use Rattle.td_world.specs.Calls.{is_known, is_ready}
+use Rattle.td_replica.specs.Replica.{knows_message, has_ready}
 use Rattle.td_world.proofs.Balloting.{balloting, few_yes, one_ballot, as_many}
 use Rattle.td_world.proofs.Known.{repeat_op, repeat_vote, IsCountedAt}
 use Rattle.td_world.proofs.Named.{built_end, reached_end, site_is, size_is, sending_end, past_there}
@@ -51,10 +51,10 @@ use Rattle.td_world.proofs.Sending.{proposal_of}
 abbrev pub AllKnown : Family → Type 0
 AllKnown family =
     (s t : ℕ) → 0 < s → s ≤ length family → 0 < t → t ≤ length family → (message : Message)
-    → In message (machine family s).sent → is_for t message ≡ true → is_known message (machine family t) ≡ true
+    → In message (machine family s).sent → is_for t message ≡ true → knows_message message (machine family t) ≡ true
 
 abbrev pub NoneReady : Family → Type 0
-NoneReady family = (t : ℕ) → 0 < t → t ≤ length family → is_ready (machine family t) ≡ false
+NoneReady family = (t : ℕ) → 0 < t → t ≤ length family → has_ready (machine family t) ≡ false
 
 -- site 0 is none, and its number is that of site 1
 pub get_same : (v : List ℕ) (site : ℕ) → vector_get v (suc (site - 1)) ≡ vector_get v site
@@ -189,9 +189,9 @@ module _ (family : Family) (c : IsConsistent family) where
 -- a site where nothing is ready, which knows those operations that came early: the past of each of them is among them
 module _ (family : Family) (c : IsConsistent family) (early : OpValue → Type 0)
     (closed : (x y : OpValue) → IsOpOf family x → early x → IsOpOf family y → IsTrue (in_past y x) → early y)
-    (t : ℕ) (some : 0 < t) (within : t ≤ length family) (idle : is_ready (machine family t) ≡ false)
+    (t : ℕ) (some : 0 < t) (within : t ≤ length family) (idle : has_ready (machine family t) ≡ false)
     (known : (x : OpValue) → IsOpOf family x → early x → is_for t (AnOp x) ≡ true
-    → is_known (AnOp x) (machine family t) ≡ true) where
+    → knows_message (AnOp x) (machine family t) ≡ true) where
   abbrev Had : OpValue → Type 0
   Had x = IsTrue (vector_has (machine family t).have x.dot)
 
@@ -202,7 +202,7 @@ module _ (family : Family) (c : IsConsistent family) (early : OpValue → Type 0
       at (is_had (machine family t).have x) refl
       (none_ready (machine family t).have (machine family t).waiting (nothing_next (machine family t) idle) x i)
     where
-      at : (b : Bool) → is_had (machine family t).have x ≡ b → is_ready_op (machine family t).have x ≡ false
+      at : (b : Bool) → is_had (machine family t).have x ≡ b → is_ready (machine family t).have x ≡ false
           → is_had (machine family t).have x ≡ true
       at true e r = e
       at false e r =

@@ -5,7 +5,8 @@ use Rattle.std.proofs.lemmas.List.{length-append}
 use Rattle.td_op.specs.declared.message.Message.{Message}
 use Rattle.td_replica.specs.declared.given.Given.{Given}
 use Rattle.td_world.specs.World.{WorldValue, Move, IsWorld, size, machine_of, moved, moved_all}
-use Rattle.td_world.specs.Calls.{is_ready, is_wanted, next, take, nexts, give_moves, wanted_moves, wanted_given}
+use Rattle.td_replica.specs.Replica.{has_ready}
+use Rattle.td_world.specs.Calls.{is_wanted, next, take, nexts, give_moves, wanted_moves, wanted_given}
 use Rattle.td_world.specs.Calls.{took, moves_of, given_of, give_all_moves, give_all_given, pass_from, pass, passes}
 use Rattle.td_world.specs.Calls.{is_take, count_given, IsStopped, IsSettled, IsUnsettled}
 use Rattle.td_world.specs.Promises.{NobodyReady, SameVectors, AllDecided}
@@ -32,7 +33,7 @@ count_both (move ∷ front) back = at (is_take move.input) (count_both front bac
 
 nexts_uncounted : (k site : ℕ) (w : WorldValue) → count_given (nexts k site w) ≡ 0
 nexts_uncounted zero site w = refl
-nexts_uncounted (suc k) site w = at (is_ready (machine_of w site)) (nexts_uncounted k site (moved (next site) w))
+nexts_uncounted (suc k) site w = at (has_ready (machine_of w site)) (nexts_uncounted k site (moved (next site) w))
   where
     at : (b : Bool) → count_given (nexts k site (moved (next site) w)) ≡ 0
         → count_given (if b then next site ∷ nexts k site (moved (next site) w) else []) ≡ 0

@@ -45,7 +45,7 @@ use Rattle.td_machine.proofs.Growing.{step_sends}
 use Rattle.td_machine.proofs.Vectors.{bump_same}
 use Rattle.td_machine.proofs.Walk.{offered}
 use Rattle.td_law_replay.proofs.Matching.{take_parts}
-use Rattle.td_world.specs.Calls.{is_known}
+use Rattle.td_replica.specs.Replica.{knows_message}
 use Rattle.td_world.specs.Parts.{is_dropped}
 use Rattle.td_world.proofs.Known.{repeat_op, repeat_vote, repeat_sized, repeat_fits, from_op, from_vote}
 
@@ -379,8 +379,8 @@ step_more m input r =
       resumes = λ x i ready fit f. resumed_more x m r i ready fit;
     })
 
-pub known_more : (message : Message) (m n : Machine) → KnowsMore m n → is_known message m ≡ true
-    → is_known message n ≡ true
+pub known_more : (message : Message) (m n : Machine) → KnowsMore m n → knows_message message m ≡ true
+    → knows_message message n ≡ true
 known_more (AnOp x) m n k e =
     from_op x n (repeat_sized x m e ∙ sym k.size) (at (is_had m.have x) refl (repeat_op x m e))
   where

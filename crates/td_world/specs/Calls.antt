@@ -6,21 +6,11 @@ use Rattle.td_op.specs.declared.input.Input.TheVariants.{Local, Take, Next}
 use Rattle.td_op.specs.declared.message.Message.{Message}
 use Rattle.td_op.specs.declared.request.Request.{Request}
 use Rattle.td_base.specs.Lists.{kth}
-use Rattle.td_machine.specs.Machine.{Machine}
-use Rattle.td_machine.specs.Step.{step}
 use Rattle.td_replica.specs.declared.given.Given.{Given}
 use Rattle.td_replica.specs.declared.given.Given.TheVariants.{NoSuch, Stray, Took}
-use Rattle.td_replica.specs.Replica.{is_repeat, is_idle}
+use Rattle.td_replica.specs.Replica.{knows_message, has_ready}
 use Rattle.td_world.specs.World.{WorldValue, Move, size, machine_of, reply_to, moved, moved_all}
 use Rattle.td_op.specs.Message.{is_for}
-
--- to take the message again would change nothing
-abbrev pub is_known : Message → Machine → Bool
-is_known message m = is_repeat (step m (Take message)).reply
-
--- an operation that waits can be taken
-abbrev pub is_ready : Machine → Bool
-is_ready m = not (is_idle (step m Next).reply)
 
 -- ---- call
 
@@ -39,7 +29,7 @@ next site = record { site = site; input = Next }
 abbrev pub nexts : ℕ → ℕ → WorldValue → List Move
 nexts zero site w = []
 nexts (suc k) site w =
-    if is_ready (machine_of w site) then next site ∷ nexts k site (moved (next site) w) else []
+    if has_ready (machine_of w site) then next site ∷ nexts k site (moved (next site) w) else []
 
 -- after the message as many as wait then: each takes one away from those
 abbrev pub nexts_after : ℕ → WorldValue → List Move
@@ -72,7 +62,7 @@ numbered_given site number w = found_given site (kth number w.sent) w
 
 -- the message is for the site, and not known there
 abbrev pub is_wanted : ℕ → Message → WorldValue → Bool
-is_wanted site message w = is_for site message && not (is_known message (machine_of w site))
+is_wanted site message w = is_for site message && not (knows_message message (machine_of w site))
 
 abbrev pub wanted_moves : ℕ → Message → WorldValue → List Move
 wanted_moves site message w = if is_wanted site message w then give_moves site message w else []

@@ -8,11 +8,10 @@ use Rattle.td_op.specs.declared.reply.Reply.TheVariants.{Made, Cancelled, Held, 
 use Rattle.td_op.specs.declared.reply.Reply.TheVariants.{Later, Repeat, Unfit, Taken, Dropped, Idle}
 use Rattle.td_base.specs.Lists.{kth}
 use Rattle.td_history.specs.Standing.{StandFor}
-use Rattle.td_replica.specs.Replica.{ReplicaValue}
+use Rattle.td_replica.specs.Replica.{ReplicaValue, knows_message}
 use Rattle.td_world.specs.declared.post.Post.{Post}
 use Rattle.td_world.specs.World.{WorldValue, IsWorld, replica_from, machine_of}
 use Rattle.td_op.specs.Message.{is_for}
-use Rattle.td_world.specs.Calls.{is_known}
 
 abbrev pub posted : List ReplicaValue → Post → Option Message
 posted replicas p = kth p.number (replica_from replicas (p.site - 1)).machine.sent
@@ -29,7 +28,7 @@ new_posts site (suc k) before = record { site = site; number = before + 1 } ∷ 
 abbrev pub IsPassed : ℕ → WorldValue → ℕ → Type 0
 IsPassed site w k =
     (message : Message) → slice_get w.sent k ≡ Some message → is_for site message ≡ true
-    → is_known message (machine_of w site) ≡ true
+    → knows_message message (machine_of w site) ≡ true
 
 abbrev pub ArePassed : ℕ → WorldValue → ℕ → Type 0
 ArePassed site w count = (count ≤ length w.sent) × ((k : ℕ) → k < count → IsPassed site w k)

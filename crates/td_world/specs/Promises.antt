@@ -5,11 +5,11 @@ use Rattle.td_machine.specs.Machine.{undecided}
 use Rattle.td_order.specs.Show.{show, shown_atoms}
 use Rattle.td_law_convergence.specs.Headline.{KeepsPromises}
 use Rattle.td_world.specs.World.{WorldValue, size, machine_of, family_of}
-use Rattle.td_world.specs.Calls.{is_ready}
+use Rattle.td_replica.specs.Replica.{has_ready}
 
 -- no site has an operation that waits and can be taken
 abbrev pub NobodyReady : WorldValue → Type 0
-NobodyReady w = (site : ℕ) → 0 < site → site ≤ size w → is_ready (machine_of w site) ≡ false
+NobodyReady w = (site : ℕ) → 0 < site → site ≤ size w → has_ready (machine_of w site) ≡ false
 
 -- all sites have the same operations
 abbrev pub SameVectors : WorldValue → Type 0

@@ -6,7 +6,9 @@ ghost use Rattle.td_op.specs.declared.input.Input.TheVariants.{Next};
 ghost use Rattle.td_op.specs.declared.message.Message.{Message};
 ghost use Rattle.td_world.specs.World.{IsWorld, size, moved, moved_all};
 ghost use Rattle.td_op.specs.Message.{is_for};
-ghost use Rattle.td_world.specs.Calls.{is_wanted, nexts_after, give_moves, took, found_moves, found_given, numbered_moves, numbered_given, wanted_moves, wanted_given, wanted_answer, offered, offer_moves, give_all_moves, give_all_given, IsStopped, IsCutShort};
+ghost use Rattle.td_world.specs.Calls.{is_wanted, nexts_after, give_moves, took, found_moves, found_given};
+ghost use Rattle.td_world.specs.Calls.{numbered_moves, numbered_given, wanted_moves, wanted_given, wanted_answer};
+ghost use Rattle.td_world.specs.Calls.{offered, offer_moves, give_all_moves, give_all_given, IsStopped, IsCutShort};
 ghost use Rattle.td_world.specs.Parts.{IsPassed, ArePassed};
 ghost use Rattle.td_world.specs.Promises.{NobodyReady, IsPromised};
 

@@ -6,7 +6,8 @@ ghost use Rattle.td_machine.specs.History.{IsAddressed};
 ghost use Rattle.td_op.specs.Message.{sender, is_for};
 ghost use Rattle.td_replica.specs.declared.given.Given.TheVariants.{NoSuch, Stray};
 ghost use Rattle.td_world.specs.World.{WorldValue, Move, IsWorld, IsFit, size, machine_of, moved, moved_all};
-ghost use Rattle.td_world.specs.Calls.{is_ready, nexts_after, numbered_given, pass, passes, IsSettled};
+ghost use Rattle.td_replica.specs.Replica.{has_ready};
+ghost use Rattle.td_world.specs.Calls.{nexts_after, numbered_given, pass, passes, IsSettled};
 ghost use Rattle.td_world.specs.Promises.{NobodyReady, SameVectors, AllDecided, IsPromised, AtomsAreShown, TextsAreShown};
 
 /// A move of which the input may be given to its site leads from a world to a world.
@@ -34,7 +35,7 @@ pub fn causes_of_give()
 /// As many steps as operations wait are enough: then none of them is ready.
 pub fn nothing_ready_is_left()
     ensures { (w : WorldValue) (site : ℕ) → 0 < site → site ≤ size w
-        → is_ready (machine_of (moved_all (nexts_after site w) w) site) ≡ false }
+        → has_ready (machine_of (moved_all (nexts_after site w) w) site) ≡ false }
 {}
 
 /// What `settle` leaves is one world, and one number is answered, however many passes are looked at.

@@ -1,6 +1,6 @@
 use Rattle.std.proofs.Common.{◌≡◌, ◌∙◌, ℕ, true, false, length, sym, ap, subst, arith}
-use Rattle.td_replica.specs.Replica.{ReplicaValue}
-use Rattle.td_editor.specs.Editors.{EditorValue, is_ready, nexts, all_nexts, after_inputs, IsStopped}
+use Rattle.td_replica.specs.Replica.{ReplicaValue, has_ready}
+use Rattle.td_editor.specs.Editors.{EditorValue, nexts, all_nexts, after_inputs, IsStopped}
 use Rattle.td_editor.proofs.Nexts.{all_drained}
 use Rattle.td_editor.proofs.Going.{begins, more, off, all_done, stopped, err_always}
 use Rattle.td_editor.proofs.editor.Editor.catch_up.Goals as goal
@@ -13,8 +13,8 @@ loop-count-init g c = (
 
 pub loop-count-preserved : goal.loop-count-preserved
 loop-count-preserved g c =
-    let on : is_ready c.loop-count.self.replica.machine ≡ true =
-    ap (λ (r : ReplicaValue). is_ready r.machine) (sym c.replica-in-loop-count.ensures) ∙ sym c.ready.ensures
+    let on : has_ready c.loop-count.self.replica.machine ≡ true =
+    ap (λ (r : ReplicaValue). has_ready r.machine) (sym c.replica-in-loop-count.ensures) ∙ sym c.ready.ensures
     ∙ c.if-not-ready.false in (
       more g.S.Screen.heard c.waiting-waiting.result c.args.self.now c.loop-count.count c.loop-count.self
           c.step.new.self
@@ -24,8 +24,8 @@ loop-count-preserved g c =
 
 pub returns-then-not-ready-clause-count : goal.returns-then-not-ready-clause-count
 returns-then-not-ready-clause-count g c =
-    let idle : is_ready c.loop-count.self.replica.machine ≡ false =
-    ap (λ (r : ReplicaValue). is_ready r.machine) (sym c.replica-in-loop-count.ensures) ∙ sym c.ready.ensures
+    let idle : has_ready c.loop-count.self.replica.machine ≡ false =
+    ap (λ (r : ReplicaValue). has_ready r.machine) (sym c.replica-in-loop-count.ensures) ∙ sym c.ready.ensures
     ∙ c.if-not-ready.true in
     (off g.S.Screen.heard c.waiting-waiting.result c.args.self.now c.loop-count.count c.loop-count.self
     c.loop-count.invariant.0 idle).count
@@ -33,8 +33,8 @@ returns-then-not-ready-clause-count g c =
 
 pub returns-then-not-ready-clause-ok : goal.returns-then-not-ready-clause-ok
 returns-then-not-ready-clause-ok g c =
-    let idle : is_ready c.loop-count.self.replica.machine ≡ false =
-    ap (λ (r : ReplicaValue). is_ready r.machine) (sym c.replica-in-loop-count.ensures) ∙ sym c.ready.ensures
+    let idle : has_ready c.loop-count.self.replica.machine ≡ false =
+    ap (λ (r : ReplicaValue). has_ready r.machine) (sym c.replica-in-loop-count.ensures) ∙ sym c.ready.ensures
     ∙ c.if-not-ready.true in
     (off g.S.Screen.heard c.waiting-waiting.result c.args.self.now c.loop-count.count c.loop-count.self
     c.loop-count.invariant.0 idle).after
@@ -43,8 +43,8 @@ returns-then-not-ready-clause-ok g c =
 
 pub returns-in_err-step-clause-err : goal.returns-in_err-step-clause-err
 returns-in_err-step-clause-err g c =
-    let on : is_ready c.loop-count.self.replica.machine ≡ true =
-    ap (λ (r : ReplicaValue). is_ready r.machine) (sym c.replica-in-loop-count.ensures) ∙ sym c.ready.ensures
+    let on : has_ready c.loop-count.self.replica.machine ≡ true =
+    ap (λ (r : ReplicaValue). has_ready r.machine) (sym c.replica-in-loop-count.ensures) ∙ sym c.ready.ensures
     ∙ c.if-not-ready.false in
     err_always c.from_residual.result
     (subst (λ (k : ℕ). IsStopped g.S.Screen.heard (nexts k c.args.self.now.replica.machine) c.args.self.now
@@ -78,5 +78,5 @@ returns-clause-ready g c =
     c.loop-count.invariant.0 c.loop-count-test.false).after
     ∙ ap (λ (k : ℕ). after_inputs g.S.Screen.heard (nexts k c.args.self.now.replica.machine) c.args.self.now)
     c.loop-count.invariant.1 in
-    subst (λ (e : EditorValue g.row.S-State.Denot). is_ready e.replica.machine ≡ false) (sym after)
+    subst (λ (e : EditorValue g.row.S-State.Denot). has_ready e.replica.machine ≡ false) (sym after)
     (all_drained c.args.self.now.replica)
