@@ -4,7 +4,7 @@ ghost use Rattle.std.specs.List.{concat};
 use crate::code_point::code_point;
 use std::alloc::Global;
 use td_base::{Atom, Memory};
-use td_script::AtomList;
+use td_text::AtomList;
 
 /// What stands before the comment of a line.
 pub(crate) fn before_comment(line: &str) -> &str {

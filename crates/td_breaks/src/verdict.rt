@@ -5,7 +5,7 @@ ghost use Rattle.td_breaks.specs.declared.verdict.Verdict.TheVariants.{Same};
 
 use crate::sample::{before_comment, clusters_of, sample_of, text_of};
 use std::alloc::Global;
-use td_script::{AtomList, CutFault, cut};
+use td_text::{AtomList, CutFault, cut};
 
 /// What comes of a line.
 #[derive(Debug, Drop)]

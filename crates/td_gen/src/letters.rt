@@ -3,7 +3,7 @@ ghost use Rattle.td_gen.specs.Generator.{letter, letters_from};
 
 use std::alloc::Global;
 use td_base::{Atom, Memory};
-use td_script::AtomList;
+use td_text::AtomList;
 
 /// So many letters from this one on, each an atom. `a` is 0, and comes after `z`.
 #[tactic(auto, using(crate::proofs::Alphabet::one_more))]

@@ -12,8 +12,8 @@ use Rattle.td_base.specs.Run.{IsRun}
 use Rattle.td_base.specs.Value.{DotValue}
 use Rattle.td_script.specs.declared.live.editor_line.EditorLine.{EditorLine}
 use Rattle.td_script.specs.LiveScript.{calls}
-use Rattle.td_script.specs.Runs.{runs_of}
-use Rattle.td_script.proofs.RunLemmas.{runs_are_runs, atoms_of_runs}
+use Rattle.td_text.specs.Runs.{runs_of}
+use Rattle.td_text.proofs.RunLemmas.{runs_are_runs, atoms_of_runs}
 use Rattle.td_live.specs.declared.ask.Ask.{Ask}
 use Rattle.td_live.specs.declared.ask.Ask.TheVariants.{TypeOn}
 use Rattle.td_live.specs.declared.line_calls.Behind.{Behind}

@@ -1,7 +1,7 @@
 -- The calls that are left of a line, as they are kept.
 use Rattle.std.specs.Prelude.{List, [], ◌∷◌, map, replicate, Option, Some, None}
 use Rattle.td_op.specs.declared.request.Request.TheVariants.{Delete}
-use Rattle.td_script.specs.Runs.{runs_of}
+use Rattle.td_text.specs.Runs.{runs_of}
 use Rattle.td_live.specs.declared.ask.Ask.{Ask}
 use Rattle.td_live.specs.declared.ask.Ask.TheVariants.{Plain, TypeOn}
 use Rattle.td_live.specs.declared.line_calls.Behind.{Behind}

@@ -3,7 +3,7 @@ ghost use Rattle.std.specs.Prelude.{◌≡◌, ◌≤◌, ◌∷◌, List, [], l
 ghost use Rattle.td_script.specs.LiveScript.{calls};
 ghost use Rattle.td_live.specs.declared.ask.Ask.{Ask};
 ghost use Rattle.td_live.specs.declared.ask.Ask.TheVariants.{Plain};
-ghost use Rattle.td_script.specs.Runs.{runs_of};
+ghost use Rattle.td_text.specs.Runs.{runs_of};
 ghost use Rattle.td_live.specs.Asking.{asks_of, pasted, typed};
 ghost use Rattle.td_live.specs.LineCalls.{asks_behind};
 
@@ -12,7 +12,8 @@ use crate::proposing::proposal;
 use std::marker::Model;
 use td_base::Run;
 use td_op::Request;
-use td_script::{EditorLine, OwnedAtoms};
+use td_script::EditorLine;
+use td_text::OwnedAtoms;
 
 /// The calls that are left of a line. Contracts see the list of these.
 #[derive(Debug, Drop)]

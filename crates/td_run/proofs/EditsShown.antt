@@ -41,10 +41,10 @@ use Rattle.td_world.specs.Calls.{ask}
 use Rattle.td_world.proofs.Kept.{reached_in}
 use Rattle.td_world.proofs.Moves.{moved_here, size_moved, world_moved}
 use Rattle.td_run.specs.Asking.{Asked, ask_all, deletes, done_before, goes_on, inserts, is_made, pastes}
-use Rattle.td_script.specs.Runs.{runs_of}
+use Rattle.td_text.specs.Runs.{runs_of}
 use Rattle.td_run.specs.Typing.{IsCut, IsTyped, shown_at}
 use Rattle.td_run.proofs.NextEdits.{made_on}
-use Rattle.td_script.proofs.RunLemmas.{atoms_of_runs, runs_are_runs}
+use Rattle.td_text.proofs.RunLemmas.{atoms_of_runs, runs_are_runs}
 
 -- ---- one request at a machine
 

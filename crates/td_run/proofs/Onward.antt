@@ -19,7 +19,7 @@ use Rattle.td_replica.specs.Replica.{ReplicaValue, has_ready}
 use Rattle.td_report.specs.Given.{settle_line}
 use Rattle.td_report.specs.Numbers.{count_line}
 use Rattle.td_report.specs.Tree.{show_line, tree_lines}
-use Rattle.td_script.specs.Runs.{runs_of}
+use Rattle.td_text.specs.Runs.{runs_of}
 use Rattle.td_script.specs.Script.{AreCommands, IsCommand, IsDotOf}
 use Rattle.td_script.specs.declared.command.Command.{Command}
 use Rattle.td_script.specs.declared.command.Command.TheVariants.{Sites, Ins, Paste, Del, Flat, Cancel, Give}
@@ -27,7 +27,7 @@ use Rattle.td_script.specs.declared.command.Command.TheVariants.{GiveAll, Settle
 use Rattle.td_script.specs.declared.command.Place.{Place}
 use Rattle.td_script.specs.declared.command.Place.TheVariants.{Whole, Beside}
 use Rattle.td_script.specs.declared.script.Script.{Script}
-use Rattle.td_script.proofs.RunLemmas.{runs_are_runs}
+use Rattle.td_text.proofs.RunLemmas.{runs_are_runs}
 use Rattle.td_world.specs.World.{IsWorld, WorldValue, family_of, is_for, machine_of, moved}
 use Rattle.td_world.specs.World.{moved_all, new_world, reply_to, size}
 use Rattle.td_world.specs.Calls.{ask, count_given, found_moves, give_moves}

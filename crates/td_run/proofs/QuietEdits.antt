@@ -27,7 +27,7 @@ use Rattle.td_world.specs.World.{WorldValue, machine_of, moved, reply_to, sent_b
 use Rattle.td_world.specs.Calls.{ask}
 use Rattle.td_run.specs.Asking.{Asked, Edit, ask_all, deletes, done_before, inserts, is_made, pastes}
 use Rattle.td_run.specs.Printing.{Printed, and_then, events, line_and_events, with_line}
-use Rattle.td_script.specs.Runs.{runs_of}
+use Rattle.td_text.specs.Runs.{runs_of}
 
 -- ---- one request at a machine
 

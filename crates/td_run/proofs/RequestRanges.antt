@@ -23,7 +23,7 @@ use Rattle.td_script.specs.declared.command.Place.{Place}
 use Rattle.td_script.specs.declared.command.Place.TheVariants.{Whole, Beside}
 use Rattle.td_script.specs.declared.live.editor_line.EditorLine.{EditorLine}
 use Rattle.td_script.specs.declared.live.editor_line.EditorLine.TheVariants as Line
-use Rattle.td_script.specs.Runs.{runs_of}
+use Rattle.td_text.specs.Runs.{runs_of}
 use Rattle.td_script.specs.LiveScript.{AreLiveCommands, IsLiveCommand, SpellsLive, calls_of_command, homes_in}
 use Rattle.td_script.specs.LiveScript.{line_at, lines_at, lines_of_all}
 use Rattle.td_script.specs.declared.live.script.Live.{Live}

@@ -11,7 +11,7 @@ use Rattle.td_world.specs.Calls.{ask, numbered_moves, passes, wanted_moves}
 use Rattle.td_world.proofs.Moves.{size_after}
 use Rattle.td_run.specs.Asking.{Asked, Edit, ask_all, deletes, done_before, goes_on, inserts, is_made, pastes}
 use Rattle.td_run.specs.Printing.{Printed, Prints, Shown, give_each, proposal}
-use Rattle.td_script.specs.Runs.{runs_of}
+use Rattle.td_text.specs.Runs.{runs_of}
 
 one_move : (site : ℕ) (w : WorldValue) (edit : Edit) → size (moved (ask site edit.request) w) ≡ size w
 one_move site w edit = size_after (ask site edit.request ∷ []) w

@@ -22,7 +22,7 @@ use Rattle.td_report.specs.Numbers.{count_line}
 use Rattle.td_world.specs.World.{WorldValue, machine_of, moved, moved_all, new_world, reply_to}
 use Rattle.td_world.specs.Calls.{ask, is_wanted, numbered_given, numbered_moves, took, wanted_moves, IsSettled}
 use Rattle.td_run.specs.Asking.{ask_all, inserts, pastes, deletes}
-use Rattle.td_script.specs.Runs.{runs_of}
+use Rattle.td_text.specs.Runs.{runs_of}
 
 -- the votes and decisions among the messages that were sent between two moments
 abbrev pub events : WorldValue → WorldValue → List ℕ

@@ -4,7 +4,7 @@ ghost use Rattle.std.specs.Prelude.{◌≡◌, ◌<◌, ◌≤◌, ◌+◌, ◌^
 ghost use Rattle.td_base.specs.Atom.{IsAtom};
 ghost use Rattle.td_run.specs.Asking.{ask_all, asked, deletes, inserts, pastes};
 ghost use Rattle.td_run.specs.Printing.{and_then, del, ins, paste};
-ghost use Rattle.td_script.specs.Runs.{runs_of};
+ghost use Rattle.td_text.specs.Runs.{runs_of};
 ghost use Rattle.td_world.specs.World.{size};
 
 use crate::outcome::{Outcome, is_made};
@@ -13,7 +13,7 @@ use td_base::{Memory, Site};
 use td_doc::Doc;
 use td_op::Request;
 use td_report::{del_line, ins_line, paste_line};
-use td_script::{AtomList, runs_of};
+use td_text::{AtomList, runs_of};
 use td_world::World;
 
 impl<D: Doc> Player<D> {

@@ -1,4 +1,3 @@
-pub mod AtomListLemmas
 pub mod Numbers
 pub mod Splitting
 pub mod NumberWords
@@ -6,8 +5,6 @@ pub mod Cutting
 pub mod Reading
 pub mod Results
 pub mod TextWords
-pub mod TextClusters
-pub mod PlainText
 pub mod TextReading
 pub mod WordLaws
 pub mod ArgumentLaws
@@ -25,6 +22,4 @@ pub mod LiveCommands
 pub mod LiveScriptLaws
 pub mod ReadLive
 pub mod LiveWritingLaws
-pub mod RunLemmas
-pub mod OwnedAtomsLemmas
 pub mod LiveFits

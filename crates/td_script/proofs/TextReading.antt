@@ -11,7 +11,8 @@ use Rattle.td_base.specs.declared.atom.TheConstants.{MAX_ATOM_LEN}
 use Rattle.unicode_segmentation.specs.Grapheme.{graphemes}
 use Rattle.td_script.specs.declared.kind.Kind.TheVariants.{End, Quote, Atom}
 use Rattle.td_script.specs.Arguments.{Reading, argument, behind, last, opened, clusters_of, text_at}
-use Rattle.td_script.specs.Texts.{IsFirstLong, is_short, unquoted}
+use Rattle.td_text.specs.Clusters.{IsFirstLong}
+use Rattle.td_script.specs.Texts.{is_short, unquoted}
 
 abbrev Atoms : Type 0
 Atoms = List (List ℕ)

@@ -12,9 +12,7 @@ pub use Rattle.td_base.specs.Atom
 pub mod Faults
 pub mod Script
 pub mod Answers
-pub mod AtomListParts
 pub mod LiveWords
 pub mod LiveSpelling
 pub mod LiveScript
 pub mod LiveFaults
-pub mod Runs

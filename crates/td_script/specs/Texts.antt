@@ -1,10 +1,8 @@
--- How a text is written in quotes, and its clusters (UAX #29).
-use Rattle.std.specs.Prelude.{◌≡◌, ◌<◌, ◌≤◌, ◌==◌, ◌||◌, ℕ, nat_le, Bool, true, false, if◌then◌else◌, ⊤}
-use Rattle.std.specs.Prelude.{List, [], ◌∷◌, ◌++◌, Option, Some, None, codes, length, All}
+-- How a text is written in quotes, and which clusters fit an atom.
+use Rattle.std.specs.Prelude.{◌==◌, ◌||◌, ℕ, nat_le, Bool, true, false, if◌then◌else◌}
+use Rattle.std.specs.Prelude.{List, [], ◌∷◌, ◌++◌, Option, Some, None, codes, length}
 use Rattle.std.specs.List.{flat_map}
 use Rattle.td_base.specs.declared.atom.TheConstants.{MAX_ATOM_LEN}
-use Rattle.td_script.specs.declared.clusters.CutFault.{CutFault}
-use Rattle.td_script.specs.declared.clusters.CutFault.TheVariants.{Long, Memory}
 use Rattle.td_script.specs.Characters.{line_feed, quote, backslash}
 
 -- a byte of a text, as it is written: the quote, the backslash and LF have escapes
@@ -43,17 +41,3 @@ unquoted true (byte ∷ bytes) = onto_text (unescaped true byte) (unquoted false
 -- the cluster fits an atom
 abbrev pub is_short : List ℕ → Bool
 is_short cluster = nat_le (length cluster) MAX_ATOM_LEN
-
--- the first cluster that fits no atom stands at the index
-pub record IsFirstLong (clusters : List (List ℕ)) (index : ℕ) : Type 0 where
-  pub before : List (List ℕ)
-  pub cluster : List ℕ
-  pub behind : List (List ℕ)
-  pub whole : clusters ≡ before ++ cluster ∷ behind
-  pub place : index ≡ length before
-  pub short : All (λ c. length c ≤ MAX_ATOM_LEN) before
-  pub long : MAX_ATOM_LEN < length cluster
-
-abbrev pub IsCutFault : List (List ℕ) → CutFault → Type 0
-IsCutFault clusters (Long index) = IsFirstLong clusters index
-IsCutFault clusters Memory = ⊤

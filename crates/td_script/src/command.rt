@@ -1,5 +1,5 @@
-use crate::atom_list::AtomList;
 use td_base::{Bit, Dot, Site};
+use td_text::AtomList;
 
 /// A command of a script. An index counts live atoms from 0, a message counts from 1.
 #[derive(Debug, Drop)]

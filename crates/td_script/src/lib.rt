@@ -7,33 +7,25 @@
 #![tactic(auto)]
 
 mod argument;
-mod atom_list;
 mod before;
-mod clusters;
 mod command;
 mod commands;
 mod kind;
 mod language;
 mod laws;
 mod line;
-mod listed_atoms;
 mod live;
 mod number;
-mod owned_atoms;
 mod quoted;
 mod read_line;
-mod runs;
 mod script;
 mod shared;
 mod word;
 
-pub use atom_list::AtomList;
-pub use clusters::{CutFault, cut};
 pub use command::{Command, Place};
 pub use commands::Commands;
 pub use kind::{Kind, ScriptFault};
 pub use laws::{scripts_have_no_fault, spelled_scripts_are_unique, written_scripts_are_read_again};
-pub use listed_atoms::ListedAtoms;
 pub use live::{
     DEFAULT_TURNS, EditorLine, EditorLines, Homes, LinesByEditor, Live, Loss, MAX_ALL_CALLS,
     MAX_CALLS, MAX_EDITORS, MAX_LIVE_SCRIPT, MAX_TURNS, NO_LOSS, live_scripts_have_no_fault,
@@ -41,8 +33,6 @@ pub use live::{
     written_live_scripts_are_read_again,
 };
 pub use number::{MAX_DIGITS, number_of};
-pub use owned_atoms::OwnedAtoms;
-pub use runs::{TextRuns, a_text_is_cut_into_runs, runs_of};
 pub use script::{
     MAX_LINE, MAX_MIDDLE_REQUESTS, MAX_SCRIPT, MAX_WIDE_REQUESTS, MAX_WIDE_SCRIPT, Script,
     read_script,

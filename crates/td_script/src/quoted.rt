@@ -4,11 +4,10 @@ ghost use Rattle.td_script.specs.Arguments.{behind, last, text_at};
 ghost use Rattle.td_script.specs.Texts.{unescaped, unquoted};
 
 use crate::argument::argument;
-use crate::atom_list::AtomList;
-use crate::clusters::{CutFault, cut};
 use crate::kind::{Kind, LineFault};
 use std::alloc::Global;
 use td_base::Memory;
+use td_text::{AtomList, CutFault, cut};
 
 /// The text in quotes that is the last argument of a line, in clusters.
 pub(crate) fn last_text(alloc: Global, rest: &str) -> Result<AtomList, LineFault>

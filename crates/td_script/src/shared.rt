@@ -4,7 +4,6 @@ ghost use Rattle.td_script.specs.Answers.{IsLineAnswer};
 ghost use Rattle.td_script.specs.Shared.{index_and_text, place_at, place_beside, proposal_at, sites_at, two_numbers};
 
 use crate::argument::{bit_word, dot_word, last, next_word, number, number_word};
-use crate::atom_list::AtomList;
 use crate::before::MAX_NARROW;
 use crate::command::Place;
 use crate::kind::{Kind, LineFault};
@@ -12,6 +11,7 @@ use crate::quoted::last_text;
 use crate::script::MAX_WIDE_SCRIPT;
 use std::alloc::Global;
 use td_base::{Dot, MAX_SITE};
+use td_text::AtomList;
 
 /// How many sites there are, in a script of so many bytes.
 pub(crate) fn sites_number(size: usize, rest: &str) -> Result<u8, Kind>

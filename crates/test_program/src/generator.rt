@@ -5,7 +5,8 @@ use std::fmt::Write;
 use std::process::Abort;
 use std::test::Fail;
 use td_gen::{MAX_SIZE, script_of};
-use td_script::{AtomList, Command};
+use td_script::Command;
+use td_text::AtomList;
 
 #[test]
 fn the_words_are_those_of_pcg32(rt: HostRuntime) {

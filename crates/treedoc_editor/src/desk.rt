@@ -8,7 +8,7 @@ use td_base::{Atom, Site};
 use td_doc::Doc;
 use td_editor::{Editor, Page, Received};
 use td_op::Reply;
-use td_script::{cut, runs_of};
+use td_text::{cut, runs_of};
 use td_tree::Tree;
 
 // So many sites share the text.

@@ -1,9 +1,9 @@
 ghost use Rattle.std.specs.Prelude.{◌≡◌, ◌<◌, ◌^◌};
 ghost use Rattle.td_script.specs.LiveScript.{calls};
 
-use crate::atom_list::AtomList;
 use crate::command::Place;
 use td_base::Dot;
+use td_text::AtomList;
 
 /// What one line asks of an editor. An index counts live atoms from 0.
 #[derive(Debug, Drop)]

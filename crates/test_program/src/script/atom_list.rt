@@ -1,7 +1,7 @@
 use std::process::Abort;
 use std::test::Fail;
 use td_base::Atom;
-use td_script::AtomList;
+use td_text::AtomList;
 
 #[test]
 fn atoms_are_read_back_with_their_bytes_and_lengths(rt: HostRuntime) -> Result<(), Fail> {

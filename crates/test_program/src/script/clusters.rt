@@ -1,7 +1,8 @@
 use std::alloc::Global;
 use std::process::Abort;
 use std::test::Fail;
-use td_script::{CutFault, Kind, ScriptFault, cut, read_script};
+use td_script::{Kind, ScriptFault, read_script};
+use td_text::{CutFault, cut};
 
 // The last samples of GraphemeBreakTest.txt of Unicode 15.0.0, with a bar at each boundary. The one with U+2701 is
 // left out: `unicode_segmentation` goes by a later version, in which U+2701 is no pictograph.

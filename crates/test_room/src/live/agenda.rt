@@ -5,7 +5,8 @@ use std::test::Fail;
 use td_base::{Dot, Site};
 use td_live::{Agenda, Next};
 use td_op::{Reply, Request};
-use td_script::{EditorLine, EditorLines, cut};
+use td_script::{EditorLine, EditorLines};
+use td_text::cut;
 
 // A line of an editor.
 pub enum Line {

@@ -4,9 +4,9 @@ use Rattle.td_op.specs.declared.request.Request.TheVariants.{Paste}
 use Rattle.td_world.specs.World.{moved, reply_to}
 use Rattle.td_world.specs.Calls.{ask}
 use Rattle.td_run.specs.Asking.{ask_all, done_before, is_made, pastes}
-use Rattle.td_script.specs.Runs.{runs_of}
+use Rattle.td_text.specs.Runs.{runs_of}
 use Rattle.td_run.proofs.NextEdits.{none_before, pasted}
-use Rattle.td_script.proofs.RunLemmas.{atoms_of_runs}
+use Rattle.td_text.proofs.RunLemmas.{atoms_of_runs}
 use Rattle.td_run.proofs.edits.paste_all.Goals as goal
 
 abbrev atoms_in : List (List (List ℕ)) → ℕ

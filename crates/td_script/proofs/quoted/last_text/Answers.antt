@@ -2,7 +2,7 @@ use Rattle.std.proofs.Common.{ℕ, List, drop, Some, None, string_bytes, true, a
 use Rattle.std.proofs.lemmas.Str.Pattern.{strip_prefix_char}
 use Rattle.unicode_segmentation.specs.Grapheme.{graphemes}
 use Rattle.td_script.specs.Arguments.{Reading, behind, last}
-use Rattle.td_script.specs.Texts.{IsFirstLong}
+use Rattle.td_text.specs.Clusters.{IsFirstLong}
 use Rattle.td_script.proofs.TextReading.{no_opening, read_text, long_text, text_then_last, last_left, last_done}
 use Rattle.td_script.proofs.quoted.last_text.Goals as goal
 

@@ -1,5 +1,0 @@
-use Rattle.td_script.proofs.RunLemmas.{runs_are_runs}
-use Rattle.td_script.proofs.runs.a_text_is_cut_into_runs.Goals as goal
-
-pub returns-clause-runs : goal.returns-clause-runs
-returns-clause-runs c = runs_are_runs

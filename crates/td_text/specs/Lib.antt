@@ -1,0 +1,4 @@
+pub mod Clusters
+pub mod Runs
+pub mod AtomListParts
+pub use Rattle.td_base.specs.Atom
