@@ -21,9 +21,12 @@ abbrev pub joined : List (List Item) → List Item → List Item
 joined chunks [] = []
 joined chunks (i ∷ order) = chunk_at chunks i.name ++ joined chunks order
 
--- the items of a list, and those before and after a chunk
+-- the items of a list, those of a chunk, and those before and after it
 abbrev pub all_items : Parts → List Item
 all_items p = joined p.chunks p.order
+
+abbrev pub items_of : ℕ → Parts → List Item
+items_of c p = chunk_at p.chunks c
 
 abbrev pub chunks_before : ℕ → Parts → List Item
 chunks_before c p = joined p.chunks (items_before c p.order)

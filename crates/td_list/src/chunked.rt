@@ -1,7 +1,7 @@
-ghost use Rattle.std.specs.Prelude.{◌≡◌, ◌<◌, ◌≤◌, ◌+◌, ◌^◌, ◌++◌, ◌∷◌, List, [], nat_lt, length, drop, Option, IfOk, OnOk, OnErr};
+ghost use Rattle.std.specs.Prelude.{◌≡◌, ◌<◌, ◌≤◌, ◌+◌, ◌^◌, ◌++◌, List, length, OnOk, OnErr};
 ghost use Rattle.std.specs.Option.{ForSome};
-ghost use Rattle.td_list.specs.Items.{Item, IsItem, AreApart, AreNew, items_before, items_from, items_after, items_from_end, put_before, replace, without, renew, place_of, first_name, last_name, first_marked, share_at, weight_of};
-ghost use Rattle.td_list.specs.Index.{all_items, chunk_at, chunks_before, chunks_after, IsIndex};
+ghost use Rattle.td_list.specs.Items.{Item, IsItem, AreApart, AreNew, items_before, items_from, items_after};
+ghost use Rattle.td_list.specs.Items.{items_from_end, replace, place_of, first_name, weight_of};
 
 use crate::deferred::Deferred;
 use crate::index::{FULL, Index};

@@ -1,9 +1,11 @@
 // Chunks by number, their order, and the chunk of each item.
-ghost use Rattle.std.specs.Prelude.{◌≡◌, ◌≢◌, ◌↔◌, IsTrue, ◌<◌, ◌≤◌, ◌+◌, ◌-◌, ◌^◌, ◌++◌, ◌∷◌, ℕ, List, [], length, take, drop, set, get_or, false, Option, Some, None, IfOk, OnOk, OnErr, vec_capacity};
+ghost use Rattle.std.specs.Prelude.{◌≡◌, ◌≢◌, ◌↔◌, IsTrue, ◌<◌, ◌≤◌, ◌+◌, ◌-◌, ◌^◌, ◌++◌, ◌∷◌, ℕ, List, [], length};
+ghost use Rattle.std.specs.Prelude.{take, drop, set, get_or, false, Option, Some, None, IfOk, OnOk, OnErr, vec_capacity};
 ghost use Rattle.std.specs.Option.{ForSome};
-ghost use Rattle.td_list.specs.Items.{IsItem, AreApart, AreNew, items_from, items_after, renew, without, place_of, first_name, last_name, weight_of};
+ghost use Rattle.td_list.specs.Items.{IsItem, AreApart, AreNew, items_from, items_after, renew, without, place_of};
+ghost use Rattle.td_list.specs.Items.{first_name, last_name, weight_of};
 ghost use Rattle.td_list.specs.Places.{nothing};
-ghost use Rattle.td_list.specs.Index.{chunk_at, all_items, chunks_before, chunks_after, summary, IsIndex};
+ghost use Rattle.td_list.specs.Index.{all_items, items_of, chunks_before, chunks_after, summary, IsIndex};
 
 use crate::chunk::Chunk;
 use crate::homes::{grow, settle};
@@ -72,7 +74,7 @@ impl<S: Sequence> Index<S> {
     /// The items of a chunk.
     pub fn items_of(&self, chunk: u32) -> &[Item]
         requires { chunk < length self.now.chunks }
-        ensures { result.now ≡ chunk_at self.now.chunks chunk }
+        ensures { result.now ≡ items_of chunk self.now }
     {
         self.chunks[chunk as usize].items()
     }
@@ -80,7 +82,7 @@ impl<S: Sequence> Index<S> {
     // The chunk of a number.
     fn numbered(&self, chunk: u32) -> &Chunk
         requires { chunk < length self.now.chunks }
-        ensures { result.now ≡ chunk_at self.now.chunks chunk }
+        ensures { result.now ≡ items_of chunk self.now }
     {
         &self.chunks[chunk as usize]
     }
@@ -88,9 +90,9 @@ impl<S: Sequence> Index<S> {
     /// The weight of the items of a chunk before a place.
     pub fn weight_to(&self, chunk: u32, place: usize) -> u32
         requires chunk { chunk < length self.now.chunks }
-        requires place { place ≤ length (chunk_at self.now.chunks chunk) }
-        requires light { weight_of (chunk_at self.now.chunks chunk) < 2 ^ 31 }
-        ensures { result ≡ weight_of (take place (chunk_at self.now.chunks chunk)) }
+        requires place { place ≤ length (items_of chunk self.now) }
+        requires light { weight_of (items_of chunk self.now) < 2 ^ 31 }
+        ensures { result ≡ weight_of (take place (items_of chunk self.now)) }
     {
         self.numbered(chunk).weight_to(place)
     }
@@ -99,7 +101,7 @@ impl<S: Sequence> Index<S> {
     pub fn head(&self, chunk: u32) -> u32
         requires index { IsIndex self.now }
         requires chunk { IsItem chunk self.now.order }
-        ensures { first_name (chunk_at self.now.chunks chunk) ≡ Some result }
+        ensures { first_name (items_of chunk self.now) ≡ Some result }
     {
         self.items_of(chunk)[0].name()
     }
@@ -108,7 +110,7 @@ impl<S: Sequence> Index<S> {
     pub fn end(&self, chunk: u32) -> u32
         requires index { IsIndex self.now }
         requires chunk { IsItem chunk self.now.order }
-        ensures { last_name (chunk_at self.now.chunks chunk) ≡ Some result }
+        ensures { last_name (items_of chunk self.now) ≡ Some result }
     {
         let items = self.items_of(chunk);
         items[items.len() - 1].name()
@@ -120,9 +122,9 @@ impl<S: Sequence> Index<S> {
         requires there { IsItem name (all_items self.now) }
         ensures chunk { IsItem result.chunk self.now.order }
         ensures within { result.chunk < length self.now.chunks }
-        ensures there { IsItem name (chunk_at self.now.chunks result.chunk) }
-        ensures place { result.place ≡ place_of name (chunk_at self.now.chunks result.chunk) }
-        ensures bound { result.place < length (chunk_at self.now.chunks result.chunk) }
+        ensures there { IsItem name (items_of result.chunk self.now) }
+        ensures place { result.place ≡ place_of name (items_of result.chunk self.now) }
+        ensures bound { result.place < length (items_of result.chunk self.now) }
         ensures few { result.place < usize.MAX }
     {
         let chunk = self.homes[name as usize];
@@ -137,9 +139,9 @@ impl<S: Sequence> Index<S> {
         ensures index { IsIndex self.new }
         ensures all { all_items self.new ≡ all_items self.old }
         ensures chunk { IfOk result (λ seat. IsItem seat.chunk self.new.order) }
-        ensures there { IfOk result (λ seat. IsItem name (chunk_at self.new.chunks seat.chunk)) }
-        ensures place { IfOk result (λ seat. seat.place ≡ place_of name (chunk_at self.new.chunks seat.chunk)) }
-        ensures bound { IfOk result (λ seat. seat.place < length (chunk_at self.new.chunks seat.chunk)) }
+        ensures there { IfOk result (λ seat. IsItem name (items_of seat.chunk self.new)) }
+        ensures place { IfOk result (λ seat. seat.place ≡ place_of name (items_of seat.chunk self.new)) }
+        ensures bound { IfOk result (λ seat. seat.place < length (items_of seat.chunk self.new)) }
         ensures few { IfOk result (λ seat. seat.place < usize.MAX) }
     {
         let seat = self.seat(name);
@@ -161,16 +163,16 @@ impl<S: Sequence> Index<S> {
         requires index { IsIndex self.old }
         requires chunk { IsItem chunk self.old.order }
         requires from { from ≤ to }
-        requires to { to ≤ length (chunk_at self.old.chunks chunk) }
-        requires some { 0 < from + length piece.now + (length (chunk_at self.old.chunks chunk) - to) }
+        requires to { to ≤ length (items_of chunk self.old) }
+        requires some { 0 < from + length piece.now + (length (items_of chunk self.old) - to) }
         requires apart { AreApart piece.now }
         requires new { AreNew piece.now (chunks_before chunk self.old
-            ++ (take from (chunk_at self.old.chunks chunk) ++ drop to (chunk_at self.old.chunks chunk))
+            ++ (take from (items_of chunk self.old) ++ drop to (items_of chunk self.old))
             ++ chunks_after chunk self.old) }
         requires light { weight_of (all_items self.old) + weight_of piece.now < 2 ^ 31 }
         ensures index { IsIndex self.new }
         ensures ok { OnOk result (all_items self.new ≡ chunks_before chunk self.old
-            ++ (take from (chunk_at self.old.chunks chunk) ++ piece.now ++ drop to (chunk_at self.old.chunks chunk))
+            ++ (take from (items_of chunk self.old) ++ piece.now ++ drop to (items_of chunk self.old))
             ++ chunks_after chunk self.old) }
         ensures err { OnErr result (all_items self.new ≡ all_items self.old) }
     {
@@ -188,16 +190,16 @@ impl<S: Sequence> Index<S> {
         requires index { IsIndex self.old }
         requires chunk { IsItem chunk self.old.order }
         requires from { from ≤ to }
-        requires to { to ≤ length (chunk_at self.old.chunks chunk) }
-        requires some { to - from < length (chunk_at self.old.chunks chunk) }
+        requires to { to ≤ length (items_of chunk self.old) }
+        requires some { to - from < length (items_of chunk self.old) }
         ensures index { IsIndex self.new }
         ensures all { all_items self.new ≡ chunks_before chunk self.old
-            ++ (take from (chunk_at self.old.chunks chunk) ++ drop to (chunk_at self.old.chunks chunk))
+            ++ (take from (items_of chunk self.old) ++ drop to (items_of chunk self.old))
             ++ chunks_after chunk self.old }
         ensures chunks { self.new.chunks ≡ set self.old.chunks chunk
-            (take from (chunk_at self.old.chunks chunk) ++ drop to (chunk_at self.old.chunks chunk)) }
+            (take from (items_of chunk self.old) ++ drop to (items_of chunk self.old)) }
         ensures order { self.new.order ≡ renew (summary chunk
-            (take from (chunk_at self.old.chunks chunk) ++ drop to (chunk_at self.old.chunks chunk))) self.old.order }
+            (take from (items_of chunk self.old) ++ drop to (items_of chunk self.old))) self.old.order }
         ensures homes { self.new.homes ≡ self.old.homes }
     {
         self.chunks[chunk as usize].cut(from, to);
@@ -208,14 +210,14 @@ impl<S: Sequence> Index<S> {
     pub fn renew(&mut self, chunk: u32, place: usize, item: Item)
         requires index { IsIndex self.old }
         requires chunk { IsItem chunk self.old.order }
-        requires place { place < length (chunk_at self.old.chunks chunk) }
-        requires named { item.name ≡ (get_or (chunk_at self.old.chunks chunk) place nothing).name }
+        requires place { place < length (items_of chunk self.old) }
+        requires named { item.name ≡ (get_or (items_of chunk self.old) place nothing).name }
         requires light { weight_of (chunks_before chunk self.old
-            ++ (take place (chunk_at self.old.chunks chunk) ++ item ∷ drop (place + 1) (chunk_at self.old.chunks chunk))
+            ++ (take place (items_of chunk self.old) ++ item ∷ drop (place + 1) (items_of chunk self.old))
             ++ chunks_after chunk self.old) < 2 ^ 31 }
         ensures index { IsIndex self.new }
         ensures all { all_items self.new ≡ chunks_before chunk self.old
-            ++ (take place (chunk_at self.old.chunks chunk) ++ item ∷ drop (place + 1) (chunk_at self.old.chunks chunk))
+            ++ (take place (items_of chunk self.old) ++ item ∷ drop (place + 1) (items_of chunk self.old))
             ++ chunks_after chunk self.old }
     {
         self.chunks[chunk as usize].renew(place, item);
@@ -225,9 +227,9 @@ impl<S: Sequence> Index<S> {
     /// The items of a chunk up to a place, and a piece, as a chunk that is not in the order.
     pub fn front_with(&self, chunk: u32, place: usize, piece: &[Item]) -> Result<Chunk, Memory>
         requires chunk { chunk < length self.now.chunks }
-        requires place { place ≤ length (chunk_at self.now.chunks chunk) }
-        requires light { weight_of (chunk_at self.now.chunks chunk) + weight_of piece.now < 2 ^ 31 }
-        ensures { IfOk result (λ new. new ≡ take place (chunk_at self.now.chunks chunk) ++ piece.now) }
+        requires place { place ≤ length (items_of chunk self.now) }
+        requires light { weight_of (items_of chunk self.now) + weight_of piece.now < 2 ^ 31 }
+        ensures { IfOk result (λ new. new ≡ take place (items_of chunk self.now) ++ piece.now) }
     {
         let mut new = Chunk::of(self.alloc, &self.items_of(chunk)[..place])?;
         new.splice(place, place, piece, &mut Vec::new(self.alloc))?;
@@ -238,12 +240,12 @@ impl<S: Sequence> Index<S> {
     pub fn exchange(&mut self, chunk: u32, place: usize, piece: &[Item], new: Chunk)
         requires index { IsIndex self.old }
         requires chunk { IsItem chunk self.old.order }
-        requires place { place ≤ length (chunk_at self.old.chunks chunk) }
-        requires is { new ≡ take place (chunk_at self.old.chunks chunk) ++ piece.now }
+        requires place { place ≤ length (items_of chunk self.old) }
+        requires is { new ≡ take place (items_of chunk self.old) ++ piece.now }
         requires some { 0 < length new }
         requires apart { AreApart piece.now }
         requires fresh { AreNew piece.now (chunks_before chunk self.old
-            ++ take place (chunk_at self.old.chunks chunk) ++ chunks_after chunk self.old) }
+            ++ take place (items_of chunk self.old) ++ chunks_after chunk self.old) }
         requires room { (x : ℕ) → IsItem x piece.now → x < length self.old.homes }
         requires light { weight_of (all_items self.old) + weight_of piece.now < 2 ^ 31 }
         ensures index { IsIndex self.new }
@@ -286,7 +288,7 @@ impl<S: Sequence> Index<S> {
         ensures all { all_items self.new ≡ all_items self.old }
         ensures order { self.new.order ≡ self.old.order }
         ensures homes { self.new.homes ≡ self.old.homes }
-        ensures kept { (c : ℕ) → IsItem c self.old.order → chunk_at self.new.chunks c ≡ chunk_at self.old.chunks c }
+        ensures kept { (c : ℕ) → IsItem c self.old.order → items_of c self.new ≡ items_of c self.old }
         ensures some { OnOk result (0 < length self.new.free) }
     {
         if self.free.len() > 0 {
@@ -307,8 +309,8 @@ impl<S: Sequence> Index<S> {
     pub fn split(&mut self, chunk: u32, place: usize) -> Result<(), Memory>
         requires index { IsIndex self.old }
         requires chunk { IsItem chunk self.old.order }
-        requires some { 2 ≤ length (chunk_at self.old.chunks chunk) }
-        requires place { place < length (chunk_at self.old.chunks chunk) }
+        requires some { 2 ≤ length (items_of chunk self.old) }
+        requires place { place < length (items_of chunk self.old) }
         ensures index { IsIndex self.new }
         ensures all { all_items self.new ≡ all_items self.old }
     {

@@ -1,8 +1,10 @@
 // A piece in place of a stretch that reaches over several chunks.
-ghost use Rattle.std.specs.Prelude.{◌≡◌, ◌≢◌, ◌<◌, ◌≤◌, ◌+◌, ◌^◌, ◌++◌, ℕ, [], length, take, drop, Option, Some, None, IfNone, IfSome, OnOk, OnErr};
+ghost use Rattle.std.specs.Prelude.{◌≡◌, ◌≢◌, ◌<◌, ◌≤◌, ◌+◌, ◌^◌, ◌++◌, ℕ, [], length, take, drop};
+ghost use Rattle.std.specs.Prelude.{Option, Some, None, IfNone, IfSome, OnOk, OnErr};
 ghost use Rattle.std.specs.Option.{ForSome};
-ghost use Rattle.td_list.specs.Items.{IsItem, AreApart, AreNew, items_before, items_after, items_from, items_from_end, first_name, weight_of};
-ghost use Rattle.td_list.specs.Index.{chunk_at, all_items, chunks_before, chunks_after, IsIndex};
+ghost use Rattle.td_list.specs.Items.{IsItem, AreApart, AreNew, items_before, items_after, items_from};
+ghost use Rattle.td_list.specs.Items.{items_from_end, first_name, weight_of};
+ghost use Rattle.td_list.specs.Index.{all_items, items_of, chunks_before, chunks_after, IsIndex};
 
 use crate::chunk::Chunk;
 use crate::index::{Index, Seat};
@@ -16,17 +18,17 @@ impl<S: Sequence> Index<S> {
         requires index { IsIndex self.old }
         requires chunk { IsItem from.chunk self.old.order }
         requires later { IsItem to.chunk (items_after from.chunk self.old.order) }
-        requires from { from.place ≤ length (chunk_at self.old.chunks from.chunk) }
-        requires to { to.place < length (chunk_at self.old.chunks to.chunk) }
+        requires from { from.place ≤ length (items_of from.chunk self.old) }
+        requires to { to.place < length (items_of to.chunk self.old) }
         requires apart { AreApart piece.now }
         requires new { AreNew piece.now
-            ((chunks_before from.chunk self.old ++ take from.place (chunk_at self.old.chunks from.chunk))
-            ++ (drop to.place (chunk_at self.old.chunks to.chunk) ++ chunks_after to.chunk self.old)) }
+            ((chunks_before from.chunk self.old ++ take from.place (items_of from.chunk self.old))
+            ++ (drop to.place (items_of to.chunk self.old) ++ chunks_after to.chunk self.old)) }
         requires light { weight_of (all_items self.old) + weight_of piece.now < 2 ^ 31 }
         ensures index { IsIndex self.new }
         ensures ok { OnOk result (all_items self.new
-            ≡ (chunks_before from.chunk self.old ++ take from.place (chunk_at self.old.chunks from.chunk)) ++ piece.now
-            ++ (drop to.place (chunk_at self.old.chunks to.chunk) ++ chunks_after to.chunk self.old)) }
+            ≡ (chunks_before from.chunk self.old ++ take from.place (items_of from.chunk self.old)) ++ piece.now
+            ++ (drop to.place (items_of to.chunk self.old) ++ chunks_after to.chunk self.old)) }
         ensures err { OnErr result (all_items self.new ≡ all_items self.old) }
     {
         let new = self.front_with(from.chunk, from.place, piece)?;
@@ -41,14 +43,14 @@ impl<S: Sequence> Index<S> {
     pub fn replace_rest(&mut self, from: Seat, piece: &[Item]) -> Result<(), Memory>
         requires index { IsIndex self.old }
         requires chunk { IsItem from.chunk self.old.order }
-        requires from { from.place ≤ length (chunk_at self.old.chunks from.chunk) }
+        requires from { from.place ≤ length (items_of from.chunk self.old) }
         requires apart { AreApart piece.now }
         requires new { AreNew piece.now
-            (chunks_before from.chunk self.old ++ take from.place (chunk_at self.old.chunks from.chunk)) }
+            (chunks_before from.chunk self.old ++ take from.place (items_of from.chunk self.old)) }
         requires light { weight_of (all_items self.old) + weight_of piece.now < 2 ^ 31 }
         ensures index { IsIndex self.new }
         ensures ok { OnOk result (all_items self.new
-            ≡ (chunks_before from.chunk self.old ++ take from.place (chunk_at self.old.chunks from.chunk))
+            ≡ (chunks_before from.chunk self.old ++ take from.place (items_of from.chunk self.old))
             ++ piece.now) }
         ensures err { OnErr result (all_items self.new ≡ all_items self.old) }
     {
@@ -63,11 +65,11 @@ impl<S: Sequence> Index<S> {
     fn place_front(&mut self, from: Seat, piece: &[Item], new: Chunk)
         requires index { IsIndex self.old }
         requires chunk { IsItem from.chunk self.old.order }
-        requires place { from.place ≤ length (chunk_at self.old.chunks from.chunk) }
-        requires is { new ≡ take from.place (chunk_at self.old.chunks from.chunk) ++ piece.now }
+        requires place { from.place ≤ length (items_of from.chunk self.old) }
+        requires is { new ≡ take from.place (items_of from.chunk self.old) ++ piece.now }
         requires apart { AreApart piece.now }
         requires fresh { AreNew piece.now (chunks_before from.chunk self.old
-            ++ take from.place (chunk_at self.old.chunks from.chunk) ++ chunks_after from.chunk self.old) }
+            ++ take from.place (items_of from.chunk self.old) ++ chunks_after from.chunk self.old) }
         requires room { (x : ℕ) → IsItem x piece.now → x < length self.old.homes }
         requires light { weight_of (all_items self.old) + weight_of piece.now < 2 ^ 31 }
         ensures index { IsIndex self.new }
@@ -90,7 +92,7 @@ impl<S: Sequence> Index<S> {
         ensures order { self.new.order ≡ items_before chunk self.old.order
             ++ take 1 (items_from chunk self.old.order) ++ items_from_end end self.old.order }
         ensures kept { (c : ℕ) → IsItem c self.new.order
-            → chunk_at self.new.chunks c ≡ chunk_at self.old.chunks c }
+            → items_of c self.new ≡ items_of c self.old }
         ensures homes { self.new.homes ≡ self.old.homes }
     {
         while let Some(next) = self.after(chunk, end) {
