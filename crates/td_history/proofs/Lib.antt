@@ -1,3 +1,4 @@
+pub mod EntryRuns
 pub mod Standing
 pub mod Places
 pub mod Logs

@@ -1,8 +1,8 @@
 -- The room that entries have in what keeps them.
 use Rattle.std.specs.Prelude.{◌<◌, ◌≤◌, ◌+◌, ◌^◌, ℕ}
 
-pub record AreEntriesParts (len capacity aside_room room : ℕ) : Type 0 where
-  pub entries_room : len + room ≤ capacity
+pub record AreEntriesParts (entries_room aside_room room : ℕ) : Type 0 where
+  pub entries : room ≤ entries_room
   pub aside : room ≤ aside_room
 
 pub record AreAsideParts (wholes_len wholes_capacity texts_room offered_len offered_capacity room : ℕ) : Type 0 where

@@ -12,6 +12,7 @@ pub mod LogValue
 pub mod Logs
 pub mod AsideValue
 pub mod EntriesValue
+pub mod EntryRuns
 pub mod Entries
 pub mod EntriesParts
 pub mod HistoryParts

@@ -8,6 +8,7 @@ ghost use Rattle.td_history.specs.Entries.{entry_of};
 
 use crate::aside::Aside;
 use crate::entry::{CompactEntry, keep_entry};
+use crate::entry_runs::EntryRuns;
 use crate::log::Log;
 use std::alloc::Global;
 use std::marker::Model;
@@ -18,7 +19,7 @@ use td_op::{Entry, Input, Reply};
 /// for so many more entries.
 #[derive(Drop)]
 pub struct Entries {
-    entries: Vec<CompactEntry>,
+    entries: EntryRuns,
     aside: Aside,
     room: u32,
 }
@@ -32,14 +33,14 @@ impl Model for Entries {
     ghost use Rattle.td_history.specs.EntriesParts.{AreEntriesParts};
 
     ghost view = { λ e. record {
-      entries = e.entries.items;
+      entries = e.entries.entries;
       wholes = e.aside.wholes;
       texts = e.aside.texts;
       offered = e.aside.offered;
       room = e.room;
     } };
 
-    ghost invariant = { λ e. AreEntriesParts (vec_len e.entries) (vec_capacity e.entries) e.aside.room e.room };
+    ghost invariant = { λ e. AreEntriesParts e.entries.room e.aside.room e.room };
 }
 
 impl Entries {
@@ -48,7 +49,7 @@ impl Entries {
         ensures { result ≡ record { entries = []; wholes = []; texts = []; offered = []; room = 0 } }
     {
         Entries {
-            entries: Vec::new(alloc),
+            entries: EntryRuns::new(alloc),
             aside: Aside::new(alloc),
             room: 0,
         }
@@ -60,7 +61,7 @@ impl Entries {
         ensures room { OnOk result (self.new.room ≡ more) }
     {
         self.room = 0;
-        self.entries.reserve(more as usize)?;
+        self.entries.reserve(more)?;
         self.aside.reserve(more)?;
         self.room = more;
         Ok(())
@@ -76,7 +77,7 @@ impl Entries {
         ensures room { self.new.room ≡ self.old.room - 1 }
     {
         let entry = keep_entry(log, &mut self.aside, input, reply, number);
-        self.entries.push_reserved(entry);
+        self.entries.push(entry);
         self.room -= 1;
     }
 
@@ -99,6 +100,6 @@ impl Entries {
     fn kept_at(&self, k: u64) -> Option<CompactEntry>
         ensures { result ≡ slice_get self.now.entries k }
     {
-        self.entries.get(k as usize).copied()
+        self.entries.get(k)
     }
 }

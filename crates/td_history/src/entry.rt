@@ -7,6 +7,7 @@ ghost use Rattle.td_op.specs.Op.{OpValue};
 ghost use Rattle.td_history.specs.declared.entry.WholeEntry.{WholeEntry};
 ghost use Rattle.td_history.specs.Past.{IsDoneAs};
 ghost use Rattle.td_history.specs.AsideValue.{HasGrown};
+ghost use Rattle.td_history.specs.EntryRuns.{entry_on};
 ghost use Rattle.td_history.specs.Entries.{entry_among, whole_among};
 
 use crate::aside::Aside;
@@ -91,6 +92,39 @@ impl CompactEntry {
                 })
             }
             CompactEntry::Whole { place } => aside.entry(log, place),
+        }
+    }
+}
+
+impl CompactEntry {
+    /// The entry so far behind it in its run.
+    pub fn on(&self, k: u32) -> CompactEntry
+        ensures { result ≡ entry_on k self.now }
+    {
+        if k == 0 {
+            return *self;
+        }
+        match *self {
+            CompactEntry::Inserted { index, number } => CompactEntry::Inserted {
+                index: index.wrapping_add(k),
+                number: number.wrapping_add(k),
+            },
+            CompactEntry::Deleted { index, number } => CompactEntry::Deleted {
+                index,
+                number: number.wrapping_add(k),
+            },
+            CompactEntry::Taken { number } => CompactEntry::Taken {
+                number: number.wrapping_add(k),
+            },
+            CompactEntry::Kept { number } => CompactEntry::Kept {
+                number: number.wrapping_add(k),
+            },
+            CompactEntry::Resumed { number } => CompactEntry::Resumed {
+                number: number.wrapping_add(k),
+            },
+            CompactEntry::Whole { place } => CompactEntry::Whole {
+                place: place.wrapping_add(k),
+            },
         }
     }
 }

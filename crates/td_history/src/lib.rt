@@ -10,6 +10,7 @@
 mod aside;
 mod entries;
 mod entry;
+mod entry_runs;
 mod history;
 mod index;
 mod input;
