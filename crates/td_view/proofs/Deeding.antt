@@ -6,7 +6,7 @@ use Rattle.td_op.specs.Change.{changed}
 use Rattle.td_view.specs.declared.deed.Deed.{Deed}
 use Rattle.td_view.specs.declared.deed.Deed.TheVariants.{Alter, Stamp}
 use Rattle.td_view.specs.Publishes.{changed_all}
-use Rattle.td_view.specs.Deeds.{Past, State, done_by, deeds}
+use Rattle.td_view.specs.Deeds.{Publishes, State, done_by, deeds}
 
 next_suc : (cs : List Change) (at : ℕ) (d : Change) (tail : List Deed) → at < length cs
     → take at (map Alter cs ++ tail) ++ Alter (slice_index_or cs at d) ∷ [] ≡ take (suc at) (map Alter cs ++ tail)
@@ -14,7 +14,7 @@ next_suc [] at d tail h = absurd (omega (arith, h))
 next_suc (c ∷ cs) zero d tail h = refl
 next_suc (c ∷ cs) (suc at) d tail h = ap (λ (l : List Deed). Alter c ∷ l) (next_suc cs at d tail (omega (arith, h)))
 
-pub next_deed : (cs : List Change) (at : ℕ) (d : Change) (upto last count : ℕ) (past : Past) → at < length cs
+pub next_deed : (cs : List Change) (at : ℕ) (d : Change) (upto last count : ℕ) (past : Publishes) → at < length cs
     → take at (deeds cs upto last count past) ++ Alter (slice_index_or cs at d) ∷ []
     ≡ take (at + 1) (deeds cs upto last count past)
 next_deed cs at d upto last count past h =
@@ -28,7 +28,7 @@ altered s [] tail = refl
 altered s (c ∷ cs) tail = altered (s.0, s.1, s.2, changed c s.3, s.4) cs tail
 
 -- a state that comes of all deeds of a publish
-pub all_done : (t s : State) (pending : List Deed) (cs : List Change) (upto last count : ℕ) (past : Past) → t
+pub all_done : (t s : State) (pending : List Deed) (cs : List Change) (upto last count : ℕ) (past : Publishes) → t
     ≡ fold done_by s pending
     → pending ≡ deeds cs upto last count past → t ≡ (upto, last, count, changed_all cs s.3, past)
 all_done t s pending cs upto last count past comes is =

@@ -7,12 +7,12 @@ use Rattle.crossbeam_utils.specs.Register.{Admits, TurnsAt, Turns, Forks, Merges
 use Rattle.atomic_table.proofs.Lists.{at_set, at_snoc}
 use Rattle.td_view.specs.declared.shown.Shown.{Shown}
 use Rattle.td_view.specs.declared.table.Named.{Named}
-use Rattle.td_view.specs.Deeds.{Past}
+use Rattle.td_view.specs.Deeds.{Publishes}
 use Rattle.td_view.specs.Tied.{Stands, Tied, nobody, given_more}
 
 -- a seat knows no other history than that of x
 abbrev Same : Shown → Named → Type 0
-Same x v = (p : Past) → v.of ≡ Some p → p.book ≡ x.past.book
+Same x v = (p : Publishes) → v.of ≡ Some p → p.book ≡ x.past.book
 
 same_none : (x : Shown) → Same x nobody
 same_none x p e = absurd (none-some p e)
@@ -49,12 +49,12 @@ names seat v x y s same views h at = (
   (
     s,
     every_set y views seat (record { of = Some y.past; given = [] })
-        (λ p is. ap (λ (q : Past). q.book) (sym (some_same y.past p is))) (moved x y views same h.1),
+        (λ p is. ap (λ (q : Publishes). q.book) (sym (some_same y.past p is))) (moved x y views same h.1),
   ),
   refl,
 )
   where
-    some_same : (a b : Past) → Some a ≡ Some b → a ≡ b
+    some_same : (a b : Publishes) → Some a ≡ Some b → a ≡ b
     some_same a b e = cc
 
 pub shows : (seat : ℕ) (v : Named) (x y : Shown) → Stands y → y.past.book ≡ x.past.book
@@ -63,7 +63,7 @@ shows seat v x y s same views h at = let all = moved x y views same h.1 in
     (v, (s, every_set y views seat v (all seat v at) all), refl)
 
 pub looks : (seat : ℕ) (v : Named) → Turns Tied seat v (λ x. x)
-    (λ v x y w. (w ≡ given_more v y.past) × Stands y × ((p : Past) → v.of ≡ Some p → p.book ≡ y.past.book))
+    (λ v x y w. (w ≡ given_more v y.past) × Stands y × ((p : Publishes) → v.of ≡ Some p → p.book ≡ y.past.book))
 looks seat v x views h at = (
   given_more v x.past,
   (h.0, every_set x views seat (given_more v x.past) (h.1 seat v at) h.1),

@@ -3,27 +3,27 @@ use Rattle.std.proofs.Common.{◌≡◌, ℕ, ◌≤◌, List, [], ◌∷◌, �
 use Rattle.td_view.specs.declared.shown.Shown.{Shown}
 use Rattle.td_view.specs.declared.publish.Publish.{Publish}
 use Rattle.td_view.specs.Publishes.{publish, Follows, IsLegal, EndsWith}
-use Rattle.td_view.specs.Deeds.{Past, State, state_of, publish_of}
+use Rattle.td_view.specs.Deeds.{Publishes, State, state_of, publish_of}
 use Rattle.td_view.specs.Tied.{Stands}
 use Rattle.td_view.proofs.Legal.{legal_snoc}
 
 -- what stands at the end of the history that was entered
-pub stands_next : (x : Shown) (upto last count : ℕ) (atoms : List (List ℕ)) (past : Past) → state_of x
+pub stands_next : (x : Shown) (upto last count : ℕ) (atoms : List (List ℕ)) (past : Publishes) → state_of x
     ≡ (upto, last, count, atoms, past)
     → count ≡ length past.log → IsLegal past.log → EndsWith past.log (publish upto atoms last) → Stands x
 stands_next x upto last count atoms past e n l ends =
     let p : x.past ≡ past = ap (λ (s : State). s.4) e in
     let mine : publish_of x ≡ publish upto atoms last = λ i. publish (e i).0 (e i).3 (e i).1 in
     record {
-      counted = ap (λ (s : State). s.2) e ∙ n ∙ ap (λ (q : Past). length q.log) (sym p);
-      legal = subst (λ (q : Past). IsLegal q.log) (sym p) l;
-      ends = subst (λ (y : Past × Publish). EndsWith y.0.log y.1) (λ i. (sym p i, sym mine i)) ends;
+      counted = ap (λ (s : State). s.2) e ∙ n ∙ ap (λ (q : Publishes). length q.log) (sym p);
+      legal = subst (λ (q : Publishes). IsLegal q.log) (sym p) l;
+      ends = subst (λ (y : Publishes × Publish). EndsWith y.0.log y.1) (λ i. (sym p i, sym mine i)) ends;
     }
 
 -- what may follow the text may be added to its history
-pub may_add : (x : Shown) (past : Past) (q : Publish) → x.past ≡ past → Stands x → Follows (publish_of x) q
+pub may_add : (x : Shown) (past : Publishes) (q : Publish) → x.past ≡ past → Stands x → Follows (publish_of x) q
     → IsLegal (past.log ++ q ∷ [])
-may_add x past q same s f = subst (λ (p : Past). IsLegal (p.log ++ q ∷ [])) same
+may_add x past q same s f = subst (λ (p : Publishes). IsLegal (p.log ++ q ∷ [])) same
     (legal_snoc x.past.log (publish_of x) q s.legal s.ends f)
 
 -- after an ordinary publish another may come
@@ -35,6 +35,6 @@ follows_plain p q rested h =
       counts = λ more. absurd (omega (arith, rested, more));
     }
 
-pub may_follow : (x : Shown) (past : Past) (q : Publish) → x.past ≡ past → x.last ≡ 0 → Stands x → x.upto ≤ q.upto
+pub may_follow : (x : Shown) (past : Publishes) (q : Publish) → x.past ≡ past → x.last ≡ 0 → Stands x → x.upto ≤ q.upto
     → IsLegal (past.log ++ q ∷ [])
 may_follow x past q same rested s h = may_add x past q same s (follows_plain (publish_of x) q rested h)

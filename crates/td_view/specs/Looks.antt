@@ -2,7 +2,7 @@
 use Rattle.std.specs.Prelude.{◌≡◌, ◌<◌, ◌⊎◌, List, [], ◌∷◌, ◌++◌, length, map, Option, Some, None}
 use mathlib.Core.List.{IsPrefix}
 use Rattle.td_view.specs.declared.publish.Publish.{Publish}
-use Rattle.td_view.specs.Deeds.{Past}
+use Rattle.td_view.specs.Deeds.{Publishes}
 use Rattle.td_view.specs.Values.{ReaderValue}
 
 -- `left_right` gave the reader no text, or an older one than it knows: of a shorter beginning of what was published
@@ -13,10 +13,10 @@ IsMissed before after =
     × (length older < length before.known))
 
 -- what was published up to each of these
-abbrev pub logs : List Past → List (List Publish)
-logs pasts = map (λ (p : Past). p.log) pasts
+abbrev pub logs : List Publishes → List (List Publish)
+logs pasts = map (λ (p : Publishes). p.log) pasts
 
 -- the same of what somebody has, if there is somebody
-abbrev pub logs_of : {L : Type 0} → Option L → (L → List Past) → List (List Publish)
+abbrev pub logs_of : {L : Type 0} → Option L → (L → List Publishes) → List (List Publish)
 logs_of None pasts = []
 logs_of (Some l) pasts = logs (pasts l)

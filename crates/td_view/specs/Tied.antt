@@ -6,7 +6,7 @@ use lib.ListN.{get_elem?}
 use Rattle.td_view.specs.declared.shown.Shown.{Shown}
 use Rattle.td_view.specs.declared.table.Named.{Named}
 use Rattle.td_view.specs.Publishes.{IsLegal, EndsWith, legal_prop}
-use Rattle.td_view.specs.Deeds.{Past, publish_of}
+use Rattle.td_view.specs.Deeds.{Publishes, publish_of}
 
 -- the text stands at the end of the history that it carries, and its number is the length of that
 pub record Stands (x : Shown) : Type 0 where
@@ -21,20 +21,20 @@ stands_prop x = hlevel (props, legal_prop x.past.log)
 abbrev pub Tied : Shown → List Named → Type 0
 Tied x views =
     Stands x
-    × ((seat : ℕ) (v : Named) → get_elem? views seat ≡ some v → (p : Past) → v.of ≡ Some p → p.book ≡ x.past.book)
+    × ((seat : ℕ) (v : Named) → get_elem? views seat ≡ some v → (p : Publishes) → v.of ≡ Some p → p.book ≡ x.past.book)
 
 -- a seat that knows nothing yet
 abbrev pub nobody : Named
 nobody = record { of = None; given = [] }
 
 -- one text more was given to it
-abbrev pub given_more : Named → Past → Named
+abbrev pub given_more : Named → Publishes → Named
 given_more v past = record v { given = v.given ++ past ∷ [] }
 
 -- the seat knows the history of which this is a beginning
-abbrev pub Knows : Past → Named → Type 0
-Knows past v = (v.of ≢ None) × ((p : Past) → v.of ≡ Some p → p.book ≡ past.book)
+abbrev pub Knows : Publishes → Named → Type 0
+Knows past v = (v.of ≢ None) × ((p : Publishes) → v.of ≡ Some p → p.book ≡ past.book)
 
 -- it does, and no text was given to it
-abbrev pub IsFresh : Past → Named → Type 0
+abbrev pub IsFresh : Publishes → Named → Type 0
 IsFresh past v = Knows past v × (v.given ≡ [])

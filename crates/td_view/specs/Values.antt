@@ -6,7 +6,7 @@ use Rattle.td_view.specs.declared.publish.Publish.{Publish}
 use Rattle.td_op.specs.declared.change.Change.{Change}
 use Rattle.td_view.specs.declared.deed.Deed.{Deed}
 use Rattle.td_view.specs.Publishes.{publish, again, changed_all}
-use Rattle.td_view.specs.Deeds.{Past}
+use Rattle.td_view.specs.Deeds.{Publishes}
 
 pub record WriterValue : Type 0 where
   -- which views it writes
@@ -16,7 +16,7 @@ pub record WriterValue : Type 0 where
   -- the last of them, which is the text shown
   pub shown : Publish
   -- the history with the publish that is owed, if one is
-  pub owed : Option Past
+  pub owed : Option Publishes
   -- what is already done for it
   pub pending : List Deed
   -- how much of it that is

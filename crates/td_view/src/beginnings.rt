@@ -2,10 +2,10 @@ ghost use Rattle.std.specs.Prelude.{◌≡◌, ◌≤◌, length};
 ghost use mathlib.Core.List.{IsPrefix};
 ghost use Rattle.td_view.specs.Publishes.{IsLegal};
 
-use crate::history::Past;
+use crate::history::Publishes;
 
 /// Of two beginnings of one history the first begins the second, where it is no longer.
-pub fn compare(first: &Past, second: &Past)
+pub fn compare(first: &Publishes, second: &Publishes)
     requires book { second.now.book ≡ first.now.book }
     requires shorter { length first.now.log ≤ length second.now.log }
     ensures prefix { IsPrefix first.now.log second.now.log }
@@ -16,7 +16,7 @@ pub fn compare(first: &Past, second: &Past)
 }
 
 /// The longer of two beginnings of one history, with its length.
-pub fn longer(first: &Past, count: u64, second: &Past, other: u64) -> (Past, u64)
+pub fn longer(first: &Publishes, count: u64, second: &Publishes, other: u64) -> (Publishes, u64)
     requires book { second.now.book ≡ first.now.book }
     requires counts { (count ≡ length first.now.log) × (other ≡ length second.now.log) }
     ensures book { result.0.book ≡ first.now.book }

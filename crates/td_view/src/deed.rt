@@ -1,7 +1,7 @@
 ghost use Rattle.std.specs.Prelude.{◌≡◌, MatchOption, MatchResult, OnErr, OnOk};
 ghost use Rattle.td_op.specs.Change.{changed, CanChange};
 
-use crate::history::Past;
+use crate::history::Publishes;
 use crate::shown::Shown;
 use left_right::Absorb;
 use std::alloc::AllocError;
@@ -19,14 +19,14 @@ pub enum Deed {
         upto: u64,
         last: u64,
         count: u64,
-        past: Past,
+        past: Publishes,
     },
 }
 
 impl Absorb<Deed> for Shown {
     ghost use Rattle.td_view.specs.Deeds.{done_by, state_of};
 
-    type State = (u64, u64, u64, [Atom; 0], Past);
+    type State = (u64, u64, u64, [Atom; 0], Publishes);
 
     ghost state = { state_of };
 

@@ -1,13 +1,13 @@
 ghost use Rattle.std.specs.Prelude.{◌≡◌, ◌<◌, ◌^◌, ◌+◌, ◌++◌, ◌∷◌, [], length, drop, None, IfOk, IfSome};
 ghost use Rattle.td_view.specs.History.{head_of};
-ghost use Rattle.td_view.specs.Publishes.{publish, IsLegal};
-ghost use Rattle.td_view.specs.Deeds.{publish_of};
+ghost use Rattle.td_view.specs.Publishes.{IsLegal};
+ghost use Rattle.td_view.specs.Deeds.{publish_of, published};
 ghost use Rattle.td_view.specs.Tied.{Stands};
 ghost use Rattle.td_view.specs.Values.{tolds};
 
 use crate::ended::Ended;
-use crate::history::{Head, Past};
-use crate::publishing::{enter, give, show};
+use crate::history::{Head, Publishes};
+use crate::publishing::{Publishing, enter, give, show};
 use crate::table::Press;
 use crate::told::Told;
 use crate::writer::{MOST, Writer};
@@ -43,7 +43,13 @@ impl Writer {
                 press.take(rt);
                 return Err(Memory);
             }
-            let (after, next) = count_down(rt, press, &head, &past, number, upto, last);
+            let publishing = Publishing {
+                count: number + 1,
+                upto,
+                changes: &[],
+                last,
+            };
+            let (after, next) = count_down(rt, press, &head, &past, &publishing);
             press = after;
             let Some(next) = next else {
                 press.take(rt);
@@ -58,38 +64,35 @@ impl Writer {
     }
 }
 
-// One publish more of the same text.
+// One publish more.
 fn count_down<R: Wait>(
     rt: &R,
     press: Press,
     head: &Head,
-    past: &Past,
-    count: u64,
-    upto: u64,
-    last: u64,
-) -> (Press, Option<Past>)
+    past: &Publishes,
+    publishing: &Publishing<'_>,
+) -> (Press, Option<Publishes>)
     requires head { head.now ≡ head_of past.now.book }
-    requires counted { (count ≡ length past.now.log) × (count + 1 < 2 ^ 63) }
+    requires counted { (publishing.now.count ≡ length past.now.log + 1) × (publishing.now.count < 2 ^ 63) }
     requires shown { press.desk.shown.value.past ≡ past.now }
-    requires upto { press.desk.shown.value.upto ≡ upto }
     requires nothing { drop press.behind press.log.items ≡ [] }
-    requires legal { IsLegal (past.now.log ++ publish upto press.desk.shown.value.atoms last ∷ []) }
+    requires legal { IsLegal (past.now.log ++ published publishing.now press.desk.shown.value.atoms ∷ []) }
     ensures stands { IfSome result.1 (λ next. Stands result.0.desk.shown.value
         × (result.0.desk.shown.value.past ≡ next) × (drop result.0.behind result.0.log.items ≡ [])) }
     ensures same { IfSome result.1 (λ next.
-        publish_of result.0.desk.shown.value ≡ publish upto press.desk.shown.value.atoms last) }
+        publish_of result.0.desk.shown.value ≡ published publishing.now press.desk.shown.value.atoms) }
     ensures past { IfSome result.1 (λ next. (next.book ≡ past.now.book)
-        × (next.log ≡ past.now.log ++ publish upto press.desk.shown.value.atoms last ∷ [])) }
+        × (next.log ≡ past.now.log ++ published publishing.now press.desk.shown.value.atoms ∷ [])) }
 {
     let mut press = press;
-    let Some(next) = enter(head, past, count, press.published(), upto, &[], last) else {
+    let Some(next) = enter(head, past, press.published(), publishing) else {
         return (press, None);
     };
     let mut given = 0;
-    if !give(&mut press, &mut given, &[], upto, last, count + 1, &next) {
+    if !give(&mut press, &mut given, publishing, &next) {
         return (press, None);
     }
-    let (press, shown) = show(rt, press, &[], upto, last, count + 1, &next);
+    let (press, shown) = show(rt, press, publishing, &next);
     if shown.is_err() {
         return (press, None);
     }

@@ -29,7 +29,7 @@ impl Rule<Publish, u64> for History {
 }
 
 /// A token of a beginning of the history. It has no bytes.
-pub type Past = Seen<Publish, u64, History>;
+pub type Publishes = Seen<Publish, u64, History>;
 
 /// The word whose steps add to the history.
 pub type Head = Word<Publish, u64, History>;
@@ -76,7 +76,7 @@ impl<K: Entry> Plain<(), Publish, u64> for Adds<K> {
 }
 
 /// The history with one publish more. None only where it has another one already.
-pub fn extend<K: Entry>(head: &Head, past: &Past, count: u64) -> Option<Past>
+pub fn extend<K: Entry>(head: &Head, past: &Publishes, count: u64) -> Option<Publishes>
     requires head { head.now ≡ head_of past.now.book }
     requires count { (count ≡ length past.now.log) × (count < 2 ^ 63) }
     requires legal { IsLegal (past.now.log ++ K.entry ∷ []) }

@@ -8,7 +8,7 @@ ghost use Rattle.td_view.specs.Deeds.{publish_of};
 ghost use Rattle.td_view.specs.Tied.{Stands, IsFresh};
 ghost use Rattle.td_view.specs.Values.{new_reader, one_more};
 
-use crate::history::{Head, Past};
+use crate::history::{Head, Publishes};
 use crate::opener::Opener;
 use crate::reader::Reader;
 use crate::shown::Shown;
@@ -50,7 +50,7 @@ pub fn views<R: Wait>(
 }
 
 // A new history, with its word.
-fn history() -> (Past, Head)
+fn history() -> (Publishes, Head)
     ensures { (result.0.log ≡ start ∷ []) × (result.1 ≡ head_of result.0.book) }
 {
     let (past, mut pen, _second) = Seen::open(Start::alone(), 1, 0);
@@ -62,7 +62,7 @@ fn history() -> (Past, Head)
 fn first_press<R: Wait>(
     rt: &R,
     alloc: Global,
-    past: &Past,
+    past: &Publishes,
     readers: u32,
 ) -> Result<Press, AllocError>
     requires past { past.now.log ≡ start ∷ [] }
@@ -101,7 +101,7 @@ fn row(
     alloc: Global,
     opener: &mut Opener,
     press: Press,
-    past: &Past,
+    past: &Publishes,
     readers: u32,
 ) -> (Press, Result<Vec<Reader>, ViewsFault>)
     requires past { length past.now.log ≡ 1 }
@@ -129,7 +129,7 @@ fn row(
 }
 
 // A seat that knows the history.
-fn looker(press: &mut Press, past: &Past) -> Result<Looker, AllocError>
+fn looker(press: &mut Press, past: &Publishes) -> Result<Looker, AllocError>
     requires { IsFresh past.now (seat press.old.desk.place) }
     ensures kept { (press.new.desk.shown ≡ press.old.desk.shown)
         × (drop press.new.behind press.new.log.items ≡ drop press.old.behind press.old.log.items)

@@ -1,12 +1,12 @@
-ghost use Rattle.std.specs.Prelude.{◌≡◌, ◌+◌, ◌<◌, ◌≤◌, ◌^◌, ◌∷◌, ◌++◌, [], length, take, drop};
+ghost use Rattle.std.specs.Prelude.{◌≡◌, ◌+◌, ◌≤◌, ◌^◌, ◌∷◌, ◌++◌, [], length, take, drop};
 ghost use Rattle.std.specs.Prelude.{IfErr, IfOk, IfSome, IsTrue};
 ghost use Rattle.td_view.specs.History.{head_of};
-ghost use Rattle.td_view.specs.Publishes.{publish, changed_all, IsLegal, EndsWith};
-ghost use Rattle.td_view.specs.Deeds.{state_of, deeds};
+ghost use Rattle.td_view.specs.Publishes.{changed_all, IsLegal, EndsWith};
+ghost use Rattle.td_view.specs.Deeds.{state_of, published, deeds_of};
 ghost use Rattle.td_view.specs.Tied.{Stands};
 
 use crate::deed::Deed;
-use crate::history::{Entry, Head, Past, extend};
+use crate::history::{Entry, Head, Publishes, extend};
 use crate::shown::Shown;
 use crate::table::{Press, Shows};
 use std::alloc::AllocError;
@@ -14,71 +14,68 @@ use std::marker::Brand;
 use std::sync::Wait;
 use td_op::Change;
 
-/// Enters a publish in the history: the text shown with these changes. None only where the history has another publish
-/// already, which never comes.
+/// A publish that is being made of the text shown.
+#[derive(Clone, Copy)]
+pub struct Publishing<'a> {
+    /// Its number, from 1.
+    pub count: u64,
+    /// How many entries the history of the replica has.
+    pub upto: u64,
+    /// What changes in the text, one after the other.
+    pub changes: &'a [Change],
+    /// 0, or by which the writer ends, a number that goes down to 1.
+    pub last: u64,
+}
+
+/// Enters a publish in the history. None only where the history has another publish already, which never comes.
 pub fn enter(
     head: &Head,
-    past: &Past,
-    count: u64,
+    past: &Publishes,
     shown: &Shown,
-    upto: u64,
-    changes: &[Change],
-    last: u64,
-) -> Option<Past>
+    publishing: &Publishing<'_>,
+) -> Option<Publishes>
     requires head { head.now ≡ head_of past.now.book }
-    requires count { (count ≡ length past.now.log) × (count < 2 ^ 63) }
-    requires legal { IsLegal (past.now.log ++ publish upto (changed_all changes.now shown.now.atoms) last ∷ []) }
+    requires count { (publishing.now.count ≡ length past.now.log + 1) × (publishing.now.count ≤ 2 ^ 63) }
+    requires legal { IsLegal (past.now.log ++ published publishing.now shown.now.atoms ∷ []) }
     ensures book { IfSome result (λ next. next.book ≡ past.now.book) }
-    ensures log { IfSome result (λ next.
-        next.log ≡ past.now.log ++ publish upto (changed_all changes.now shown.now.atoms) last ∷ []) }
+    ensures log { IfSome result (λ next. next.log ≡ past.now.log ++ published publishing.now shown.now.atoms ∷ []) }
 {
-    enter_picked::<Brand>(head, past, count, shown, upto, changes, last)
+    enter_picked::<Brand>(head, past, shown, publishing)
 }
 
 // The same, for an entry that the call picks.
 fn enter_picked<K: Entry>(
     head: &Head,
-    past: &Past,
-    count: u64,
+    past: &Publishes,
     shown: &Shown,
-    upto: u64,
-    changes: &[Change],
-    last: u64,
-) -> Option<Past>
-    requires entry { K.entry ≡ publish upto (changed_all changes.now shown.now.atoms) last }
+    publishing: &Publishing<'_>,
+) -> Option<Publishes>
+    requires entry { K.entry ≡ published publishing.now shown.now.atoms }
     requires head { head.now ≡ head_of past.now.book }
-    requires count { (count ≡ length past.now.log) × (count < 2 ^ 63) }
-    requires legal { IsLegal (past.now.log ++ publish upto (changed_all changes.now shown.now.atoms) last ∷ []) }
+    requires count { (publishing.now.count ≡ length past.now.log + 1) × (publishing.now.count ≤ 2 ^ 63) }
+    requires legal { IsLegal (past.now.log ++ published publishing.now shown.now.atoms ∷ []) }
     ensures book { IfSome result (λ next. next.book ≡ past.now.book) }
-    ensures log { IfSome result (λ next.
-        next.log ≡ past.now.log ++ publish upto (changed_all changes.now shown.now.atoms) last ∷ []) }
+    ensures log { IfSome result (λ next. next.log ≡ past.now.log ++ published publishing.now shown.now.atoms ∷ []) }
 {
     let _ = shown;
-    let _ = changes;
-    let _ = (upto, last);
-    extend::<K>(head, past, count)
+    extend::<K>(head, past, publishing.count - 1)
 }
 
 /// Hands the press the deeds of a publish that it has not got yet. False where memory ran out.
 pub fn give(
     press: &mut Press,
     given: &mut usize,
-    changes: &[Change],
-    upto: u64,
-    last: u64,
-    count: u64,
-    past: &Past,
+    publishing: &Publishing<'_>,
+    past: &Publishes,
 ) -> bool
-    requires given { drop press.old.behind press.old.log.items
-        ≡ take given.old (deeds changes.now upto last count past.now) }
-    requires few { given.old ≤ length changes.now + 1 }
+    requires given { drop press.old.behind press.old.log.items ≡ take given.old (deeds_of publishing.now past.now) }
+    requires few { given.old ≤ length publishing.now.changes.now + 1 }
     ensures desk { press.new.desk ≡ press.old.desk }
-    ensures given { drop press.new.behind press.new.log.items
-        ≡ take given.new (deeds changes.now upto last count past.now) }
-    ensures few { given.new ≤ length changes.now + 1 }
-    ensures all { IsTrue result → drop press.new.behind press.new.log.items
-        ≡ deeds changes.now upto last count past.now }
+    ensures given { drop press.new.behind press.new.log.items ≡ take given.new (deeds_of publishing.now past.now) }
+    ensures few { given.new ≤ length publishing.now.changes.now + 1 }
+    ensures all { IsTrue result → drop press.new.behind press.new.log.items ≡ deeds_of publishing.now past.now }
 {
+    let changes = publishing.changes;
     let mut at = *given;
     while at < changes.len() {
         let Ok(()) = press.append(Deed::Alter(changes[at])) else {
@@ -89,9 +86,9 @@ pub fn give(
     }
     if at == changes.len() {
         let stamp = Deed::Stamp {
-            upto,
-            last,
-            count,
+            upto: publishing.upto,
+            last: publishing.last,
+            count: publishing.count,
             past: past.again(),
         };
         let Ok(()) = press.append(stamp) else {
@@ -108,27 +105,28 @@ pub fn give(
 pub fn show<R: Wait>(
     rt: &R,
     press: Press,
-    changes: &[Change],
-    upto: u64,
-    last: u64,
-    count: u64,
-    next: &Past,
+    publishing: &Publishing<'_>,
+    next: &Publishes,
 ) -> (Press, Result<(), AllocError>)
-    requires pending { drop press.behind press.log.items ≡ deeds changes.now upto last count next.now }
-    requires counted { count ≡ length next.now.log }
+    requires pending { drop press.behind press.log.items ≡ deeds_of publishing.now next.now }
+    requires counted { publishing.now.count ≡ length next.now.log }
     requires legal { IsLegal next.now.log }
-    requires ends { EndsWith next.now.log
-        (publish upto (changed_all changes.now press.desk.shown.value.atoms) last) }
+    requires ends { EndsWith next.now.log (published publishing.now press.desk.shown.value.atoms) }
     requires book { next.now.book ≡ press.desk.shown.value.past.book }
     ensures stands { IfOk result.1 (λ _. Stands result.0.desk.shown.value) }
     ensures shown { IfOk result.1 (λ _. state_of result.0.desk.shown.value
-        ≡ (upto, last, count, changed_all changes.now press.desk.shown.value.atoms, next.now)) }
+        ≡ (
+          publishing.now.upto,
+          publishing.now.last,
+          publishing.now.count,
+          changed_all publishing.now.changes.now press.desk.shown.value.atoms,
+          next.now,
+        )) }
     ensures nothing { IfOk result.1 (λ _. drop result.0.behind result.0.log.items ≡ []) }
     ensures same { IfErr result.1 (λ _. (result.0.desk.shown.value ≡ press.desk.shown.value)
         × (drop result.0.behind result.0.log.items ≡ drop press.behind press.log.items)) }
 {
-    let _ = changes;
-    let _ = (upto, last, count);
+    let _ = publishing;
     let _ = next;
     press.publish_as::<Shows, R>(rt)
 }

@@ -10,7 +10,7 @@ ghost use Rattle.td_view.specs.Values.{new_reader, one_more};
 ghost use Rattle.td_view.specs.Looks.{IsMissed};
 
 use crate::beginnings::{compare, longer};
-use crate::history::Past;
+use crate::history::Publishes;
 use crate::refusals::raised;
 use crate::shown::Shown;
 use crate::table::{Looker, Looks};
@@ -25,8 +25,8 @@ use std::marker::Model;
 pub struct Reader {
     // None only within a look
     looker: Option<Looker>,
-    seen: Past,
-    known: Past,
+    seen: Publishes,
+    known: Publishes,
     // the length of what is known
     count: u64,
     refusals: u64,
@@ -55,7 +55,7 @@ impl Model for Reader {
 }
 
 impl Reader {
-    pub(crate) fn new(looker: Looker, past: &Past, count: u64) -> Reader
+    pub(crate) fn new(looker: Looker, past: &Publishes, count: u64) -> Reader
         requires count { count ≡ length past.now.log }
         requires fresh { IsFresh past.now (seat looker.place) }
         ensures { result ≡ new_reader past.now.book past.now.log }

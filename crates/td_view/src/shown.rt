@@ -1,7 +1,7 @@
 ghost use Rattle.std.specs.Prelude.{◌≡◌, ◌++◌, length, slice_get, slice_range, OnErr, OnOk};
 ghost use Rattle.std.specs.List.{concat};
 
-use crate::history::Past;
+use crate::history::Publishes;
 use td_base::{Atom, Bytes, Memory};
 use td_rope::Rope;
 
@@ -14,12 +14,12 @@ pub struct Shown {
     pub(crate) count: u64,
     pub(crate) atoms: Rope,
     // the history up to it
-    pub(crate) past: Past,
+    pub(crate) past: Publishes,
 }
 
 impl Shown {
     // The text before anything is published.
-    pub(crate) fn start(atoms: Rope, past: Past) -> Shown
+    pub(crate) fn start(atoms: Rope, past: Publishes) -> Shown
         ensures numbers { (result.upto ≡ 0) × (result.last ≡ 0) × (result.count ≡ 1) }
         ensures rest { (result.atoms ≡ atoms) × (result.past ≡ past) }
     {

@@ -1,9 +1,9 @@
 ghost use Rattle.std.specs.Prelude.{◌≡◌, [], Some};
-ghost use Rattle.td_view.specs.Deeds.{Past};
+ghost use Rattle.td_view.specs.Deeds.{Publishes};
 ghost use Rattle.td_view.specs.Tied.{Stands, nobody, given_more};
 
 use crate::deed::Deed;
-use crate::history::Past;
+use crate::history::Publishes;
 use crate::shown::Shown;
 use atomic_table::{Join, Split};
 use crossbeam_utils::rule::{Outcome, Protocol};
@@ -14,8 +14,8 @@ use std::collections::LinkedList;
 /// What a seat at the table knows: of which history the texts are that are shown there, and each text that was given to
 /// it, by the history up to that. No value of it is made.
 pub struct Named {
-    pub of: Option<Past>,
-    pub given: LinkedList<Past>,
+    pub of: Option<Publishes>,
+    pub given: LinkedList<Publishes>,
 }
 
 /// The rule of the table that shows the texts.
@@ -54,7 +54,7 @@ pub struct Looks;
 
 impl Outcome<Shown, Named> for Looks {
     ghost then = { λ v x y w. (w ≡ given_more v y.past) × Stands y
-        × ((p : Past) → v.of ≡ Some p → p.book ≡ y.past.book) };
+        × ((p : Publishes) → v.of ≡ Some p → p.book ≡ y.past.book) };
 }
 
 /// What the press tells a new reader: of which history the texts are.

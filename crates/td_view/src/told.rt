@@ -1,13 +1,13 @@
 ghost use Rattle.std.specs.Prelude.{◌≡◌, length};
 
-use crate::history::Past;
+use crate::history::Publishes;
 use std::marker::Model;
 
 /// What a publish tells: all that was published up to and with it. It has no bytes but a number, and may go to another
 /// thread. Contracts see the list, and of which views it is.
 #[derive(Drop)]
 pub struct Told {
-    past: Past,
+    past: Publishes,
     count: u64,
 }
 
@@ -23,7 +23,7 @@ impl Model for Told {
 }
 
 impl Told {
-    pub(crate) fn new(past: Past, count: u64) -> Told
+    pub(crate) fn new(past: Publishes, count: u64) -> Told
         requires { count ≡ length past.log }
         ensures { result ≡ record { views = past.book; list = past.log } }
     {
@@ -41,7 +41,7 @@ impl Told {
     }
 
     // The token and its number.
-    pub(crate) fn parts(self) -> (Past, u64)
+    pub(crate) fn parts(self) -> (Publishes, u64)
         ensures past { (result.0.book ≡ self.views) × (result.0.log ≡ self.list) }
         ensures count { result.1 ≡ length self.list }
     {

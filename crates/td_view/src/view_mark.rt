@@ -1,13 +1,13 @@
 ghost use Rattle.std.specs.Prelude.{◌≡◌};
 
-use crate::history::Past;
+use crate::history::Publishes;
 use std::marker::Model;
 
 /// Says which views are meant: those that one call of `views` made together. It has no bytes. Contracts see the book of
 /// their history.
 #[derive(Drop)]
 pub struct ViewMark {
-    past: Past,
+    past: Publishes,
 }
 
 impl Model for ViewMark {
@@ -19,7 +19,7 @@ impl Model for ViewMark {
 }
 
 impl ViewMark {
-    pub(crate) fn new(past: Past) -> ViewMark
+    pub(crate) fn new(past: Publishes) -> ViewMark
         ensures { result ≡ past.book }
     {
         ViewMark { past }

@@ -1,12 +1,12 @@
-ghost use Rattle.std.specs.Prelude.{◌≡◌, ◌≤◌, drop, Some, None, IfOk, IfSome, IfNone, OnErr, OnOk};
-ghost use Rattle.td_view.specs.Publishes.{publish, changed_all, EndsWith, IsLegal};
+ghost use Rattle.std.specs.Prelude.{◌≡◌, ◌+◌, ◌≤◌, length, drop, Some, None, IfOk, IfSome, IfNone, OnErr, OnOk};
+ghost use Rattle.td_view.specs.Publishes.{EndsWith, IsLegal};
 ghost use Rattle.td_view.specs.Values.{told_of, after_publish};
-ghost use Rattle.td_view.specs.Deeds.{Past, publish_of};
+ghost use Rattle.td_view.specs.Deeds.{Publishes, publish_of, published};
 ghost use Rattle.td_view.specs.Owing.{Owes, StillOwes};
 ghost use Rattle.td_view.specs.Parts.{IsWriterParts};
 
-use crate::history::{Head, Past};
-use crate::publishing::{enter, give, show};
+use crate::history::{Head, Publishes};
+use crate::publishing::{Publishing, enter, give, show};
 use crate::table::Press;
 use crate::told::Told;
 use core::mem::replace_with;
@@ -22,10 +22,10 @@ pub struct Writer {
     pub(crate) press: Press,
     pub(crate) head: Head,
     // all that was published, and how many these are
-    pub(crate) past: Past,
+    pub(crate) past: Publishes,
     pub(crate) count: u64,
     // all that was published and then what is owed
-    pub(crate) owed: Option<Past>,
+    pub(crate) owed: Option<Publishes>,
     // so many deeds of it are with the press
     pub(crate) given: usize,
 }
@@ -58,9 +58,9 @@ impl Writer {
     pub(crate) fn new(
         press: Press,
         head: Head,
-        past: Past,
+        past: Publishes,
         count: u64,
-        owed: Option<Past>,
+        owed: Option<Publishes>,
         given: usize,
     ) -> Writer
         requires { IsWriterParts press.desk.shown.value (drop press.behind press.log.items) head past count owed }
@@ -131,20 +131,25 @@ impl Writer {
                 Err(Memory),
             );
         }
-        let Some((next, mut given)) = begin(&press, &head, &past, count, owed, given, upto, changes)
-        else {
+        let publishing = Publishing {
+            count: count + 1,
+            upto,
+            changes,
+            last: 0,
+        };
+        let Some((next, mut given)) = begin(&press, &head, &past, owed, given, &publishing) else {
             return (
                 Writer::new(press, head, past, count, None, given),
                 Err(Memory),
             );
         };
-        if !give(&mut press, &mut given, changes, upto, 0, count + 1, &next) {
+        if !give(&mut press, &mut given, &publishing, &next) {
             return (
                 Writer::new(press, head, past, count, Some(next), given),
                 Err(Memory),
             );
         }
-        let (press, shown) = show(rt, press, changes, upto, 0, count + 1, &next);
+        let (press, shown) = show(rt, press, &publishing, &next);
         if shown.is_err() {
             return (
                 Writer::new(press, head, past, count, Some(next), given),
@@ -182,30 +187,29 @@ impl Writer {
 fn begin(
     press: &Press,
     head: &Head,
-    past: &Past,
-    count: u64,
-    owed: Option<Past>,
+    past: &Publishes,
+    owed: Option<Publishes>,
     given: usize,
-    upto: u64,
-    changes: &[Change],
-) -> Option<(Past, usize)>
+    publishing: &Publishing<'_>,
+) -> Option<(Publishes, usize)>
     requires parts { IsWriterParts press.now.desk.shown.value (drop press.now.behind press.now.log.items)
-        head.now past.now count owed }
-    requires rises { press.now.desk.shown.value.upto ≤ upto }
-    requires owed { (o : Past) → owed ≡ Some o → Owes past.now.log o
-        (publish upto (changed_all changes.now press.now.desk.shown.value.atoms) 0)
-        (drop press.now.behind press.now.log.items) given changes.now }
+        head.now past.now (length past.now.log) owed }
+    requires count { publishing.now.count ≡ length past.now.log + 1 }
+    requires rises { press.now.desk.shown.value.upto ≤ publishing.now.upto }
+    requires owed { (o : Publishes) → owed ≡ Some o → Owes past.now.log o
+        (published publishing.now press.now.desk.shown.value.atoms)
+        (drop press.now.behind press.now.log.items) given publishing.now.changes.now }
     ensures none { IfNone result (owed ≡ None) }
     ensures book { IfSome result (λ r. r.0.book ≡ past.now.book) }
     ensures legal { IfSome result (λ r. IsLegal r.0.log) }
     ensures owes { IfSome result (λ r. Owes past.now.log r.0
-        (publish upto (changed_all changes.now press.now.desk.shown.value.atoms) 0)
-        (drop press.now.behind press.now.log.items) r.1 changes.now) }
+        (published publishing.now press.now.desk.shown.value.atoms)
+        (drop press.now.behind press.now.log.items) r.1 publishing.now.changes.now) }
 {
     match owed {
         Some(next) => Some((next, given)),
         None => {
-            let next = enter(head, past, count, press.published(), upto, changes, 0)?;
+            let next = enter(head, past, press.published(), publishing)?;
             Some((next, 0))
         }
     }

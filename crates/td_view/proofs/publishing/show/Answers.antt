@@ -10,30 +10,33 @@ use Rattle.td_view.proofs.publishing.show.Goals as goal
 pub publish_as-requires : goal.publish_as-requires
 publish_as-requires g c next is =
     let a = c.args in
+    let p = a.publishing.now in
     let r = c.requires in
     let x = a.press.desk.shown.value in
-    let atoms = changed_all a.changes.now x.atoms in
-    let done = all_done (state_of next) (state_of x) _ a.changes.now a.upto a.last a.count a.next.now is r.pending in
-    shows _ _ x next (stands_next next a.upto a.last a.count atoms a.next.now done r.counted r.legal r.ends)
+    let atoms = changed_all p.changes.now x.atoms in
+    let done = all_done (state_of next) (state_of x) _ p.changes.now p.upto p.last p.count a.next.now is r.pending in
+    shows _ _ x next (stands_next next p.upto p.last p.count atoms a.next.now done r.counted r.legal r.ends)
     (ap (λ (s : State). s.4.book) done ∙ r.book)
 
 pub returns-clause-shown : goal.returns-clause-shown
 returns-clause-shown g c =
     let a = c.args in
+    let p = a.publishing.now in
     let x = a.press.desk.shown.value in
     let y = c.publish_as.result.0.desk.shown.value in
     if_ok c.publish_as.result.1 _ _ _
-    (λ v. all_done (state_of y) (state_of x) _ a.changes.now a.upto a.last a.count a.next.now v.0 c.requires.pending)
+    (λ v. all_done (state_of y) (state_of x) _ p.changes.now p.upto p.last p.count a.next.now v.0 c.requires.pending)
     c.publish_as.ensures.values
 
 pub returns-clause-stands : goal.returns-clause-stands
 returns-clause-stands g c =
     let a = c.args in
+    let p = a.publishing.now in
     let r = c.requires in
     let x = a.press.desk.shown.value in
     let y = c.publish_as.result.0.desk.shown.value in
     if_ok c.publish_as.result.1 _ _ _
-    (λ v. stands_next y a.upto a.last a.count (changed_all a.changes.now x.atoms) a.next.now
-    (all_done (state_of y) (state_of x) _ a.changes.now a.upto a.last a.count a.next.now v.0 r.pending) r.counted
+    (λ v. stands_next y p.upto p.last p.count (changed_all p.changes.now x.atoms) a.next.now
+    (all_done (state_of y) (state_of x) _ p.changes.now p.upto p.last p.count a.next.now v.0 r.pending) r.counted
     r.legal r.ends)
     c.publish_as.ensures.values

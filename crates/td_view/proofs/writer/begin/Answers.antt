@@ -1,5 +1,6 @@
 use Rattle.std.proofs.Common.{sym, subst}
-use Rattle.td_view.specs.Publishes.{IsLegal, publish, changed_all}
+use Rattle.td_view.specs.Publishes.{IsLegal}
+use Rattle.td_view.specs.Deeds.{published}
 use Rattle.td_view.proofs.Standing.{may_follow}
 use Rattle.td_view.proofs.writer.begin.Goals as goal
 
@@ -19,8 +20,7 @@ returns-in-Some-clause-legal c =
     let x = c.args.press.now.desk.shown.value in
     let owes = r.owed c.in-Some.next c.in-Some.is in
     subst IsLegal (sym owes.0)
-    (may_follow x c.args.past.now (publish c.args.upto (changed_all c.args.changes.now x.atoms) 0) p.shown p.rested
-    p.stands r.rises)
+    (may_follow x c.args.past.now (published c.args.publishing.now x.atoms) p.shown p.rested p.stands r.rises)
 
 pub returns-in_ok-next-in-None-clause-legal : goal.returns-in_ok-next-in-None-clause-legal
 returns-in_ok-next-in-None-clause-legal c =
@@ -28,5 +28,4 @@ returns-in_ok-next-in-None-clause-legal c =
     let p = r.parts in
     subst IsLegal (sym c.in_ok-next-in-None.ensures.log)
     (may_follow c.args.press.now.desk.shown.value c.args.past.now
-    (publish c.args.upto (changed_all c.args.changes.now c.published.result.now.atoms) 0) p.shown p.rested
-    p.stands r.rises)
+    (published c.args.publishing.now c.published.result.now.atoms) p.shown p.rested p.stands r.rises)

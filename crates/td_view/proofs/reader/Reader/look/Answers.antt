@@ -1,6 +1,6 @@
 use Rattle.std.proofs.Common.{◌≡◌, sym, ◌∙◌, subst, refl}
 use Rattle.td_view.specs.declared.shown.Shown.{Shown}
-use Rattle.td_view.specs.Deeds.{Past, publish_of}
+use Rattle.td_view.specs.Deeds.{Publishes, publish_of}
 use Rattle.td_view.specs.Publishes.{EndsWith}
 use Rattle.td_view.specs.Tied.{Stands}
 use mathlib.Core.List.{IsPrefix}
@@ -9,10 +9,10 @@ use Rattle.td_view.proofs.Moves.{looks}
 use Rattle.td_view.proofs.reader.Reader.look.Goals as goal
 
 -- a copy of what the text carries ends with the text
-copied : (x y : Shown) (a b : Past) → y ≡ x → a ≡ y.past → b ≡ a → Stands x → EndsWith b.log (publish_of y)
+copied : (x y : Shown) (a b : Publishes) → y ≡ x → a ≡ y.past → b ≡ a → Stands x → EndsWith b.log (publish_of y)
 copied x y a b same first second stands =
     let y' : Stands y = subst Stands (sym same) stands in
-    subst (λ (q : Past). EndsWith q.log (publish_of y)) (sym (second ∙ first)) y'.ends
+    subst (λ (q : Publishes). EndsWith q.log (publish_of y)) (sym (second ∙ first)) y'.ends
 
 pub enter_as-requires : goal.enter_as-requires
 enter_as-requires g c = looks _ _
@@ -30,7 +30,7 @@ pub returns-clause-later : goal.returns-clause-later
 returns-clause-later g c =
     let inside = c.self.inside in
     let now = c.again.result.log in
-    let known : IsPrefix inside.known.log now = subst (λ (q : Past). IsPrefix inside.known.log q.log)
+    let known : IsPrefix inside.known.log now = subst (λ (q : Publishes). IsPrefix inside.known.log q.log)
     (sym c.again.ensures) c.compare-2.ensures.prefix in
     let seen = prefix_trans inside.seen.log inside.known.log now
     (prefix_of inside.known.log inside.seen.log c.self.invariant.0.within) known in

@@ -3,7 +3,7 @@ use Rattle.std.proofs.Common.{length-append, List, ◌++◌, ◌∷◌, [], appe
 use Rattle.logbook.specs.Pages.{Book}
 use Rattle.td_view.specs.declared.publish.Publish.{Publish}
 use Rattle.td_view.specs.Publishes.{publish, again, Follows}
-use Rattle.td_view.specs.Deeds.{Past, publish_of}
+use Rattle.td_view.specs.Deeds.{Publishes, publish_of}
 use Rattle.td_view.specs.History.{head_of}
 use Rattle.td_view.specs.Values.{ToldValue, tolds}
 use Rattle.td_view.proofs.Results.{of_some}
@@ -35,7 +35,7 @@ loop-last-preserved g c =
     let whole = tolds c.args.self.views c.args.self.publishes p c.args.count in
     let log : next.log ≡ old.log ++ again p m ∷ [] = past.1 ∙ (λ j. old.log ++ publish (i.4.1 j) (i.4.2 j) m ∷ []) in
     let told : c.new.result ≡ record { views = next.book; list = next.log } =
-    c.new.ensures ∙ ap (λ (q : Past). record { views = q.book; list = q.log }) c.again.ensures in
+    c.new.ensures ∙ ap (λ (q : Publishes). record { views = q.book; list = q.log }) c.again.ensures in
     let items : c.push_reserved.new.self.items ≡ c.loop-last.all.items
     ++ record { views = next.book; list = next.log } ∷ [] =
     c.push_reserved.ensures.items ∙ (λ j. c.reserve.ensures.items j ++ told j ∷ []) in

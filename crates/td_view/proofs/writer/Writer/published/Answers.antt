@@ -1,6 +1,7 @@
-use Rattle.std.proofs.Common.{refl, ap, sym, ◌∙◌, subst}
+use Rattle.std.proofs.Common.{ℕ, drop, refl, ap, sym, ◌∙◌, subst}
 use Rattle.td_view.specs.declared.shown.Shown.{Shown}
 use Rattle.td_view.specs.Values.{WriterValue}
+use Rattle.td_view.specs.Parts.{IsWriterParts}
 use Rattle.td_view.specs.Owing.{StillOwes}
 use Rattle.td_view.proofs.Results.{of_err}
 use Rattle.td_view.proofs.Owings.{what_is_owed, owes_entered}
@@ -12,6 +13,16 @@ begin-requires-clause-owed g c =
     let changes = c.args.changes.now in
     what_is_owed _ upto changes (subst (λ (w : WriterValue). StillOwes w upto changes) (sym c.self.view_is)
     c.requires.owed)
+
+-- the number of the next publish is told by the history itself
+pub begin-requires-clause-parts : goal.begin-requires-clause-parts
+begin-requires-clause-parts g c =
+    let inside = c.self.inside in
+    let parts = c.self.invariant in
+    subst
+    (λ (n : ℕ). IsWriterParts inside.press.desk.shown.value (drop inside.press.behind inside.press.log.items)
+    inside.head inside.past n inside.owed)
+    parts.counted parts
 
 pub returns-then-not-give-clause-owes : goal.returns-then-not-give-clause-owes
 returns-then-not-give-clause-owes g c =
