@@ -129,7 +129,7 @@ impl Chunk {
     {
         if piece.len() < to - from {
             self.put(to, piece, aside)?;
-            self.cut(from, to);
+            self.take_out(from, to);
         } else {
             let (over, more) = piece.split_at(to - from);
             self.put(to, more, aside)?;
@@ -155,7 +155,7 @@ impl Chunk {
     }
 
     /// Takes out the items from a place up to another.
-    pub fn cut(&mut self, from: usize, to: usize)
+    pub fn take_out(&mut self, from: usize, to: usize)
         requires from { from ≤ to }
         requires to { to ≤ length self.old }
         ensures { self.new ≡ take from self.old ++ drop to self.old }
@@ -191,10 +191,10 @@ impl Chunk {
     {
         if place < cut {
             let end = self.items.len();
-            self.cut(cut, end);
+            self.take_out(cut, end);
             mem::replace(self, copy)
         } else {
-            self.cut(0, cut);
+            self.take_out(0, cut);
             copy
         }
     }

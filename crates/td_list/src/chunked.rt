@@ -69,7 +69,7 @@ impl<S: Sequence> Sequence for Chunked<S> {
         if self.index.items_of(seat.chunk).len() == 1 {
             self.index.drop_chunk(seat.chunk);
         } else {
-            self.index.cut(seat.chunk, seat.place, seat.place + 1);
+            self.index.take_out(seat.chunk, seat.place, seat.place + 1);
         }
     }
 

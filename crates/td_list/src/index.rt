@@ -186,7 +186,7 @@ impl<S: Sequence> Index<S> {
     }
 
     /// Takes out the items of a chunk from a place up to another, but not all of them.
-    pub fn cut(&mut self, chunk: u32, from: usize, to: usize)
+    pub fn take_out(&mut self, chunk: u32, from: usize, to: usize)
         requires index { IsIndex self.old }
         requires chunk { IsItem chunk self.old.order }
         requires from { from ≤ to }
@@ -202,7 +202,7 @@ impl<S: Sequence> Index<S> {
             (take from (items_of chunk self.old) ++ drop to (items_of chunk self.old))) self.old.order }
         ensures homes { self.new.homes ≡ self.old.homes }
     {
-        self.chunks[chunk as usize].cut(from, to);
+        self.chunks[chunk as usize].take_out(from, to);
         self.order.renew(self.chunks[chunk as usize].summary(chunk));
     }
 

@@ -34,7 +34,7 @@ impl<S: Sequence> Index<S> {
         let new = self.front_with(from.chunk, from.place, piece)?;
         self.grow(piece)?;
         self.drop_between(from.chunk, Some(to.chunk));
-        self.cut(to.chunk, 0, to.place);
+        self.take_out(to.chunk, 0, to.place);
         self.place_front(from, piece, new);
         Ok(())
     }

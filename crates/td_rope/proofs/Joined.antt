@@ -108,10 +108,10 @@ put_part f ps i d q run r k seat this put =
     ∙ ap (λ all. insert_slice all k run) (sym (at_part f ps i d seat.part_within))
 
 -- with one taken out of it
-pub cut_part : {S X : Type 0} (f : S → List X) (ps : List S) (i : ℕ) (d q : S) (r k : ℕ) → IsSeat f ps k i r
+pub taken_from_part : {S X : Type 0} (f : S → List X) (ps : List S) (i : ℕ) (d q : S) (r k : ℕ) → IsSeat f ps k i r
     → k < length (flat_map f ps)
     → d ≡ get_or ps i d → f q ≡ remove (f d) r → flat_map f (set ps i q) ≡ remove (flat_map f ps) k
-cut_part f ps i d q r k seat lt this cut =
+taken_from_part f ps i d q r k seat lt this cut =
     let a : List _ = flat_map f (take i ps) in
     let b : List _ = flat_map f (drop (suc i) ps) in
     with_part f ps i q seat.part_within ∙ ap (λ m. a ++ (m ++ b)) (cut ∙ ap (λ p. remove (f p) r) this)
@@ -193,13 +193,13 @@ put_row f ps all i d q run r k count seat is counted le this put =
     (done, omega (arith, counted, ap length done, length_put all run k le))
 
 -- after one was taken out of a part
-pub cut_row : {S X : Type 0} (f : S → List X) (ps : List S) (all : List X) (i : ℕ) (d q : S) (r k count : ℕ)
+pub taken_from_row : {S X : Type 0} (f : S → List X) (ps : List S) (all : List X) (i : ℕ) (d q : S) (r k count : ℕ)
     → IsSeat f ps k i r → flat_map f ps ≡ all → count ≡ length all → k < length all → d ≡ get_or ps i d → f q
     ≡ remove (f d) r
     → (flat_map f (set ps i q) ≡ remove all k) × (count - 1 ≡ length (flat_map f (set ps i q)))
-cut_row f ps all i d q r k count seat is counted lt this cut =
+taken_from_row f ps all i d q r k count seat is counted lt this cut =
     let done : flat_map f (set ps i q) ≡ remove all k =
-    cut_part f ps i d q r k seat (omega (arith, lt, ap length is)) this cut ∙ ap (λ xs. remove xs k) is in
+    taken_from_part f ps i d q r k seat (omega (arith, lt, ap length is)) this cut ∙ ap (λ xs. remove xs k) is in
     (done, omega (arith, counted, ap length done, length_removed all k lt))
 
 -- ---- stretches

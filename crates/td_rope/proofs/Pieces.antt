@@ -86,12 +86,12 @@ put_parts lens bytes lens' bytes' run i a parts each few le a_is lens_are bytes_
     (lens_are ∙ sym lengths) (bytes_are ∙ sym all_bytes)
 
 -- after the i-th atom was taken out
-pub cut_parts : (lens bytes lens' bytes' : List ℕ) (i a b : ℕ) → IsChunkParts lens bytes
+pub parts_without : (lens bytes lens' bytes' : List ℕ) (i a b : ℕ) → IsChunkParts lens bytes
     → i < length (pieces lens bytes)
     → a ≡ length (concat (take i (pieces lens bytes))) → b ≡ length (concat (take (i + 1) (pieces lens bytes)))
     → lens' ≡ remove lens i → bytes' ≡ take a bytes ++ drop b bytes
     → IsChunkParts lens' bytes' × (pieces lens' bytes' ≡ remove (pieces lens bytes) i)
-cut_parts lens bytes lens' bytes' i a b parts lt a_is b_is lens_are bytes_are =
+parts_without lens bytes lens' bytes' i a b parts lt a_is b_is lens_are bytes_are =
     let atoms : List (List ℕ) = pieces lens bytes in
     let front : List (List ℕ) = take i atoms in
     let back : List (List ℕ) = drop (suc i) atoms in

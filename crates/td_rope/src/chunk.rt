@@ -98,7 +98,7 @@ impl Part for Chunk {
         Ok(())
     }
 
-    fn cut(&mut self, index: u32) {
+    fn take_out(&mut self, index: u32) {
         let place = index as usize;
         let start = self.start(place);
         let end = self.start(place + 1);

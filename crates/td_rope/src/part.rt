@@ -34,7 +34,7 @@ pub trait Part: Sized + Drop {
         ensures err { OnErr result (atoms self.new ≡ atoms self.old) };
 
     /// Takes the atom at an index out. It takes no memory.
-    fn cut(&mut self, index: u32)
+    fn take_out(&mut self, index: u32)
         requires { index < length (atoms self.old) }
         ensures { atoms self.new ≡ remove (atoms self.old) index };
 

@@ -82,11 +82,11 @@ impl Rope {
     }
 
     /// Takes the atom at the index out.
-    pub fn cut(&mut self, index: u32)
+    pub fn take_out(&mut self, index: u32)
         requires { index < length self.old }
         ensures { self.new ≡ remove self.old index }
     {
-        self.rows.cut(index);
+        self.rows.take_out(index);
     }
 
     /// Adds the text, the bytes of all atoms, at the end of these bytes, in one pass.

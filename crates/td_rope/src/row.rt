@@ -60,9 +60,9 @@ impl<P: Part> Part for Row<P> {
         Ok(())
     }
 
-    fn cut(&mut self, index: u32) {
+    fn take_out(&mut self, index: u32) {
         let seat = find(&self.parts, index);
-        self.parts[seat.part].cut(seat.index);
+        self.parts[seat.part].take_out(seat.index);
         self.count -= 1;
         if self.parts[seat.part].len() == 0 {
             self.parts.remove(seat.part);

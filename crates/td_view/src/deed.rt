@@ -74,7 +74,7 @@ fn do_change(atoms: &mut Rope, change: &Change) -> Result<(), Memory>
         Change::Put { index, atom } => atoms.put(index, atom),
         Change::PutRun { index, run } => atoms.put_run(index, &run),
         Change::Cut { index } => {
-            atoms.cut(index);
+            atoms.take_out(index);
             Ok(())
         }
     }

@@ -82,7 +82,7 @@ fn thin(rt: &impl Abort, rope: &mut Rope, plain: &mut Vec<u8>, count: u32)
         assert!(rt; rope.len() > 0);
         let index = number * 7919 % rope.len();
         assert!(rt; (index as usize) < plain.len());
-        rope.cut(index);
+        rope.take_out(index);
         plain.remove(index as usize);
     }
 }

@@ -21,5 +21,5 @@ pub returns-else-items_of-eq1 : goal.returns-else-items_of-eq1
 returns-else-items_of-eq1 g c =
     let p : Parts = c.self.inside.index in
     let s = c.seat-seat.ensures in
-    c.cut.ensures.all ∙ remove_here p c.self.invariant c.seat-seat.result.chunk s.chunk c.args.name s.there
+    c.take_out.ensures.all ∙ remove_here p c.self.invariant c.seat-seat.result.chunk s.chunk c.args.name s.there
     c.seat-seat.result.place s.place ∙ ap (without c.args.name) c.self.view_is

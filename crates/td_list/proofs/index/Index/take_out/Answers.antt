@@ -3,20 +3,20 @@ use Rattle.td_list.specs.Items.{Item, renew, weight_of}
 use Rattle.td_list.specs.Index.{Parts, chunk_at, joined, summary, IsIndex}
 use Rattle.td_list.proofs.Joined.{within, changed_all, changed_weight}
 use Rattle.td_list.proofs.Changes.{cut_index, cut_light, read_was, read_new}
-use Rattle.td_list.proofs.index.Index.cut.Given as given
-use Rattle.td_list.proofs.index.Index.cut.Goals as goal
-use Rattle.td_list.proofs.index.Index.cut.Goals.{After-summary}
+use Rattle.td_list.proofs.index.Index.take_out.Given as given
+use Rattle.td_list.proofs.index.Index.take_out.Goals as goal
+use Rattle.td_list.proofs.index.Index.take_out.Goals.{After-summary}
 
 -- what is left of the chunk
 abbrev left : Parts → ℕ → ℕ → ℕ → List Item
 left p chunk from to = take from (chunk_at p.chunks chunk) ++ drop to (chunk_at p.chunks chunk)
 
 new_is : (g : given.Over) (c : After-summary g)
-    → c.cut.new.self ≡ left c.args.self.now c.args.chunk c.args.from c.args.to
+    → c.take_out.new.self ≡ left c.args.self.now c.args.chunk c.args.from c.args.to
 new_is g c =
     let p : Parts = c.args.self.now in
     let same : c.self.inside.chunks.items ≡ p.chunks = ap (λ (q : Parts). q.chunks) c.self.view_is in
-    c.cut.ensures
+    c.take_out.ensures
     ∙ ap (λ (q : List Item). take c.args.from q ++ drop c.args.to q)
     (read_was c.self.inside.chunks.items p.chunks c.args.chunk c.index_mut.result.now same c.index_mut.ensures.value
     (within p c.requires.index c.args.chunk c.requires.chunk))
@@ -29,7 +29,7 @@ told g c =
     let same : c.self.inside.chunks.items ≡ p.chunks = ap (λ (q : Parts). q.chunks) c.self.view_is in
     c.summary.ensures
     ∙ ap (summary c.args.chunk)
-    (read_new c.self.inside.chunks.items p.chunks c.args.chunk c.cut.new.self c.index.result.now same c.index.ensures
+    (read_new c.self.inside.chunks.items p.chunks c.args.chunk c.take_out.new.self c.index.result.now same c.index.ensures
     (within p c.requires.index c.args.chunk c.requires.chunk)
     ∙ new_is g c)
 

@@ -1,7 +1,7 @@
 use Rattle.std.proofs.Common.{◌-◌, ◌∙◌, List, take, drop, ap, arith}
 use Rattle.td_list.specs.Items.{Item, weight_of, has_mark}
 use Rattle.td_list.proofs.Weights.{weight-cut}
-use Rattle.td_list.proofs.chunk.Chunk.cut.Goals as goal
+use Rattle.td_list.proofs.chunk.Chunk.take_out.Goals as goal
 
 pub weight_of-requires : goal.weight_of-requires
 weight_of-requires c =

@@ -1,7 +1,7 @@
 use Rattle.std.proofs.Common.{◌+◌, ◌∙◌, List, ℕ, sym, ap, take, length, arith}
 use Rattle.std.specs.List.{concat, remove}
-use Rattle.td_rope.proofs.Pieces.{count_pieces, starts, ends_within, cut_parts}
-use Rattle.td_rope.proofs.chunk.ChunkPart.cut.Goals as goal
+use Rattle.td_rope.proofs.Pieces.{count_pieces, starts, ends_within, parts_without}
+use Rattle.td_rope.proofs.chunk.ChunkPart.take_out.Goals as goal
 
 pub take_out-requires-clause-from : goal.take_out-requires-clause-from
 take_out-requires-clause-from c =
@@ -33,7 +33,7 @@ remove-requires c =
 pub invariant_of-self : goal.invariant_of-self
 invariant_of-self c =
     let view = sym c.self.view_is in
-    (cut_parts c.self.inside.lengths.items c.self.inside.bytes.items c.remove.new.self.items c.take_out.new.bytes.items
+    (parts_without c.self.inside.lengths.items c.self.inside.bytes.items c.remove.new.self.items c.take_out.new.bytes.items
     c.args.index c.start-start.result c.start-end.result c.self.invariant
     (omega (arith, c.requires, ap length c.self.view_is))
     (c.start-start.ensures ∙ ap (λ (atoms : List (List ℕ)). length (concat (take c.args.index atoms))) view)
@@ -43,7 +43,7 @@ invariant_of-self c =
 pub returns : goal.returns
 returns c =
     let view = sym c.self.view_is in
-    (cut_parts c.self.inside.lengths.items c.self.inside.bytes.items c.remove.new.self.items c.take_out.new.bytes.items
+    (parts_without c.self.inside.lengths.items c.self.inside.bytes.items c.remove.new.self.items c.take_out.new.bytes.items
     c.args.index c.start-start.result c.start-end.result c.self.invariant
     (omega (arith, c.requires, ap length c.self.view_is))
     (c.start-start.ensures ∙ ap (λ (atoms : List (List ℕ)). length (concat (take c.args.index atoms))) view)
