@@ -9,4 +9,4 @@ pub mod Messages
 pub mod Decoding
 pub mod Loops
 pub mod Sizes
-pub mod Buffers
+pub mod Extended

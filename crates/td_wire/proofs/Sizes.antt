@@ -82,10 +82,10 @@ numbers_more v i lt =
     ∙ ap (λ (ys : List ℕ). flat_map number_bytes (take i v) ++ ys)
     (flat_map-cons number_bytes (get_or v i 0) [] ∙ append-nil (number_bytes (get_or v i 0)))
 
-pub deps_room : (old v buffer : List ℕ) (i : ℕ) → length old + MAX_DEPS_LEN ≤ MAX_PACKET_LEN → length v ≤ MAX_SITE
+pub deps_room : (old v bytes : List ℕ) (i : ℕ) → length old + MAX_DEPS_LEN ≤ MAX_PACKET_LEN → length v ≤ MAX_SITE
     → i < length v
-    → buffer ≡ old ++ length v ∷ flat_map number_bytes (take i v) → length buffer + 4 ≤ MAX_PACKET_LEN
-deps_room old v buffer i short size lt is =
+    → bytes ≡ old ++ length v ∷ flat_map number_bytes (take i v) → length bytes + 4 ≤ MAX_PACKET_LEN
+deps_room old v bytes i short size lt is =
     omega (
       arith,
       short,
@@ -97,12 +97,12 @@ deps_room old v buffer i short size lt is =
       length-take-le i v (omega (arith, lt)),
     )
 
-pub deps_short : (old dot v buffer after_kind after_dot : List ℕ) (k : ℕ) → length old + MAX_OP_LEN ≤ MAX_PACKET_LEN
+pub deps_short : (old dot v bytes after_kind after_dot : List ℕ) (k : ℕ) → length old + MAX_OP_LEN ≤ MAX_PACKET_LEN
     → length v ≤ MAX_SITE
     → length dot ≡ DOT_LEN → after_kind ≡ old ++ k ∷ [] → after_dot ≡ after_kind ++ dot
-    → buffer ≡ after_dot ++ deps_bytes v
-    → length buffer + MAX_BODY_LEN ≤ MAX_PACKET_LEN
-deps_short old dot v buffer after_kind after_dot k short size five first second third =
+    → bytes ≡ after_dot ++ deps_bytes v
+    → length bytes + MAX_BODY_LEN ≤ MAX_PACKET_LEN
+deps_short old dot v bytes after_kind after_dot k short size five first second third =
     omega (
       arith,
       short,
@@ -118,23 +118,23 @@ deps_short old dot v buffer after_kind after_dot k short size five first second 
     )
 
 -- what is written behind the mark
-op_is : (o : OpValue) (buffer : List ℕ) → buffer ≡ spelling Two (Op o) → IsMessage (Op o) → Spells Two (Op o) buffer
-op_is o buffer is can = record { can = can; bytes_are = is }
+op_is : (o : OpValue) (bytes : List ℕ) → bytes ≡ spelling Two (Op o) → IsMessage (Op o) → Spells Two (Op o) bytes
+op_is o bytes is can = record { can = can; bytes_are = is }
 
-pub op_spelled : (m : Message) (o : OpValue) (empty start buffer : List ℕ) → m ≡ Op o → empty ≡ []
-    → start ≡ empty ++ 84 ∷ 50 ∷ [] → buffer ≡ start ++ kind o.body ∷ op_bytes Two o → IsMessage (Op o)
-    → Spells Two m buffer
-op_spelled m o empty start buffer e none first behind can =
-    let is : buffer ≡ spelling Two (Op o) = behind
+pub op_spelled : (m : Message) (o : OpValue) (empty start bytes : List ℕ) → m ≡ Op o → empty ≡ []
+    → start ≡ empty ++ 84 ∷ 50 ∷ [] → bytes ≡ start ++ kind o.body ∷ op_bytes Two o → IsMessage (Op o)
+    → Spells Two m bytes
+op_spelled m o empty start bytes e none first behind can =
+    let is : bytes ≡ spelling Two (Op o) = behind
     ∙ ap (λ (ys : List ℕ). ys ++ kind o.body ∷ op_bytes Two o)
     (first ∙ ap (λ (ys : List ℕ). ys ++ 84 ∷ 50 ∷ []) none) in
-    subst (λ (n : Message). Spells Two n buffer) (sym e) (op_is o buffer is can)
+    subst (λ (n : Message). Spells Two n bytes) (sym e) (op_is o bytes is can)
 
-pub vote_spelled : (m : Message) (v : VoteValue) (empty start buffer : List ℕ) → m ≡ Vote v → empty ≡ []
-    → start ≡ empty ++ 84 ∷ 50 ∷ [] → buffer ≡ start ++ 6 ∷ vote_bytes v → IsMessage (Vote v)
-    → Spells Two m buffer
-vote_spelled m v empty start buffer e none first behind can =
-    let is : buffer ≡ spelling Two (Vote v) = behind
+pub vote_spelled : (m : Message) (v : VoteValue) (empty start bytes : List ℕ) → m ≡ Vote v → empty ≡ []
+    → start ≡ empty ++ 84 ∷ 50 ∷ [] → bytes ≡ start ++ 6 ∷ vote_bytes v → IsMessage (Vote v)
+    → Spells Two m bytes
+vote_spelled m v empty start bytes e none first behind can =
+    let is : bytes ≡ spelling Two (Vote v) = behind
     ∙ ap (λ (ys : List ℕ). ys ++ 6 ∷ vote_bytes v) (first ∙ ap (λ (ys : List ℕ). ys ++ 84 ∷ 50 ∷ []) none) in
-    let made : Spells Two (Vote v) buffer = record { can = can; bytes_are = is } in
-    subst (λ (n : Message). Spells Two n buffer) (sym e) made
+    let made : Spells Two (Vote v) bytes = record { can = can; bytes_are = is } in
+    subst (λ (n : Message). Spells Two n bytes) (sym e) made

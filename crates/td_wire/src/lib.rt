@@ -7,12 +7,12 @@
 //! format can say, and at `reading` for `decode`. That no bytes spell two messages is in `laws`.
 #![tactic(auto)]
 
-mod buffer;
 mod format;
 mod laws;
 mod length;
 mod operation;
 mod packet;
+mod packet_bytes;
 mod reader;
 mod reading;
 mod run;

@@ -1,12 +1,12 @@
 ghost use Rattle.std.specs.Prelude.{◌≡◌};
 
-use crate::buffer::Buffer;
+use crate::packet_bytes::PacketBytes;
 use std::marker::Model;
 
 /// A message as it goes over a wire: the bytes of its spelling in format 2. Contracts see the list of them.
 #[derive(Clone, Copy, Debug, PartialEq, Eq)]
 pub struct Packet {
-    pub(crate) buffer: Buffer,
+    pub(crate) bytes: PacketBytes,
 }
 
 impl Model for Packet {
@@ -16,11 +16,11 @@ impl Model for Packet {
 
     ghost use Rattle.td_wire.specs.Spelling.{IsPacket};
 
-    ghost view = { λ p. p.buffer };
+    ghost view = { λ p. p.bytes };
 
-    ghost invariant = { λ p. IsPacket p.buffer };
+    ghost invariant = { λ p. IsPacket p.bytes };
 
-    ghost inverse = { λ bytes. record { buffer = bytes } };
+    ghost inverse = { λ bytes. record { bytes = bytes } };
 }
 
 impl Packet {
@@ -31,6 +31,6 @@ impl Packet {
         ensures bytes { result.now ≡ self.now }
         ensures spelling { IsPacket self.now }
     {
-        self.buffer.as_slice()
+        self.bytes.as_slice()
     }
 }

@@ -3,5 +3,5 @@ use Rattle.td_wire.proofs.writing.put_deps.Goals as goal
 
 pub extend-requires : goal.extend-requires
 extend-requires c =
-    rw c.to_be_bytes.ensures (deps_room c.args.buffer.now c.args.deps.now c.loop-i.buffer c.loop-i.i c.requires
+    rw c.to_be_bytes.ensures (deps_room c.args.bytes.now c.args.deps.now c.loop-i.bytes c.loop-i.i c.requires
     c.size-n.ensures.vector.short (rw (← c.size-n.ensures.size) c.loop-i-test.true) c.loop-i.invariant)

@@ -1,4 +1,4 @@
--- How a `Buffer` keeps its bytes.
+-- How `PacketBytes` are kept, with a piece more.
 use Rattle.std.proofs.Common.{◌≡◌, ◌≤◌, ◌+◌, ◌-◌, ◌++◌, ℕ, List, length, take, drop, replicate, sym, ap, ◌∙◌}
 use Rattle.std.proofs.Common.{append_assoc, arith, length-append}
 use Rattle.std.proofs.lemmas.List.{drop-replicate, drop_at}

@@ -3,15 +3,15 @@ ghost use Rattle.std.specs.Prelude.{◌≡◌, ◌≤◌, ◌<◌, ◌+◌, ◌+
 use crate::length::MAX_PACKET_LEN;
 use std::marker::Model;
 
-/// Up to `MAX_PACKET_LEN` bytes. Contracts see the list of them.
+/// The bytes of a packet: up to `MAX_PACKET_LEN`. Contracts see the list of them.
 #[derive(Clone, Copy, Debug, PartialEq, Eq)]
-pub(crate) struct Buffer {
+pub(crate) struct PacketBytes {
     len: usize,
     // past `len` the bytes are 0
     bytes: [u8; MAX_PACKET_LEN],
 }
 
-impl Model for Buffer {
+impl Model for PacketBytes {
     ghost use Rattle.std.specs.Prelude.{ℕ, List, length, take};
 
     ghost Value = { List ℕ };
@@ -32,11 +32,11 @@ impl Model for Buffer {
     } };
 }
 
-impl Buffer {
-    pub(crate) fn new() -> Buffer
+impl PacketBytes {
+    pub(crate) fn new() -> PacketBytes
         ensures { result ≡ [] }
     {
-        Buffer {
+        PacketBytes {
             len: 0,
             bytes: [0; MAX_PACKET_LEN],
         }

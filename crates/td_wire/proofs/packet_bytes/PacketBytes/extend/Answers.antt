@@ -1,8 +1,8 @@
 use Rattle.std.proofs.Common.{◌+◌, ap, ◌∙◌, refl, arith, length, ◌++◌}
 use Rattle.td_base.specs.Padded.{len_again}
 use Rattle.td_wire.specs.declared.length.TheConstants.{MAX_PACKET_LEN}
-use Rattle.td_wire.proofs.Buffers.{extended}
-use Rattle.td_wire.proofs.buffer.Buffer.extend.Goals as goal
+use Rattle.td_wire.proofs.Extended.{extended}
+use Rattle.td_wire.proofs.packet_bytes.PacketBytes.extend.Goals as goal
 
 pub invariant_of-self : goal.invariant_of-self
 invariant_of-self c =
