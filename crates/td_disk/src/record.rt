@@ -74,7 +74,7 @@ impl Record {
         requires within { at ≤ length (device_of self.old).reads }
         requires room { at + length bytes.now ≤ MAX_DISK_LEN }
         ensures noted { OnOk result (self.new ≡ noted (Wrote at bytes.now) self.old) }
-        ensures same { OnErr result (self.new ≡ self.old) }
+        ensures err { OnErr result (self.new ≡ self.old) }
     {
         let copy = Vec::from_slice(*self.bytes.allocator(), bytes)?;
         self.calls.reserve(1)?;
@@ -87,7 +87,7 @@ impl Record {
     /// Notes a sync, unless memory runs out.
     pub(crate) fn sync(&mut self) -> Result<(), AllocError>
         ensures noted { OnOk result (self.new ≡ noted Synced self.old) }
-        ensures same { OnErr result (self.new ≡ self.old) }
+        ensures err { OnErr result (self.new ≡ self.old) }
     {
         self.calls.push(Call::Sync)?;
         self.synced = self.calls.len();
@@ -149,7 +149,7 @@ fn fill_all(file: &mut Vec<u8>, calls: &[Call], byte: u8) -> Result<(), AllocErr
 // Writes in place; at the end, where the place is past it.
 fn overwrite(file: &mut Vec<u8>, at: usize, bytes: &[u8]) -> Result<(), AllocError>
     ensures written { OnOk result (file.new.items ≡ overwritten file.old.items at bytes.now) }
-    ensures same { OnErr result (file.new.items ≡ file.old.items) }
+    ensures err { OnErr result (file.new.items ≡ file.old.items) }
 {
     let at = at.min(file.len());
     let over = bytes.len().min(file.len() - at);

@@ -12,4 +12,4 @@ returns-clause-crash c =
       | else-is_ok w ↦ ap (λ d. d.past)
           w.self-is
     ])
-    c.requires.within c.write.ensures.noted c.write.ensures.same
+    c.requires.within c.write.ensures.noted c.write.ensures.err

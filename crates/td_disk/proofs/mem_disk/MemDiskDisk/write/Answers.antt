@@ -7,4 +7,4 @@ returns-clause-crash c =
     asked_follows c.write.result c.args.self.now.past c.self.inside.past c.write.new.self c.answer.new.self.past
     c.args.at c.args.bytes.now (ap (λ d. d.past) (c.self.view_is ∙ c.call-told.ensures.counted))
     c.answer.ensures.past
-    c.requires.within c.write.ensures.noted c.write.ensures.same
+    c.requires.within c.write.ensures.noted c.write.ensures.err
