@@ -21,8 +21,8 @@ impl<D: Doc> Site<D> {
         ensures late { OnOk result (self.new.late ≡ false) }
         ensures texts { OnOk result (self.new.writer.publishes
             ≡ texts_to self.old.replica (length self.old.replica.entries)) }
-        ensures err { OnErr result ((self.old.late ≡ true) × (self.new.late ≡ true)) }
-        ensures same { OnErr result ((told_of self.new.writer ≡ told_of self.old.writer)
+        ensures err { OnErr result ((self.old.late ≡ true) × (self.new.late ≡ true)
+            × (told_of self.new.writer ≡ told_of self.old.writer)
             × (self.new.writer.shown ≡ self.old.writer.shown)) }
         ensures later { LaterSite self.old self.new }
     {
