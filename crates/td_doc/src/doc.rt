@@ -1,7 +1,7 @@
 ghost use Rattle.std.specs.Prelude.{◌≡◌, ◌++◌, List, [], length, IfOk, IfErr, IsTrue, OnOk, OnErr, IsNone};
 ghost use Rattle.std.specs.Option.{ForSome};
 ghost use Rattle.td_doc.specs.Document.{DocRow, find_row, live_id_at, live_rows, text_of};
-ghost use Rattle.td_doc.specs.Slots.{is_empty_slot, is_within, overlaps, is_known};
+ghost use Rattle.td_doc.specs.Slots.{rows_in_slot, is_empty_slot, is_within, overlaps, is_known};
 ghost use Rattle.td_doc.specs.Allocation.{id_after};
 ghost use Rattle.td_doc.specs.Insertion.{insert_atom, insert_run};
 ghost use Rattle.td_doc.specs.Deletion.{delete, delete_at};
@@ -117,6 +117,10 @@ pub trait Doc: Sized + Drop {
     /// Whether the slot contains no row.
     fn slot_empty(&self, slot: Slot) -> bool
         ensures { result ≡ is_empty_slot (rows self.now) slot };
+
+    /// How many rows the slot contains, tombstones included.
+    fn count(&self, slot: Slot) -> u32
+        ensures { result ≡ length (rows_in_slot (rows self.now) slot) };
 
     /// Whether the atom is a row in the slot.
     fn within(&self, id: AtomId, slot: Slot) -> bool

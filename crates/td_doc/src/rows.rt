@@ -10,7 +10,7 @@ use crate::flatten::flatten_rows;
 use crate::insertion::{make_room, put_rows};
 use crate::path_row::PathRow;
 use crate::search::{count_live, find_row, live_at, live_before, next_id, place_of_id};
-use crate::slots::{is_known, is_within, slot_is_empty, slot_path};
+use crate::slots::{count, is_known, is_within, slot_is_empty, slot_path};
 use crate::text::push_text;
 use std::alloc::Global;
 use std::marker::Model;
@@ -107,6 +107,10 @@ impl Doc for Rows {
 
     fn slot_empty(&self, slot: Slot) -> bool {
         slot_is_empty(&self.rows, slot)
+    }
+
+    fn count(&self, slot: Slot) -> u32 {
+        count(&self.rows, slot) as u32
     }
 
     fn within(&self, id: AtomId, slot: Slot) -> bool {

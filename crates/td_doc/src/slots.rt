@@ -1,9 +1,9 @@
 // Slots, read in the rows of a document.
-ghost use Rattle.std.specs.Prelude.{◌≡◌, ◌||◌, ◌&&◌, not, IfErr, IfOk, IsTrue, OnOk, Some};
+ghost use Rattle.std.specs.Prelude.{◌≡◌, ◌≤◌, ◌||◌, ◌&&◌, not, filter, length, IfErr, IfOk, IsTrue, OnOk, Some};
 ghost use Rattle.std.specs.List.{list_any, list_all};
 ghost use Rattle.td_path.specs.SlotPaths.{goes_on};
 ghost use Rattle.td_doc.specs.Document.{DocRow, has_id};
-ghost use Rattle.td_doc.specs.Slots.{is_empty_slot, is_known, is_known_row, is_within, slot_path};
+ghost use Rattle.td_doc.specs.Slots.{is_empty_slot, is_known, is_known_row, is_within, rows_in_slot, slot_path};
 ghost use Rattle.td_doc.specs.Answers.{IsSlotFault, is_rooted};
 
 use crate::doc::DocFault;
@@ -51,6 +51,30 @@ fn has_row_below(rows: &[PathRow], path: &Path, bit: Bit) -> bool
     ensures { result ≡ list_any (λ (r : DocRow). goes_on path.now bit r.path) rows.now }
 {
     rows.iter().any(|row| goes_on(path, bit, &row.path))
+}
+
+/// How many rows the slot contains.
+pub fn count(rows: &[PathRow], slot: Slot) -> usize
+    ensures value { result ≡ length (rows_in_slot rows.now slot) }
+    ensures bound { result ≤ length rows.now }
+{
+    match slot {
+        Slot::Root => rows.len(),
+        Slot::At { atom, bit } => match find_row(rows, atom) {
+            Some(row) => count_below(rows, &row.path, bit),
+            None => 0,
+        },
+    }
+}
+
+// How many rows hang on this side of the node at the path.
+fn count_below(rows: &[PathRow], path: &Path, bit: Bit) -> usize
+    ensures value { result ≡ length (filter (λ (r : DocRow). goes_on path.now bit r.path) rows.now) }
+    ensures bound { result ≤ length rows.now }
+{
+    rows.iter()
+        .filter(|row| goes_on(path, bit, &row.path))
+        .count()
 }
 
 /// Whether the atom is a row in the slot.

@@ -7,11 +7,11 @@ use Rattle.td_brackets.specs.Brackets.{Token, Open, Atom, Close, Leaf, Entry}
 use Rattle.td_brackets.specs.Laws.{live_number, live_numbers}
 use Rattle.td_brackets.specs.RowNumbers.{row_numbers_at, row_numbers}
 use Rattle.td_brackets.proofs.Entries.{row_numbers-append}
-use Rattle.td_tree.specs.Parts.{Parts, table, token_of, tokens_of, tokens, IsTree}
+use Rattle.td_tree.specs.Parts.{Parts, table, token_of, tokens_of, IsTree}
 use Rattle.td_tree.specs.Stretches.{open_numbers, IsFound, IsFoundAt, IsFoundAmong}
 use Rattle.td_tree.specs.Walks.{IsStretch}
 use Rattle.td_tree.proofs.ItemTokens.{tokens-append}
-use Rattle.td_tree.proofs.Grown.{rows_long}
+use Rattle.td_tree.proofs.CountedRows.{rows_of_items, counted-append, counted_few}
 use Rattle.td_tree.proofs.Walked.{Walked}
 use Rattle.td_list.specs.Places.{nothing}
 
@@ -87,22 +87,13 @@ found_next p items k b live nodes dead live' nodes' dead' live'' nodes'' dead'' 
     dead' live'' nodes'' dead'' f
     (one_found p (token_of p (get_or items k nothing)) live' nodes' dead' live'' nodes'' dead'' g))
 
-abbrev rows_in : Parts → List Item → ℕ
-rows_in p items = length (row_numbers (tokens_of p items))
-
-rows_in-append : (p : Parts) (xs ys : List Item) → rows_in p (xs ++ ys) ≡ rows_in p xs + rows_in p ys
-rows_in-append p xs ys =
-    ap (λ (ts : List Token). length (row_numbers ts)) (tokens-append p xs ys)
-    ∙ ap (λ (rs : List ℕ). length rs) (row_numbers-append (tokens_of p xs) (tokens_of p ys))
-    ∙ length-append (row_numbers (tokens_of p xs)) (row_numbers (tokens_of p ys))
-
 -- some of them have no more rows than all
 pub dead_below : (p : Parts) (items : List Item) (k : ℕ) (live nodes : List ℕ) (dead : ℕ) (live' nodes' : List ℕ)
     (dead' : ℕ) → dead + length (row_numbers (tokens_of p items)) ≤ 2 ^ 30
     → IsFoundAmong p (tokens_of p (take k items)) live nodes dead live' nodes' dead' → dead' < 2 ^ 31
 dead_below p items k live nodes dead live' nodes' dead' few f =
-    let one = ap (rows_in p) (take-append-drop k items) in
-    let two = rows_in-append p (take k items) (drop k items) in
+    let one = ap (rows_of_items p) (take-append-drop k items) in
+    let two = counted-append p (take k items) (drop k items) in
     let three = f.dead_is in
     omega arith
 
@@ -128,15 +119,6 @@ pub rows_few : (p : Parts) (t : IsTree p) (first end : Option ℕ) (s : IsStretc
     → (live nodes : List ℕ) (dead : ℕ) → IsFound p (tokens_of p w.done) live nodes dead
     → dead + length (row_numbers (tokens_of p items)) ≤ 2 ^ 30
 rows_few p t first end s at w items more e live nodes dead f =
-    let all = ap (rows_in p) (s.is ∙ ap (λ (xs : List Item). s.front ++ (xs ++ s.back))
-    (w.is ∙ ap (λ (xs : List Item). w.done ++ xs) e)) in
-    let one = rows_in-append p s.front ((w.done ++ (items ++ more)) ++ s.back) in
-    let two = rows_in-append p (w.done ++ (items ++ more)) s.back in
-    let three = rows_in-append p w.done (items ++ more) in
-    let four = rows_in-append p items more in
-    let five = rows_long (table p) [] (tokens p) in
-    let six = t.all in
-    let seven = t.many in
-    let eight = t.most in
+    let few = counted_few p t first end s at w items more e in
     let found = f.dead_is in
     omega arith

@@ -27,6 +27,7 @@ pub mod PutRun
 pub mod RowsFound
 pub mod Walked
 pub mod KnownWalks
+pub mod CountedRows
 pub mod Texts
 pub mod Indexes
 pub mod SlotsAfter

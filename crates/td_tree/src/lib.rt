@@ -2,11 +2,12 @@
 //!
 //! `Tree` is the document. `tokens` keeps the tokens, the rows by number and the arrays of leaves; `explode` opens
 //! leaves on the way of an edit, by the piece that `way` gathers; `place` finds where a new row goes, `growth`,
-//! `deletion` and `flatten` change the rows, and `order`, `side`, `known` and `text` read them; `last` is what a tree
-//! remembers of the row put last. Begin at `specs/Parts.antt`, which says what the parts of a tree are and what holds
-//! of them; what the tokens mean stands in `td_brackets`.
+//! `deletion` and `flatten` change the rows, and `order`, `side`, `count`, `known` and `text` read them; `last` is what
+//! a tree remembers of the row put last. Begin at `specs/Parts.antt`, which says what the parts of a tree are and what
+//! holds of them; what the tokens mean stands in `td_brackets`.
 #![tactic(auto)]
 
+mod count;
 mod deletes;
 mod deletion;
 mod edits;

@@ -197,6 +197,16 @@ impl Doc for Tree {
         }
     }
 
+    fn count(&self, slot: Slot) -> u32 {
+        match slot {
+            Slot::Root => self.rows(),
+            Slot::At { atom, bit } => match self.number(atom) {
+                Some(row) => self.tokens.side_count(row, bit),
+                None => 0,
+            },
+        }
+    }
+
     fn within(&self, id: AtomId, slot: Slot) -> bool {
         match self.number(id) {
             Some(row) => self.is_row_within(row, slot),

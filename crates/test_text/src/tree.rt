@@ -1,6 +1,7 @@
 // The tree beside the plain document, and what no contract says.
 ghost use Rattle.std.specs.Prelude.{◌≡◌, IfOk};
 
+mod counts;
 mod drawn;
 mod large;
 mod runs;
@@ -40,7 +41,7 @@ fn letter(text: &str) -> Result<Atom, Fail> {
 }
 
 // Puts an a in a slot.
-fn put(rt: &impl Abort, doc: &mut Tree, slot: Slot, id: AtomId) -> Result<(), Fail> {
+fn put<D: Doc>(rt: &impl Abort, doc: &mut D, slot: Slot, id: AtomId) -> Result<(), Fail> {
     let atom = letter("a")?;
     assert!(rt; doc.find(id).is_none());
     Ok(doc.insert(slot, id, atom)?)

@@ -98,6 +98,8 @@ fn rows_alike(rt: &impl Abort, rows: &Rows, tree: &Tree, atom: AtomId) {
 fn sides_alike(rt: &impl Abort, rows: &Rows, tree: &Tree, atom: AtomId, bit: Bit, v: &Vector) {
     let expected = rows.slot_empty(at(atom, bit));
     same(rt, tree.slot_empty(at(atom, bit)), expected);
+    let expected = rows.count(at(atom, bit));
+    same(rt, tree.count(at(atom, bit)), expected);
     let expected = rows.known(at(atom, bit), v);
     same(rt, tree.known(at(atom, bit), v), expected);
 }
@@ -142,6 +144,7 @@ fn order_alike(rt: &impl Abort, rows: &Rows, tree: &Tree) {
         }
     }
     same(rt, tree.rows(), rows.rows());
+    same(rt, tree.count(Slot::Root), rows.count(Slot::Root));
 }
 
 fn text_of<D: Doc>(alloc: Global, doc: &D) -> Result<Bytes, Fail> {
