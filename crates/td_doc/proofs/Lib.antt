@@ -23,3 +23,4 @@ pub mod Together
 pub mod LiveIndex
 pub mod Known
 pub mod RootRows
+pub mod Walking

@@ -1,4 +1,3 @@
 pub mod Printing
-pub mod Walking
 pub mod LiveRows
 pub mod Tracing

@@ -3,9 +3,9 @@ use Rattle.std.proofs.lemmas.Option.{same_Some}
 use Rattle.td_base.specs.Value.{AtomIdValue}
 use Rattle.td_doc.specs.Answers.{IsRow}
 use Rattle.td_doc.specs.Document.{DocRow, IsDocument}
+use Rattle.td_doc.proofs.Walking.{comes, comes_to_a_row, goes_to_the_end}
 use Rattle.td_report.specs.Tree.{row_line}
 use Rattle.td_report.proofs.Printing.{printed_behind}
-use Rattle.td_report.proofs.Walking.{comes, comes_to_a_row, goes_to_the_end}
 use Rattle.td_report.proofs.tree.push_rows.Goals as goal
 
 pub loop-preserved : goal.loop-preserved
