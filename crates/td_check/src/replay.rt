@@ -234,7 +234,7 @@ impl<'a, D: Doc> Replay<'a, D> {
     {
         // a site has a number
         dot.site.place();
-        self.made.deps(dot).copied()
+        self.made.deps(dot)
     }
 
     // The operation with this dot, where its site has made it by now.

@@ -246,7 +246,7 @@ entry_counted site n entries e made one made_is one_is range counted ops votes =
     let now : AreOwnOps site n (count_entry site n so_far e).have told counted.ops =
     retold site n (with_use site one (raised site made so_far.have))
     (with_more site made so_far.have (told_deps site n entries))
-    counted.ops.site counted.ops.have counted.ops.is_past counted.ops.deps.items ops
+    counted.ops.site counted.ops.have counted.ops.is_past counted.ops.deps.rows ops
     (count_entry site n so_far e).have told
     (λ i. with_use site (one_is i) (raised site (made_is i) so_far.have))
     (λ q some.

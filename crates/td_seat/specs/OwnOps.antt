@@ -21,7 +21,7 @@ pub record AreOwnParts (site n : ℕ) (v : List ℕ) (told : ℕ → Option (Lis
   pub each : (q : ℕ) → 1 ≤ q → q ≤ MAX_SEQ → slice_get deps (q - 1) ≡ told q
 
 abbrev pub AreOwnOps : ℕ → ℕ → List ℕ → (ℕ → Option (List ℕ)) → OwnOps → Type 0
-AreOwnOps site n v told ops = AreOwnParts site n v told ops.site ops.have ops.is_past ops.deps.items
+AreOwnOps site n v told ops = AreOwnParts site n v told ops.site ops.have ops.is_past ops.deps.rows
 
 -- one more is made, which depends on all that is had
 abbrev pub with_one : ℕ → List ℕ → (ℕ → Option (List ℕ)) → ℕ → Option (List ℕ)

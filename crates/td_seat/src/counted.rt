@@ -1,5 +1,4 @@
 ghost use Rattle.std.specs.Prelude.{◌≡◌, ◌≤◌, ◌++◌, ◌∷◌, [], ℕ, List, OnOk, length};
-ghost use Rattle.std.specs.Option.{option_copied};
 ghost use Rattle.td_law_replay.specs.Counting.{Count, makes};
 ghost use Rattle.td_seat.specs.Votes.{AreVotes};
 ghost use Rattle.td_seat.specs.Counted.{AreCounted, told_deps};
@@ -45,11 +44,11 @@ impl Counted {
     }
 
     /// What the operation with this number depends on, where it was made and has a vector.
-    pub fn deps(&self, seq: u32) -> Option<&Vector>
+    pub fn deps(&self, seq: u32) -> Option<Vector>
         requires least { 1 ≤ seq }
         requires greatest { seq ≤ MAX_SEQ }
         ensures { (site n : ℕ) (entries : List TraceEntry) → AreCounted site n entries self.now
-            → option_copied result ≡ told_deps site n entries seq }
+            → result ≡ told_deps site n entries seq }
     {
         self.ops.deps(seq)
     }

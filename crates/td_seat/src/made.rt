@@ -1,5 +1,4 @@
 ghost use Rattle.std.specs.Prelude.{◌≡◌, ◌+◌, ◌++◌, ◌∷◌, [], ℕ, List, OnOk, length};
-ghost use Rattle.std.specs.Option.{option_copied};
 ghost use Rattle.td_trace.specs.declared.entry.TraceEntry.{TraceEntry};
 ghost use Rattle.td_law_replay.specs.Counting.{made_deps};
 ghost use Rattle.td_seat.specs.Counted.{AreCounted};
@@ -38,9 +37,9 @@ impl Made {
     }
 
     /// What the operation with this dot depends on, where an entry of its site made it and it has a vector.
-    pub fn deps(&self, dot: Dot) -> Option<&Vector>
+    pub fn deps(&self, dot: Dot) -> Option<Vector>
         ensures { (all : List (List TraceEntry)) → IsMade all self.now
-            → option_copied result ≡ made_deps all dot }
+            → result ≡ made_deps all dot }
     {
         let place = dot.site.place();
         let counted = self.sites.get(place)?;

@@ -3,6 +3,7 @@ ghost use Rattle.std.specs.Prelude.{◌≡◌, ◌≤◌, length};
 use std::alloc::Global;
 use td_base::{Dot, MAX_SEQ, MAX_SITE, Memory, Site};
 use td_clock::Vector;
+use td_store::Vectors;
 
 /// The operations that a site made, and what it used.
 #[derive(Debug, Drop)]
@@ -13,13 +14,13 @@ pub struct OwnOps {
     // whether one passed: no operation counted from then on has a vector
     is_past: bool,
     // what the q-th operation depends on, at place q - 1
-    deps: Vec<Vector>,
+    deps: Vectors,
     ghost within: { site ≤ length have },
+    ghost sized: { deps.size ≡ length have },
 }
 
 impl OwnOps {
     ghost use Rattle.std.specs.Prelude.{◌≡◌, ◌≤◌, ℕ, List, Option, None, OnOk, IfSome, length, replicate};
-    ghost use Rattle.std.specs.Option.{option_copied};
     ghost use Rattle.td_base.specs.Value.{DotValue};
     ghost use Rattle.td_clock.specs.Vector.{vector_bump};
     ghost use Rattle.td_law_replay.specs.Counting.{raised, with_use};
@@ -37,7 +38,7 @@ impl OwnOps {
             site,
             have: Vector::new(n),
             is_past: false,
-            deps: Vec::new(alloc),
+            deps: Vectors::new(alloc, n),
         }
     }
 
@@ -73,7 +74,8 @@ impl OwnOps {
             self.is_past = true;
             return Ok(());
         }
-        self.deps.push(self.have)?;
+        self.deps.reserve(1)?;
+        self.deps.push(&self.have);
         self.have.bump(self.site);
         Ok(())
     }
@@ -102,12 +104,16 @@ impl OwnOps {
     }
 
     /// What the operation with this number depends on, where it has a vector.
-    pub fn deps(&self, seq: u32) -> Option<&Vector>
+    pub fn deps(&self, seq: u32) -> Option<Vector>
         requires least { 1 ≤ seq }
         requires greatest { seq ≤ MAX_SEQ }
         ensures { (site n : ℕ) (v : List ℕ) (told : ℕ → Option (List ℕ))
-            → AreOwnOps site n v told self.now → option_copied result ≡ told seq }
+            → AreOwnOps site n v told self.now → result ≡ told seq }
     {
-        self.deps.get(seq as usize - 1)
+        let place = seq - 1;
+        if place >= self.deps.len() {
+            return None;
+        }
+        Some(self.deps.at(place))
     }
 }

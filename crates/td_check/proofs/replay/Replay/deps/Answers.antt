@@ -8,10 +8,9 @@ use Rattle.td_check.proofs.replay.Replay.deps.Goals as goal
 pub returns-clause-fit : goal.returns-clause-fit
 returns-clause-fit g c =
     let d : DotValue = c.args.dot in
-    let found : c.copied.result ≡ made_deps (histories_of c.args.self.now) d =
-    c.copied.ensures
-    ∙ c.deps.ensures c.self.inside.trace.now.histories c.self.invariant.told
+    let found : c.deps.result ≡ made_deps (histories_of c.args.self.now) d =
+    c.deps.ensures c.self.inside.trace.now.histories c.self.invariant.told
     ∙ ap (λ (q : ReplayValue). made_deps (histories_of q) d) c.self.view_is in
     told_fit (histories_of c.args.self.now) d
     (subst (λ (e : DotValue). 0 < e.site) c.dot.view_is c.place.ensures.least)
-    (subst (λ (e : DotValue). 0 < e.seq) c.dot.view_is c.dot.invariant.0) c.copied.result found
+    (subst (λ (e : DotValue). 0 < e.seq) c.dot.view_is c.dot.invariant.0) c.deps.result found

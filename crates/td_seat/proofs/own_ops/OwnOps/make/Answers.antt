@@ -6,14 +6,14 @@ use Rattle.td_seat.proofs.own_ops.OwnOps.make.Goals as goal
 
 pub loop-init : goal.loop-init
 loop-init c =
-    let o = c.args.self.now in λ site n v told p. none_more site n v told o.site o.have o.is_past o.deps.items p
+    let o = c.args.self.now in λ site n v told p. none_more site n v told o.site o.have o.is_past o.deps.rows p
 
 pub loop-preserved : goal.loop-preserved
 loop-preserved c =
     let o = c.make_one.new.self in
     let k = c.loop.counter in
     λ site n v told p.
-    one_more site n k v told o.site o.have o.is_past o.deps.items
+    one_more site n k v told o.site o.have o.is_past o.deps.rows
     (c.in_ok-make_one.ensures.ok site n (raised site k v) (with_more site k v told) (c.loop.invariant site n v told p))
 
 pub returns : goal.returns
