@@ -12,7 +12,8 @@ use Rattle.td_op.specs.declared.input.Input.TheVariants.{Take}
 use Rattle.td_op.specs.declared.message.Message.{Message}
 use Rattle.td_op.specs.Op.{OpValue}
 use Rattle.td_doc.specs.Document.{text_of}
-use Rattle.td_machine.specs.History.{Family, History, Moment, history, history_at, machine, machine_after, sender}
+use Rattle.td_op.specs.Message.{sender}
+use Rattle.td_machine.specs.History.{Family, History, Moment, history, history_at, machine, machine_after}
 use Rattle.td_machine.specs.History.{after, known_of, IsAddressed, IsLegal, IsLegalFrom, IsConsistent, MayCome}
 use Rattle.td_machine.specs.Machine.{Machine, start, made}
 use Rattle.td_machine.specs.Step.{step}

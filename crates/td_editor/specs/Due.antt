@@ -3,7 +3,8 @@ use Rattle.std.specs.Prelude.{◌≡◌, ◌≢◌, ◌≤◌, ℕ, [], ◌∷�
 use Rattle.td_op.specs.declared.input.Input.{Input}
 use Rattle.td_op.specs.declared.input.Input.TheVariants.{Take}
 use Rattle.td_op.specs.declared.message.Message.{Message}
-use Rattle.td_machine.specs.History.{History, sender, known_of, IsAddressed}
+use Rattle.td_op.specs.Message.{sender}
+use Rattle.td_machine.specs.History.{History, known_of, IsAddressed}
 use Rattle.td_machine.specs.Machine.{Machine, made}
 use Rattle.td_machine.specs.Step.{step}
 

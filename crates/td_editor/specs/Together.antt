@@ -5,7 +5,8 @@ use Rattle.td_base.specs.Lists.{In}
 use Rattle.td_op.specs.declared.input.Input.{Input}
 use Rattle.td_op.specs.declared.input.Input.TheVariants.{Local, Take, Next}
 use Rattle.td_op.specs.declared.message.Message.{Message}
-use Rattle.td_machine.specs.History.{Family, History, sender}
+use Rattle.td_op.specs.Message.{sender}
+use Rattle.td_machine.specs.History.{Family, History}
 use Rattle.td_machine.specs.Machine.{start}
 use Rattle.td_replica.specs.Replica.{ReplicaValue, IsReplica}
 use Rattle.td_editor.specs.Due.{TakesDue}

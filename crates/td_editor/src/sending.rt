@@ -1,7 +1,7 @@
 // What is sent to other sites.
 ghost use Rattle.std.specs.Prelude.{◌≡◌, ◌↔◌, length, Some, IfSome, IfNone, IsTrue};
 ghost use Rattle.td_op.specs.declared.message.Message.{Message};
-ghost use Rattle.td_history.specs.Past.{kth};
+ghost use Rattle.td_base.specs.Lists.{kth};
 ghost use Rattle.td_machine.specs.History.{known_of};
 ghost use Rattle.td_wire.specs.Spelling.{SpellsIn};
 ghost use Rattle.td_editor.specs.Due.{IsFor};
