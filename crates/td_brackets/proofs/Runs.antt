@@ -12,7 +12,7 @@ use Rattle.td_path.specs.Infix.{Pairs, path_cmp}
 use Rattle.td_path.specs.SlotPaths.{goes_on, path_in}
 use Rattle.td_path.specs.declared.slot.Slot.{Slot}
 use Rattle.td_path.specs.declared.slot_path.SlotPath.{SlotPath}
-use Rattle.td_path.specs.declared.slot_path.SlotPath.TheVariants.{Whole, Below}
+use Rattle.td_path.specs.declared.slot_path.SlotPath.TheVariants.{Root as Whole, Below}
 use Rattle.td_path.proofs.InfixOrder.{path_total, between_right, between_left, right_after}
 use Rattle.td_path.proofs.InfixOrder.{left_before, goes_on_from, goes_on_parts}
 use Rattle.td_doc.specs.Document.{DocRow, row_id, last_id, IsDocument}

@@ -10,7 +10,7 @@ use Rattle.td_base.proofs.Lists.{In-append, In-front, In-back, map_In}
 use Rattle.td_path.specs.Infix.{Pair, Pairs, path_cmp}
 use Rattle.td_path.specs.SlotPaths.{goes_on, path_in}
 use Rattle.td_path.specs.declared.slot_path.SlotPath.{SlotPath}
-use Rattle.td_path.specs.declared.slot_path.SlotPath.TheVariants.{Whole, Below}
+use Rattle.td_path.specs.declared.slot_path.SlotPath.TheVariants.{Root as Whole, Below}
 use Rattle.td_path.proofs.InfixOrder.{goes_on_parts, right_after, left_before}
 use Rattle.td_doc.specs.Document.{DocRow, last_id, row_id}
 use Rattle.td_doc.specs.Array.{row_in, around, array_upto}

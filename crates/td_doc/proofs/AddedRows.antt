@@ -9,7 +9,7 @@ use Rattle.td_base.proofs.Lists.{map_In}
 use Rattle.td_path.specs.declared.slot.Slot.{Slot}
 use Rattle.td_path.specs.declared.slot.Slot.TheVariants.{Root, At}
 use Rattle.td_path.specs.declared.slot_path.SlotPath.{SlotPath}
-use Rattle.td_path.specs.declared.slot_path.SlotPath.TheVariants.{Whole, Below}
+use Rattle.td_path.specs.declared.slot_path.SlotPath.TheVariants.{Root as Whole, Below}
 use Rattle.td_doc.specs.Document.{DocRow, find_row, IsDocument}
 use Rattle.td_doc.specs.Slots.{rows_below, is_within}
 use Rattle.td_doc.specs.Array.{named, array}

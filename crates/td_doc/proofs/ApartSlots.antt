@@ -14,7 +14,7 @@ use Rattle.td_path.specs.SlotPaths.{goes_on, slot_contains, slot_contains_slot, 
 use Rattle.td_path.specs.declared.slot.Slot.{Slot}
 use Rattle.td_path.specs.declared.slot.Slot.TheVariants.{Root, At}
 use Rattle.td_path.specs.declared.slot_path.SlotPath.{SlotPath}
-use Rattle.td_path.specs.declared.slot_path.SlotPath.TheVariants.{Whole, Below}
+use Rattle.td_path.specs.declared.slot_path.SlotPath.TheVariants.{Root as Whole, Below}
 use Rattle.td_path.proofs.InfixOrder.{equal_paths}
 use Rattle.td_base.proofs.Orders.{is_eq_true}
 use Rattle.td_path.proofs.SlotOverlap.{apart_where_no_overlap}

@@ -11,7 +11,7 @@ use Rattle.td_path.specs.Infix.{Pair, Pairs}
 use Rattle.td_path.specs.SlotPaths.{path_in}
 use Rattle.td_path.specs.Shape.{Bits, shape_upto, shape}
 use Rattle.td_path.specs.declared.slot_path.SlotPath.{SlotPath}
-use Rattle.td_path.specs.declared.slot_path.SlotPath.TheVariants.{Whole, Below}
+use Rattle.td_path.specs.declared.slot_path.SlotPath.TheVariants.{Root as Whole, Below}
 use Rattle.td_path.proofs.ArrayShape.{below, after, shape_node}
 use Rattle.td_doc.specs.Document.{DocRow}
 use Rattle.td_doc.specs.Array.{row_in, around, array_upto, array}

@@ -12,7 +12,7 @@ use Rattle.td_base.proofs.Lists.{In-append, In-front, In-back, all_of, successiv
 use Rattle.td_path.specs.Infix.{Pair, Pairs, path_cmp}
 use Rattle.td_path.specs.SlotPaths.{goes_on, slot_contains, path_in}
 use Rattle.td_path.specs.declared.slot_path.SlotPath.{SlotPath}
-use Rattle.td_path.specs.declared.slot_path.SlotPath.TheVariants.{Whole, Below}
+use Rattle.td_path.specs.declared.slot_path.SlotPath.TheVariants.{Root as Whole, Below}
 use Rattle.td_path.proofs.InfixOrder.{path_total, left_before, right_after, goes_on_from}
 use Rattle.td_doc.specs.Document.{DocRow, is_empty_list, live_rows, IsPath}
 use Rattle.td_doc.specs.Array.{named, row_in, around, array_upto, array}

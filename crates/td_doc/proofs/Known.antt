@@ -12,7 +12,7 @@ use Rattle.td_path.specs.SlotPaths.{slot_contains}
 use Rattle.td_path.specs.declared.slot.Slot.{Slot}
 use Rattle.td_path.specs.declared.slot.Slot.TheVariants.{Root}
 use Rattle.td_path.specs.declared.slot_path.SlotPath.{SlotPath}
-use Rattle.td_path.specs.declared.slot_path.SlotPath.TheVariants.{Whole}
+use Rattle.td_path.specs.declared.slot_path.SlotPath.TheVariants.{Root as Whole}
 use Rattle.td_doc.specs.Document.{DocRow, row_id}
 use Rattle.td_doc.specs.Slots.{slot_path, rows_below, rows_in_slot, is_known_row, is_known}
 

@@ -10,7 +10,7 @@ use Rattle.td_path.specs.Infix.{Pairs, path_cmp}
 use Rattle.td_path.specs.SlotPaths.{goes_on, slot_contains, path_in}
 use Rattle.td_path.specs.declared.slot.Slot.{Slot}
 use Rattle.td_path.specs.declared.slot_path.SlotPath.{SlotPath}
-use Rattle.td_path.specs.declared.slot_path.SlotPath.TheVariants.{Whole, Below}
+use Rattle.td_path.specs.declared.slot_path.SlotPath.TheVariants.{Root as Whole, Below}
 use Rattle.td_path.proofs.InfixOrder.{path_total, left_before, right_after, between_left, between_right, goes_on_parts}
 use Rattle.td_doc.specs.Document.{DocRow, live_rows, IsDocument}
 use Rattle.td_doc.specs.Slots.{slot_path, rows_below, rows_in_slot}

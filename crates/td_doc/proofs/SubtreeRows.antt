@@ -15,7 +15,7 @@ use Rattle.td_path.specs.SlotPaths.{goes_on, slot_contains}
 use Rattle.td_path.specs.declared.slot.Slot.{Slot}
 use Rattle.td_path.specs.declared.slot.Slot.TheVariants.{Root, At}
 use Rattle.td_path.specs.declared.slot_path.SlotPath.{SlotPath}
-use Rattle.td_path.specs.declared.slot_path.SlotPath.TheVariants.{Whole, Below}
+use Rattle.td_path.specs.declared.slot_path.SlotPath.TheVariants.{Root as Whole, Below}
 use Rattle.td_path.proofs.InfixOrder.{first_pairs, same_pair_true, same_pair_from, same_pair_refl}
 use Rattle.std.proofs.lemmas.Bool.{and_parts, false_from_ne_true, and_left}
 use Rattle.td_path.proofs.SlotOverlap.{none_empty}

@@ -15,7 +15,7 @@ use Rattle.td_path.specs.SlotPaths.{path_in}
 use Rattle.td_path.specs.declared.slot.Slot.{Slot}
 use Rattle.td_path.specs.declared.slot.Slot.TheVariants.{Root, At}
 use Rattle.td_path.specs.declared.slot_path.SlotPath.{SlotPath}
-use Rattle.td_path.specs.declared.slot_path.SlotPath.TheVariants.{Whole, Below}
+use Rattle.td_path.specs.declared.slot_path.SlotPath.TheVariants.{Root as Whole, Below}
 use Rattle.td_path.proofs.InfixOrder.{path_total, same_pair_refl}
 use Rattle.td_doc.specs.Document.{DocRow, last_id, row_id, find_row, IsDocument}
 use Rattle.td_base.specs.RunAtoms.{NamedAtom, run_atoms}

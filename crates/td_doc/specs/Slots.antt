@@ -10,7 +10,7 @@ use Rattle.td_path.specs.SlotPaths.{slot_contains}
 use Rattle.td_path.specs.declared.slot.Slot.{Slot}
 use Rattle.td_path.specs.declared.slot.Slot.TheVariants.{Root, At}
 use Rattle.td_path.specs.declared.slot_path.SlotPath.{SlotPath}
-use Rattle.td_path.specs.declared.slot_path.SlotPath.TheVariants.{Whole, Below}
+use Rattle.td_path.specs.declared.slot_path.SlotPath.TheVariants.{Root as Whole, Below}
 use Rattle.td_doc.specs.Document.{DocRow, row_id, find_row, is_empty_list}
 
 -- the slot by the path of its atom, where the atom is a row

@@ -59,7 +59,7 @@ fn front_of(alloc: Global, slot: &SlotPath) -> Result<(Path, Bit), Memory>
     ensures { IfOk result (λ front. (id : AtomIdValue) → path_in slot.now id ≡ front.0 ++ (front.1, id) ∷ []) }
 {
     match slot {
-        SlotPath::Whole => Ok((Path::new(alloc), Bit::Right)),
+        SlotPath::Root => Ok((Path::new(alloc), Bit::Right)),
         SlotPath::Below { path, bit } => Ok((path.try_clone()?, *bit)),
     }
 }

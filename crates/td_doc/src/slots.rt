@@ -21,7 +21,7 @@ pub fn slot_path(alloc: Global, rows: &[PathRow], slot: Slot) -> Result<SlotPath
     ensures fault { IfErr result (IsSlotFault rows.now slot) }
 {
     match slot {
-        Slot::Root => Ok(SlotPath::Whole),
+        Slot::Root => Ok(SlotPath::Root),
         Slot::At { atom, bit } => match find_row(rows, atom) {
             Some(row) => Ok(SlotPath::Below {
                 path: row.path.try_clone()?,

@@ -6,7 +6,7 @@ use Rattle.std.proofs.lemmas.List.Elements.{All-append, All-cons, All-nil}
 use Rattle.rand_pcg.specs.Pcg.{pcg32}
 use Rattle.td_script.specs.declared.command.Command.{Command}
 use Rattle.td_script.specs.declared.command.Command.TheVariants.{Sites, Ins, Del, Flat, Settle}
-use Rattle.td_script.specs.declared.command.Place.TheVariants.{Whole}
+use Rattle.td_script.specs.declared.command.Place.TheVariants.{Root}
 use Rattle.td_gen.specs.Commands.{IsGenerated}
 use Rattle.td_gen.specs.Generator.{after_edits, edit_at, edited, flattened, generated, joined}
 use Rattle.td_gen.specs.Generator.{least_at, letters_from, settled, site_of, turn}
@@ -61,10 +61,10 @@ flattened_are i p all = at (i % 300 == 0)
 
     at : (b : Bool)
         → All IsGenerated
-        (if b then record p { commands = p.commands ++ Flat (1 + i / 300 % 3) Whole ∷ Settle ∷ [] } else p).commands
+        (if b then record p { commands = p.commands ++ Flat (1 + i / 300 % 3) Root ∷ Settle ∷ [] } else p).commands
     at true =
-        All-append IsGenerated p.commands (Flat (1 + i / 300 % 3) Whole ∷ Settle ∷ []) all
-        (All-cons IsGenerated (Flat (1 + i / 300 % 3) Whole) (Settle ∷ []) low
+        All-append IsGenerated p.commands (Flat (1 + i / 300 % 3) Root ∷ Settle ∷ []) all
+        (All-cons IsGenerated (Flat (1 + i / 300 % 3) Root) (Settle ∷ []) low
         (All-cons IsGenerated Settle [] tt (All-nil IsGenerated)))
     at false = all
 
@@ -103,12 +103,12 @@ flattened_few : (i n : ℕ) (p : Progress) → length p.commands ≤ n → lengt
 flattened_few i n p few = at (i % 300 == 0)
   where
     at : (b : Bool)
-        → length (if b then record p { commands = p.commands ++ Flat (1 + i / 300 % 3) Whole ∷ Settle ∷ [] } else
+        → length (if b then record p { commands = p.commands ++ Flat (1 + i / 300 % 3) Root ∷ Settle ∷ [] } else
         p).commands
         ≤ n + 2
     at true =
-        let more : length (p.commands ++ Flat (1 + i / 300 % 3) Whole ∷ Settle ∷ []) ≡ length p.commands + 2 =
-        length-append p.commands (Flat (1 + i / 300 % 3) Whole ∷ Settle ∷ []) in
+        let more : length (p.commands ++ Flat (1 + i / 300 % 3) Root ∷ Settle ∷ []) ≡ length p.commands + 2 =
+        length-append p.commands (Flat (1 + i / 300 % 3) Root ∷ Settle ∷ []) in
         omega (arith, more, few)
     at false = omega (arith, few)
 

@@ -7,7 +7,7 @@ use Rattle.rand_pcg.specs.Lcg.{started, increment_of}
 use Rattle.rand_pcg.specs.Pcg.{multiplier_64, pcg32}
 use Rattle.td_base.specs.Run.{letters}
 use Rattle.td_script.specs.declared.command.Command.TheVariants.{Sites, Ins, Del, Flat, Settle}
-use Rattle.td_script.specs.declared.command.Place.TheVariants.{Whole}
+use Rattle.td_script.specs.declared.command.Place.TheVariants.{Root}
 use Rattle.td_script.specs.declared.script.Script.{Script}
 use Rattle.td_gen.specs.declared.edit.Edit.{Edit}
 use Rattle.td_gen.specs.declared.least.Least.{Least}
@@ -80,7 +80,7 @@ settled i p =
 abbrev pub flattened : ℕ → Progress → Progress
 flattened i p =
     if i % 300 == 0
-    then record p { commands = p.commands ++ Flat (1 + i / 300 % SITES) Whole ∷ Settle ∷ [] }
+    then record p { commands = p.commands ++ Flat (1 + i / 300 % SITES) Root ∷ Settle ∷ [] }
     else p
 
 -- the edit with a number, and what goes with it

@@ -92,7 +92,7 @@ impl Progress {
     {
         if edits % EDITS_TO_FLATTEN == 0 {
             let site = site_at(edits / EDITS_TO_FLATTEN);
-            let place = Place::Whole;
+            let place = Place::Root;
             self.commands.push(Command::Flat { site, place })?;
             self.commands.push(Command::Settle)?;
         }

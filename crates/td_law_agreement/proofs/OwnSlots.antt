@@ -16,7 +16,7 @@ use Rattle.td_path.specs.SlotPaths.{path_in}
 use Rattle.td_path.specs.declared.slot.Slot.{Slot}
 use Rattle.td_path.specs.declared.slot.Slot.TheVariants.{Root, At}
 use Rattle.td_path.specs.declared.slot_path.SlotPath.{SlotPath}
-use Rattle.td_path.specs.declared.slot_path.SlotPath.TheVariants.{Whole, Below}
+use Rattle.td_path.specs.declared.slot_path.SlotPath.TheVariants.{Root as Whole, Below}
 use Rattle.td_doc.specs.Document.{DocRow, find_row, IsDocument}
 use Rattle.td_doc.specs.Slots.{slot_path, last_slot}
 use Rattle.td_doc.specs.Array.{row_in, around, array_upto, array}

@@ -12,7 +12,7 @@ use Rattle.td_path.specs.SlotPaths.{goes_on, slot_contains}
 use Rattle.td_path.specs.declared.slot.Slot.{Slot}
 use Rattle.td_path.specs.declared.slot.Slot.TheVariants.{Root, At}
 use Rattle.td_path.specs.declared.slot_path.SlotPath.{SlotPath}
-use Rattle.td_path.specs.declared.slot_path.SlotPath.TheVariants.{Whole, Below}
+use Rattle.td_path.specs.declared.slot_path.SlotPath.TheVariants.{Root as Whole, Below}
 use Rattle.td_path.proofs.InfixOrder.{goes_on_from, goes_on_parts}
 use Rattle.td_doc.specs.Document.{DocRow, row_id, last_id, find_row, IsPath, IsDocument}
 use Rattle.td_doc.specs.Slots.{slot_path, rows_below, rows_in_slot, is_within, contains_slot, overlaps}

@@ -4,9 +4,9 @@ use Rattle.td_base.specs.Value.{DotValue, AtomIdValue}
 use Rattle.td_op.specs.declared.request.Request.{Request}
 use Rattle.td_op.specs.declared.request.Request.TheVariants.{Insert, InsertAfter, Paste, PasteAfter, Delete}
 use Rattle.td_op.specs.declared.request.Request.TheVariants.{Propose, ProposeAt, Cancel}
-use Rattle.td_path.specs.declared.slot.Slot.TheVariants.{Root}
+use Rattle.td_path.specs.declared.slot.Slot.TheVariants.{Root as RootSlot}
 use Rattle.td_script.specs.declared.command.Place.{Place}
-use Rattle.td_script.specs.declared.command.Place.TheVariants.{Whole, Beside}
+use Rattle.td_script.specs.declared.command.Place.TheVariants.{Root, Beside}
 use Rattle.td_script.specs.declared.live.editor_line.EditorLine.{EditorLine}
 use Rattle.td_script.specs.declared.live.editor_line.EditorLine.TheVariants as Line
 use Rattle.td_text.specs.Runs.{runs_of}
@@ -39,7 +39,7 @@ pasted index [] = []
 pasted index (run ∷ runs) = Plain (Paste index run) ∷ paste_on run runs
 
 abbrev pub proposal : Place → Request
-proposal Whole = Propose Root
+proposal Root = Propose RootSlot
 proposal (Beside index bit) = ProposeAt index bit
 
 -- the calls that a line asks for, as long as each makes an operation

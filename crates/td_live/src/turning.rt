@@ -24,7 +24,7 @@ impl Desk {
     pub fn turn<R: Wait>(&mut self, rt: &R) -> Result<Went, Memory>
         ensures turn { IfOk result (λ went. IsTurn self.old went self.new) }
         ensures over { IsAtEnd self.old → result ≡ Ok Went.Over }
-        ensures memory { OnErr result (Keeps self.old self.new) }
+        ensures err { OnErr result (Keeps self.old self.new) }
         ensures later { LaterDesk self.old self.new }
         ensures desk { IsDesk self.new }
     {
@@ -42,7 +42,7 @@ impl Desk {
     fn poll<R: Wait>(&mut self, rt: &R) -> Result<Went, Memory>
         requires { IsPending self.old.editor }
         ensures turn { IfOk result (λ went. IsTurn self.old went self.new) }
-        ensures memory { OnErr result (self.new ≡ self.old) }
+        ensures err { OnErr result (self.new ≡ self.old) }
         ensures later { LaterEditor self.old.editor self.new.editor }
         ensures desk { IsDesk self.new }
     {
@@ -83,7 +83,7 @@ impl Desk {
         requires idle { IsPending self.old.editor → ⊥ }
         requires next { IsNext Next.Look self.old.rest }
         ensures turn { IfOk result (λ went. IsTurn self.old went self.new) }
-        ensures memory { OnErr result (Keeps self.old self.new) }
+        ensures err { OnErr result (Keeps self.old self.new) }
         ensures later { LaterEditor self.old.editor self.new.editor }
         ensures desk { IsDesk self.new }
     {

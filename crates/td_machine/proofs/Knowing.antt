@@ -13,7 +13,7 @@ use Rattle.td_clock.proofs.VectorLemmas.{covered_dots}
 use Rattle.td_path.specs.declared.slot.Slot.{Slot}
 use Rattle.td_path.specs.declared.slot.Slot.TheVariants.{Root}
 use Rattle.td_path.specs.declared.slot_path.SlotPath.{SlotPath}
-use Rattle.td_path.specs.declared.slot_path.SlotPath.TheVariants.{Whole}
+use Rattle.td_path.specs.declared.slot_path.SlotPath.TheVariants.{Root as Whole}
 use Rattle.td_path.specs.SlotPaths.{slot_contains}
 use Rattle.td_op.specs.declared.body.Body.{Body}
 use Rattle.td_op.specs.declared.body.Body.TheVariants.{Insert, Delete, Propose, Commit, Abort}

@@ -11,7 +11,7 @@ use Rattle.td_path.specs.SlotPaths.{slot_contains, goes_on}
 use Rattle.td_path.specs.declared.slot.Slot.{Slot}
 use Rattle.td_path.specs.declared.slot.Slot.TheVariants.{Root, At}
 use Rattle.td_path.specs.declared.slot_path.SlotPath.{SlotPath}
-use Rattle.td_path.specs.declared.slot_path.SlotPath.TheVariants.{Whole, Below}
+use Rattle.td_path.specs.declared.slot_path.SlotPath.TheVariants.{Root as Whole, Below}
 use Rattle.td_doc.specs.Document.{DocRow, row_id, IsDocument, find_row, live_rows, has_id}
 use Rattle.td_doc.specs.Slots.{slot_path, rows_below, is_within, is_atom_within, contains_slot, overlaps}
 use Rattle.td_path.specs.Slot.{same_slot, is_root}

@@ -8,7 +8,7 @@ use Rattle.td_base.specs.Equality.{same_bit}
 use Rattle.td_path.specs.Infix.{Pair, Pairs, path_cmp}
 use Rattle.td_path.specs.SlotPaths.{goes_on, slot_contains, slot_contains_slot, slots_overlap}
 use Rattle.td_path.specs.declared.slot_path.SlotPath.{SlotPath}
-use Rattle.td_path.specs.declared.slot_path.SlotPath.TheVariants.{Whole, Below}
+use Rattle.td_path.specs.declared.slot_path.SlotPath.TheVariants.{Root as Whole, Below}
 use Rattle.td_base.proofs.Equals.{same_bit_true, same_bit_refl}
 use Rattle.td_path.proofs.InfixOrder.{same_pairs, same_pair_true, same_pair_refl}
 

@@ -7,7 +7,7 @@ use Rattle.td_base.specs.Value.{AtomIdValue}
 use Rattle.td_base.specs.Equality.{same_bit}
 use Rattle.td_path.specs.Infix.{Pairs, same_pair, path_cmp}
 use Rattle.td_path.specs.declared.slot_path.SlotPath.{SlotPath}
-use Rattle.td_path.specs.declared.slot_path.SlotPath.TheVariants.{Whole, Below}
+use Rattle.td_path.specs.declared.slot_path.SlotPath.TheVariants.{Root as Whole, Below}
 
 -- the path begins with the front, and goes on by the bit
 abbrev pub goes_on : Pairs → Bit → Pairs → Bool

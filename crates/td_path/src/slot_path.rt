@@ -8,7 +8,7 @@ use td_base::{AtomId, Bit};
 /// A slot by the path of its atom: the root, or one side of the node at the path.
 #[derive(Debug, Drop)]
 pub enum SlotPath {
-    Whole,
+    Root,
     Below { path: Path, bit: Bit },
 }
 
@@ -17,7 +17,7 @@ pub fn contains(slot: &SlotPath, path: &Path) -> bool
     ensures { result ≡ slot_contains slot.now path.now }
 {
     match slot {
-        SlotPath::Whole => true,
+        SlotPath::Root => true,
         SlotPath::Below { path: front, bit } => goes_on(front, *bit, path),
     }
 }
@@ -34,8 +34,8 @@ fn contains_slot(slot: &SlotPath, other: &SlotPath) -> bool
     ensures { result ≡ slot_contains_slot slot.now other.now }
 {
     match (slot, other) {
-        (SlotPath::Whole, _) => true,
-        (SlotPath::Below { .. }, SlotPath::Whole) => false,
+        (SlotPath::Root, _) => true,
+        (SlotPath::Below { .. }, SlotPath::Root) => false,
         (SlotPath::Below { path: front, bit }, SlotPath::Below { path, bit: side }) => {
             (infix(front, path).is_eq() && bit == side) || goes_on(front, *bit, path)
         }

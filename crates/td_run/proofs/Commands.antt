@@ -10,7 +10,7 @@ use Rattle.td_script.specs.Script.{AreCommands, IsCommand}
 use Rattle.td_script.specs.declared.command.Command.{Command}
 use Rattle.td_script.specs.declared.command.Command.TheVariants.{Sites, Ins, Paste, Del, Flat, Cancel, Give}
 use Rattle.td_script.specs.declared.command.Command.TheVariants.{GiveAll, Settle, Show, Tree, Count}
-use Rattle.td_script.specs.declared.command.Place.TheVariants.{Whole, Beside}
+use Rattle.td_script.specs.declared.command.Place.TheVariants.{Root, Beside}
 use Rattle.td_run.specs.Sites.{MayStand}
 
 -- ---- of a script
@@ -20,7 +20,7 @@ stands sites (Sites n) is = tt
 stands sites (Ins site index atoms) is = is.0.1
 stands sites (Paste site index atoms) is = (is.0.1, is.2.each)
 stands sites (Del site index count) is = is.0.1
-stands sites (Flat site Whole) is = is.1
+stands sites (Flat site Root) is = is.1
 stands sites (Flat site (Beside index bit)) is = is.0.1
 stands sites (Cancel site proposal) is = is.0.1
 stands sites (Give site number) is = is.0.1
@@ -53,7 +53,7 @@ stands_there (Sites n) is = tt
 stands_there (Ins site index atoms) is = is
 stands_there (Paste site index atoms) is = absurd is
 stands_there (Del site index count) is = is
-stands_there (Flat site Whole) is = is
+stands_there (Flat site Root) is = is
 stands_there (Flat site (Beside index bit)) is = absurd is
 stands_there (Cancel site proposal) is = absurd is
 stands_there (Give site number) is = absurd is

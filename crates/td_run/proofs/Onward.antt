@@ -25,7 +25,7 @@ use Rattle.td_script.specs.declared.command.Command.{Command}
 use Rattle.td_script.specs.declared.command.Command.TheVariants.{Sites, Ins, Paste, Del, Flat, Cancel, Give}
 use Rattle.td_script.specs.declared.command.Command.TheVariants.{GiveAll, Settle, Show, Tree, Count}
 use Rattle.td_script.specs.declared.command.Place.{Place}
-use Rattle.td_script.specs.declared.command.Place.TheVariants.{Whole, Beside}
+use Rattle.td_script.specs.declared.command.Place.TheVariants.{Root, Beside}
 use Rattle.td_script.specs.declared.script.Script.{Script}
 use Rattle.td_text.proofs.RunLemmas.{runs_are_runs}
 use Rattle.td_world.specs.World.{IsWorld, WorldValue, family_of, is_for, machine_of, moved}
@@ -101,7 +101,7 @@ dot_among w i d is =
     }
 
 proposal_is_asked : (place : Place) → IsRequest (proposal place)
-proposal_is_asked Whole = tt
+proposal_is_asked Root = tt
 proposal_is_asked (Beside index bit) = tt
 
 -- ---- messages that are given
@@ -228,11 +228,11 @@ goes_on_from old (Del site index count) i is = record {
   taken = refl;
   world = edits_lead site (deletes index count) old.world i is.0.0 is.0.1 (deletes_are_asked index count);
 }
-goes_on_from old (Flat site Whole) i is = record {
-  new = and_then old (flat site Whole old.world);
+goes_on_from old (Flat site Root) i is = record {
+  new = and_then old (flat site Root old.world);
   own = refl;
   taken = refl;
-  world = asked_world old.world site i is.0 is.1 (proposal Whole) (proposal_is_asked Whole);
+  world = asked_world old.world site i is.0 is.1 (proposal Root) (proposal_is_asked Root);
 }
 goes_on_from old (Flat site (Beside index bit)) i is = record {
   new = and_then old (flat site (Beside index bit) old.world);

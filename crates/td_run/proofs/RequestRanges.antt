@@ -20,7 +20,7 @@ use Rattle.td_op.specs.declared.reply.Reply.TheVariants.{Made, Cancelled, Held, 
 use Rattle.td_op.specs.declared.reply.Reply.TheVariants.{New, Later, Repeat, Unfit, Taken, Dropped, Idle}
 use Rattle.td_op.specs.declared.request.Request.{Request}
 use Rattle.td_script.specs.declared.command.Place.{Place}
-use Rattle.td_script.specs.declared.command.Place.TheVariants.{Whole, Beside}
+use Rattle.td_script.specs.declared.command.Place.TheVariants.{Root, Beside}
 use Rattle.td_script.specs.declared.live.editor_line.EditorLine.{EditorLine}
 use Rattle.td_script.specs.declared.live.editor_line.EditorLine.TheVariants as Line
 use Rattle.td_text.specs.Runs.{runs_of}
@@ -82,7 +82,7 @@ all_pasted index (run ∷ runs) h ask (inr i) = pasted_on run runs ask i
 
 -- the index that a line tells, or 0
 abbrev pub index_in : Place → ℕ
-index_in Whole = 0
+index_in Root = 0
 index_in (Beside index bit) = index
 
 abbrev pub index_of : EditorLine → ℕ
@@ -103,8 +103,8 @@ line_asks : (line : EditorLine) → FitsLine line → (ask : Ask) → In ask (as
 line_asks (Line.Ins index atoms) h ask i = all_typed index atoms (short index h) ask i
 line_asks (Line.Paste index atoms) h ask i = all_pasted index (runs_of atoms) (short index h) ask i
 line_asks (Line.Del index count) h ask i = replicated FitsAsk count _ (λ made. short index h) ask i
-line_asks (Line.Flat Whole) h ask (inl e) = subst FitsAsk (sym e) (λ made. tt)
-line_asks (Line.Flat Whole) h ask (inr i) = absurd i
+line_asks (Line.Flat Root) h ask (inl e) = subst FitsAsk (sym e) (λ made. tt)
+line_asks (Line.Flat Root) h ask (inr i) = absurd i
 line_asks (Line.Flat (Beside index bit)) h ask (inl e) = subst FitsAsk (sym e) (λ made. short index h)
 line_asks (Line.Flat (Beside index bit)) h ask (inr i) = absurd i
 line_asks (Line.Cancel p) h ask (inl e) = subst FitsAsk (sym e) (λ made. tt)

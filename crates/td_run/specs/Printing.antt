@@ -7,12 +7,12 @@ use Rattle.td_op.specs.declared.message.Message.{Message}
 use Rattle.td_op.specs.declared.request.Request.{Request}
 use Rattle.td_op.specs.declared.request.Request.TheVariants.{Propose, ProposeAt, Cancel as GiveUp}
 use Rattle.td_order.specs.Show.{show}
-use Rattle.td_path.specs.declared.slot.Slot.TheVariants.{Root}
+use Rattle.td_path.specs.declared.slot.Slot.TheVariants.{Root as RootSlot}
 use Rattle.td_script.specs.declared.command.Command.{Command}
 use Rattle.td_script.specs.declared.command.Command.TheVariants.{Sites, Ins, Paste, Del, Flat, Cancel, Give}
 use Rattle.td_script.specs.declared.command.Command.TheVariants.{GiveAll, Settle, Show, Tree, Count}
 use Rattle.td_script.specs.declared.command.Place.{Place}
-use Rattle.td_script.specs.declared.command.Place.TheVariants.{Whole, Beside}
+use Rattle.td_script.specs.declared.command.Place.TheVariants.{Root, Beside}
 use Rattle.td_script.specs.declared.script.Script.{Script}
 use Rattle.td_base.specs.Lists.{kth}
 use Rattle.td_report.specs.Replies.{ins_line, paste_line, del_line, flat_line, cancel_line, event_line}
@@ -72,7 +72,7 @@ del site index count w =
     line_and_events w asked.world (del_line site asked.done count asked.refused)
 
 abbrev pub proposal : Place → Request
-proposal Whole = Propose Root
+proposal Root = Propose RootSlot
 proposal (Beside index bit) = ProposeAt index bit
 
 abbrev pub flat : ℕ → Place → WorldValue → Printed

@@ -41,7 +41,7 @@ fn proposal(place: Place) -> Request
     ensures { result ≡ proposal place }
 {
     match place {
-        Place::Whole => Request::Propose { slot: Slot::Root },
+        Place::Root => Request::Propose { slot: Slot::Root },
         Place::Beside { index, bit } => Request::ProposeAt { index, bit },
     }
 }

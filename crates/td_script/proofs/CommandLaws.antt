@@ -5,7 +5,7 @@ use Rattle.td_script.specs.declared.command.Command.{Command}
 use Rattle.td_script.specs.declared.command.Command.TheVariants.{Ins, Paste, Del, Flat, Cancel, Give, GiveAll}
 use Rattle.td_script.specs.declared.command.Command.TheVariants.{Show, Tree, Count}
 use Rattle.td_script.specs.declared.command.Place.{Place}
-use Rattle.td_script.specs.declared.command.Place.TheVariants.{Whole, Beside}
+use Rattle.td_script.specs.declared.command.Place.TheVariants.{Root, Beside}
 use Rattle.td_script.specs.declared.word.Word.TheVariants.{AtSite}
 use Rattle.td_script.specs.declared.word.SiteWord.{SiteWord}
 use Rattle.td_script.specs.declared.word.SiteWord.TheVariants as At
@@ -59,7 +59,7 @@ del_back sites site rest c e =
     (λ s. (s, asked.fits.0, asked.fits.1)) refl
 
 flat_fits : (sites site : ℕ) (place : Place) → IsPlace place → IsSiteOf sites site → IsCommand sites (Flat site place)
-flat_fits sites site Whole h s = s
+flat_fits sites site Root h s = s
 flat_fits sites site (Beside index bit) h s = (s, h)
 
 flat_back : (sites site : ℕ) (rest : List ℕ) (c : Command) → site_command sites site At.Flat rest ≡ Ok c

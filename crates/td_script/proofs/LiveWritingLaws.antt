@@ -5,7 +5,7 @@ use Rattle.std.proofs.Common.{ap, subst, ◌∙◌, length-append, arith}
 use Rattle.std.proofs.lemmas.List.Elements.{All-nil, All-cons, All-head, All-tail, All-map}
 use Rattle.td_base.specs.declared.site.TheConstants.{MAX_SITE}
 use Rattle.td_script.specs.declared.command.Place.{Place}
-use Rattle.td_script.specs.declared.command.Place.TheVariants.{Whole, Beside}
+use Rattle.td_script.specs.declared.command.Place.TheVariants.{Root, Beside}
 use Rattle.td_script.specs.declared.live.command.LiveCommand.{LiveCommand}
 use Rattle.td_script.specs.declared.live.command.LiveCommand.TheVariants.{Sites, Turns, Loss, Editor, Line}
 use Rattle.td_script.specs.declared.live.editor_line.EditorLine.{EditorLine}
@@ -26,7 +26,7 @@ use Rattle.td_script.proofs.WritingLaws.{dot_clean, line_clean, spaced_clean}
 use Rattle.td_script.proofs.WritingLaws.{text_clean, text_line}
 
 place_clean : (place : Place) → IsPlace place → IsClean (spaced_place place)
-place_clean Whole h = by_test (codes " root") refl refl
+place_clean Root h = by_test (codes " root") refl refl
 place_clean (Beside index bit) h = both (spaced index) (spaced_bit bit) (spaced_clean index h) (bit_clean bit)
 
 editor_line_clean : (sites editor : ℕ) (line : EditorLine) → sites ≤ MAX_SITE → IsSiteOf MAX_SITE editor

@@ -15,7 +15,7 @@ use Rattle.td_base.specs.declared.bit.Bit.{Bit}
 use Rattle.td_base.specs.declared.bit.Bit.TheVariants.{Left, Right}
 use Rattle.td_base.specs.declared.site.TheConstants.{MAX_SITE}
 use Rattle.td_script.specs.declared.command.Place.{Place}
-use Rattle.td_script.specs.declared.command.Place.TheVariants.{Whole, Beside}
+use Rattle.td_script.specs.declared.command.Place.TheVariants.{Root, Beside}
 use Rattle.td_script.specs.declared.kind.Kind.{Kind}
 use Rattle.td_script.specs.declared.kind.Kind.TheVariants as Fault
 use Rattle.td_script.specs.Arguments.{by_word, with_rest, last, number_of, sites_of, dot_of, bit_of}
@@ -135,10 +135,10 @@ beside_back rest word left place begins e =
 
 place_word_back : (rest word left : List ℕ) (place : Place) (x : Bool) → rest ≡ 32 ∷ (word ++ left)
     → bytes_eq word (codes "root") ≡ x
-    → cond {A = Result Place Kind} x (last Whole left) (place_beside word left) ≡ Ok place
+    → cond {A = Result Place Kind} x (last Root left) (place_beside word left) ≡ Ok place
     → AreRead spaced_place IsPlace rest place
 place_word_back rest word left place true begins is e =
-    let end = last_back Whole place left e in
+    let end = last_back Root place left e in
     subst (AreRead spaced_place IsPlace rest) end.0
     (record { fits = tt; whole = fixed_word rest word left (codes "root") begins is end.1 })
 place_word_back rest word left place false begins is e = beside_back rest word left place begins e
@@ -218,17 +218,17 @@ beside_there index bit h = behind_there _ _ index (spaced_bit bit)
     (ap (with_rest (spaced_bit bit)) (number_of_decimal index h)) ∙ behind_there _ _ bit [] (bit_end bit)
 
 pub place_there : (place : Place) → IsPlace place → place_at (spaced_place place) ≡ Ok place
-place_there Whole h = refl
+place_there Root h = refl
 place_there (Beside index bit) h =
     behind_there _ place_of (decimal index) (spaced_bit bit)
     (word_at_there (decimal index) (spaced_bit bit) (form_of_decimal index h).some
     (decimal_lacks 32 index h (omega arith)) (bit_open bit))
-    ∙ cond-false {A = Result Place Kind} (bytes_eq (decimal index) (codes "root")) (last Whole (spaced_bit bit))
+    ∙ cond-false {A = Result Place Kind} (bytes_eq (decimal index) (codes "root")) (last Root (spaced_bit bit))
     (place_beside (decimal index) (spaced_bit bit)) (not_name index (codes "root") h refl)
     ∙ beside_there index bit h
 
 pub place_open : (place : Place) → IsOpen (spaced_place place)
-place_open Whole = refl
+place_open Root = refl
 place_open (Beside index bit) = refl
 
 pub proposal_there : (sites : ℕ) (d : DotValue) → sites ≤ MAX_SITE → IsDotOf sites d

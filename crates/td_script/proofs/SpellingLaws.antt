@@ -8,7 +8,7 @@ use Rattle.td_script.specs.declared.before.Before.{Before}
 use Rattle.td_script.specs.declared.command.Command.{Command}
 use Rattle.td_script.specs.declared.command.Command.TheVariants.{Sites, Ins, Paste, Del, Flat, Cancel, Give}
 use Rattle.td_script.specs.declared.command.Command.TheVariants.{GiveAll, Settle, Show, Tree, Count}
-use Rattle.td_script.specs.declared.command.Place.TheVariants.{Whole, Beside}
+use Rattle.td_script.specs.declared.command.Place.TheVariants.{Root, Beside}
 use Rattle.td_script.specs.declared.word.Word.{Word}
 use Rattle.td_script.specs.declared.word.Word.TheVariants as First
 use Rattle.td_script.specs.declared.word.SiteWord.{SiteWord}
@@ -83,9 +83,9 @@ line_there size before (Del site index count) few h =
     line_at_site size before At.Del (spaced site ++ (spaced index ++ spaced count)) _ _ refl
     (at_site size before At.Del site (spaced index ++ spaced count) (Del site index count) few h.0 refl
     (mapped_there _ _ (index, count) (two_numbers_there index count h.1 h.2)))
-line_there size before (Flat site Whole) few h =
+line_there size before (Flat site Root) few h =
     line_at_site size before At.Flat (spaced site ++ codes " root") _ _ refl
-    (at_site size before At.Flat site (codes " root") (Flat site Whole) few h refl refl)
+    (at_site size before At.Flat site (codes " root") (Flat site Root) few h refl refl)
 line_there size before (Flat site (Beside index bit)) few h =
     line_at_site size before At.Flat (spaced site ++ (spaced index ++ spaced_bit bit)) _ _ refl
     (at_site size before At.Flat site (spaced index ++ spaced_bit bit) (Flat site (Beside index bit)) few h.0 refl

@@ -18,7 +18,7 @@ use Rattle.td_base.specs.declared.site.TheConstants.{MAX_SITE}
 use Rattle.td_script.specs.declared.command.Command.{Command}
 use Rattle.td_script.specs.declared.command.Command.TheVariants.{Sites, Ins, Paste, Del, Flat, Cancel, Give}
 use Rattle.td_script.specs.declared.command.Command.TheVariants.{GiveAll, Settle, Show, Tree, Count}
-use Rattle.td_script.specs.declared.command.Place.TheVariants.{Whole, Beside}
+use Rattle.td_script.specs.declared.command.Place.TheVariants.{Root, Beside}
 use Rattle.std.specs.Char.{is_ascii_control}
 use Rattle.td_script.specs.Lines.{is_text_line}
 use Rattle.td_script.specs.Script.{IsClusters, IsCommand, IsDotOf, IsNumber, IsSiteOf, IsTextByte, IsWritable}
@@ -128,7 +128,7 @@ command_clean sites (Paste site index atoms) few h k =
 command_clean sites (Del site index count) few h k =
     line_clean (codes "del") sites site (spaced index ++ spaced count) refl refl few h.0
     (both (spaced index) (spaced count) (spaced_clean index h.1) (spaced_clean count h.2))
-command_clean sites (Flat site Whole) few h k =
+command_clean sites (Flat site Root) few h k =
     line_clean (codes "flat") sites site (codes " root") refl refl few h (by_test (codes " root") refl refl)
 command_clean sites (Flat site (Beside index bit)) few h k =
     line_clean (codes "flat") sites site (spaced index ++ spaced_bit bit) refl refl few h.0

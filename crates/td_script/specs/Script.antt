@@ -11,7 +11,7 @@ use Rattle.td_script.specs.declared.command.Command.{Command}
 use Rattle.td_script.specs.declared.command.Command.TheVariants.{Sites, Ins, Paste, Del, Flat, Cancel, Give}
 use Rattle.td_script.specs.declared.command.Command.TheVariants.{GiveAll, Settle, Show, Tree, Count}
 use Rattle.td_script.specs.declared.command.Place.{Place}
-use Rattle.td_script.specs.declared.command.Place.TheVariants.{Whole, Beside}
+use Rattle.td_script.specs.declared.command.Place.TheVariants.{Root, Beside}
 use Rattle.td_script.specs.declared.number.TheConstants.{MAX_DIGITS}
 use Rattle.td_script.specs.declared.before.TheConstants.{MAX_NARROW, MAX_FREE}
 use Rattle.td_script.specs.declared.script.Script.{Script}
@@ -40,7 +40,7 @@ pub record IsClusters (atoms : List (List ℕ)) : Type 0 where
 
 -- a place that can be written
 abbrev pub IsPlace : Place → Type 0
-IsPlace Whole = ⊤
+IsPlace Root = ⊤
 IsPlace (Beside index bit) = IsNumber index
 
 -- a command that a line behind `sites` can ask for, among so many sites
@@ -49,7 +49,7 @@ IsCommand sites (Sites n) = ⊥
 IsCommand sites (Ins site index atoms) = IsSiteOf sites site × IsNumber index × IsClusters atoms
 IsCommand sites (Paste site index atoms) = IsSiteOf sites site × IsNumber index × IsClusters atoms
 IsCommand sites (Del site index count) = IsSiteOf sites site × IsNumber index × IsNumber count
-IsCommand sites (Flat site Whole) = IsSiteOf sites site
+IsCommand sites (Flat site Root) = IsSiteOf sites site
 IsCommand sites (Flat site (Beside index bit)) = IsSiteOf sites site × IsNumber index
 IsCommand sites (Cancel site proposal) = IsSiteOf sites site × IsDotOf sites proposal
 IsCommand sites (Give site number) = IsSiteOf sites site × IsNumber number

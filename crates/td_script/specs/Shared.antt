@@ -3,7 +3,7 @@
 use Rattle.std.specs.Prelude.{ℕ, Bool, ◌&&◌, nat_lt, List, Result, Ok, Err, codes, bytes_eq, if◌then◌else◌}
 use Rattle.td_base.specs.Value.{DotValue}
 use Rattle.td_script.specs.declared.command.Place.{Place}
-use Rattle.td_script.specs.declared.command.Place.TheVariants.{Whole, Beside}
+use Rattle.td_script.specs.declared.command.Place.TheVariants.{Root, Beside}
 use Rattle.td_script.specs.declared.before.TheConstants.{MAX_NARROW}
 use Rattle.td_script.specs.declared.kind.Kind.{Kind}
 use Rattle.td_script.specs.declared.kind.Kind.TheVariants as Fault
@@ -43,7 +43,7 @@ place_beside word rest =
 
 -- `root`, or an index and a side
 abbrev pub place_of : List ℕ → List ℕ → Result Place Kind
-place_of word rest = if bytes_eq word (codes "root") then last Whole rest else place_beside word rest
+place_of word rest = if bytes_eq word (codes "root") then last Root rest else place_beside word rest
 
 abbrev pub place_at : List ℕ → Result Place Kind
 place_at rest = behind (word_at rest) place_of

@@ -9,7 +9,7 @@ use Rattle.td_script.specs.declared.command.Command.{Command}
 use Rattle.td_script.specs.declared.command.Command.TheVariants.{Sites, Ins, Paste, Del, Flat, Cancel, Give}
 use Rattle.td_script.specs.declared.command.Command.TheVariants.{GiveAll, Settle, Show, Tree, Count}
 use Rattle.td_script.specs.declared.command.Place.{Place}
-use Rattle.td_script.specs.declared.command.Place.TheVariants.{Whole, Beside}
+use Rattle.td_script.specs.declared.command.Place.TheVariants.{Root, Beside}
 use Rattle.td_script.specs.Characters.{space, point}
 use Rattle.td_script.specs.Texts.{quoted}
 
@@ -35,7 +35,7 @@ spaced_bit Right = codes " right"
 
 -- `root`, or an index and a side, behind a space
 abbrev pub spaced_place : Place → List ℕ
-spaced_place Whole = codes " root"
+spaced_place Root = codes " root"
 spaced_place (Beside index bit) = spaced index ++ spaced_bit bit
 
 abbrev pub line_of : Command → List ℕ

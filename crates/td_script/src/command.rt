@@ -65,7 +65,7 @@ pub enum Command {
 #[derive(Clone, Copy, Debug, PartialEq, Eq)]
 pub enum Place {
     /// `root`: the whole document.
-    Whole,
+    Root,
     /// The slot beside the atom at the index.
     Beside { index: u32, bit: Bit },
 }

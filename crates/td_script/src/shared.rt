@@ -52,7 +52,7 @@ pub(crate) fn place(rest: &str) -> Result<Place, Kind>
 {
     let (word, rest) = next_word(rest)?;
     match word {
-        "root" => last(Place::Whole, rest),
+        "root" => last(Place::Root, rest),
         _ => place_beside(word, rest),
     }
 }

@@ -6,7 +6,7 @@ use Rattle.td_base.specs.declared.bit.Bit.{Bit}
 use Rattle.td_base.specs.declared.bit.Bit.TheVariants.{Left, Right}
 use Rattle.td_path.specs.declared.slot.Slot.{Slot}
 use Rattle.td_path.specs.declared.slot.Slot.TheVariants.{Root, At}
-use Rattle.td_path.specs.declared.slot_path.SlotPath.TheVariants.{Whole}
+use Rattle.td_path.specs.declared.slot_path.SlotPath.TheVariants.{Root as Whole}
 use Rattle.td_doc.specs.Document.{live_rows}
 use Rattle.td_doc.specs.Array.{named, array}
 use Rattle.td_doc.proofs.SlotRows.{Split, split_flatten}

@@ -51,9 +51,9 @@ fn a_slot_contains_what_goes_on_by_its_bit(rt: HostRuntime) -> Result<(), Fail> 
     assert!(rt; contains(&left_slot, &left));
     assert!(rt; !contains(&left_slot, &node));
     assert!(rt; !contains(&right_slot, &left));
-    assert!(rt; contains(&SlotPath::Whole, &node));
+    assert!(rt; contains(&SlotPath::Root, &node));
     assert!(rt; !overlap(&left_slot, &right_slot));
-    assert!(rt; overlap(&left_slot, &SlotPath::Whole));
+    assert!(rt; overlap(&left_slot, &SlotPath::Root));
     Ok(())
 }
 

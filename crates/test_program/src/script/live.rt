@@ -176,7 +176,7 @@ fn each_line_stands_with_its_editor(rt: HostRuntime) -> Result<(), Fail> {
     assert_eq!(rt; homes.as_str(), "[Site { number: 2 }, Site { number: 3 }]");
     assert_eq!(rt;
         lines(rt.alloc(), &live)?.as_str(),
-        "[Look, Flat { place: Whole }, Cancel { proposal: Dot { site: Site { number: 3 }, seq: 9 } }]\n\
+        "[Look, Flat { place: Root }, Cancel { proposal: Dot { site: Site { number: 3 }, seq: 9 } }]\n\
          [Del { index: 7, count: 8 }, Flat { place: Beside { index: 4, bit: Right } }]\n"
     );
     Ok(())

@@ -128,7 +128,7 @@ fn each_command_is_read(rt: HostRuntime) -> Result<(), Fail> {
         ),
         (
             "flat 1 root",
-            "Flat { site: Site { number: 1 }, place: Whole }",
+            "Flat { site: Site { number: 1 }, place: Root }",
         ),
         (
             "flat 1 2 left",

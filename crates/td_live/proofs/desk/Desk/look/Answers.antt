@@ -10,8 +10,8 @@ use Rattle.td_live.specs.Desks.{DeskValue}
 use Rattle.td_live.proofs.Turns.{always_err, shown_reader, seen_rises, parts_reader, parts_looked, turn_looked}
 use Rattle.td_live.proofs.desk.Desk.look.Goals as goal
 
-pub returns-in_err-reserve-clause-memory : goal.returns-in_err-reserve-clause-memory
-returns-in_err-reserve-clause-memory c =
+pub returns-in_err-reserve-clause-err : goal.returns-in_err-reserve-clause-err
+returns-in_err-reserve-clause-err c =
     rw (← c.self.view_is)
     (always_err c.from_residual.result (record {
       stays = record { rest = LeadsStays; did = c.reserve.ensures.items };
@@ -41,8 +41,8 @@ invariant_of-self-in_err-upto c =
     (seen_rises d.editor.reader.seen c.look.new.self.reader.seen (publish_of s.0) s.2 s.4)
     c.reserve.ensures.items
 
-pub returns-in_err-upto-clause-memory : goal.returns-in_err-upto-clause-memory
-returns-in_err-upto-clause-memory c =
+pub returns-in_err-upto-clause-err : goal.returns-in_err-upto-clause-err
+returns-in_err-upto-clause-err c =
     rw (← c.self.view_is)
     (always_err c.from_residual-in_err-upto.result (record {
       stays = record { rest = LeadsStays; did = c.reserve.ensures.items };

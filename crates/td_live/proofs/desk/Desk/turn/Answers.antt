@@ -11,9 +11,9 @@ use Rattle.td_line.proofs.Editing.{later_editor_self}
 use Rattle.td_live.specs.declared.went.Went.TheVariants as Way
 use Rattle.td_live.proofs.desk.Desk.turn.Goals as goal
 
-pub returns-then-self-clause-memory : goal.returns-then-self-clause-memory
-returns-then-self-clause-memory g c =
-    on_err_weaker c.poll.result (keeps_same c.args.self.now c.poll.new.self) c.poll.ensures.memory
+pub returns-then-self-clause-err : goal.returns-then-self-clause-err
+returns-then-self-clause-err g c =
+    on_err_weaker c.poll.result (keeps_same c.args.self.now c.poll.new.self) c.poll.ensures.err
 
 pub returns-in-Ask-clause-turn : goal.returns-in-Ask-clause-turn
 returns-in-Ask-clause-turn g c =
@@ -67,8 +67,8 @@ returns-in-Look-clause-over g c =
     absurd (look_not_done c.next.new.self next.1.0 next.1.1
     (done_on (c.next.ensures.leads d.rest [] LeadsStays) refl at.done))
 
-pub returns-in-Look-clause-memory : goal.returns-in-Look-clause-memory
-returns-in-Look-clause-memory g c =
+pub returns-in-Look-clause-err : goal.returns-in-Look-clause-err
+returns-in-Look-clause-err g c =
     let d : DeskValue = record {
       editor = c.self.inside.editor;
       rest = c.self.inside.agenda;
@@ -77,7 +77,7 @@ returns-in-Look-clause-memory g c =
     rw (← c.self.view_is)
     (on_err_weaker c.look.result (keeps_begun d c.look.new.self c.next.new.self
     (c.next.ensures.leads d.rest [] LeadsStays))
-    c.look.ensures.memory)
+    c.look.ensures.err)
 
 pub returns-in-Over-clause-turn : goal.returns-in-Over-clause-turn
 returns-in-Over-clause-turn g c =
@@ -97,7 +97,7 @@ returns-in-Over-clause-turn g c =
 pub returns-then-self-clause-later : goal.returns-then-self-clause-later
 returns-then-self-clause-later g c =
     later_by c.args.self.now c.poll.new.self c.poll.result (subst IsDesk c.self.view_is c.self.invariant.desk)
-    c.poll.ensures.turn (returns-then-self-clause-memory g c) c.poll.ensures.later
+    c.poll.ensures.turn (returns-then-self-clause-err g c) c.poll.ensures.later
 
 pub returns-in-Ask-clause-later : goal.returns-in-Ask-clause-later
 returns-in-Ask-clause-later g c =
@@ -108,7 +108,7 @@ returns-in-Ask-clause-later g c =
 pub returns-in-Look-clause-later : goal.returns-in-Look-clause-later
 returns-in-Look-clause-later g c =
     later_by c.args.self.now c.look.new.self c.look.result (subst IsDesk c.self.view_is c.self.invariant.desk)
-    (returns-in-Look-clause-turn g c) (returns-in-Look-clause-memory g c)
+    (returns-in-Look-clause-turn g c) (returns-in-Look-clause-err g c)
     (subst (λ (d : DeskValue). LaterEditor d.editor c.look.new.self.editor) c.self.view_is c.look.ensures.later)
 
 pub returns-in-Over-clause-later : goal.returns-in-Over-clause-later
