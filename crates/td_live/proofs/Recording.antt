@@ -9,7 +9,8 @@ use Rattle.td_op.specs.declared.request.Request.{Request}
 use Rattle.td_doc.specs.Document.{text_of}
 use Rattle.td_machine.specs.Machine.{start}
 use Rattle.td_machine.specs.History.{Family, History, history, after}
-use Rattle.td_site.proofs.Lists.{prefix_self, prefix_then, take_more}
+use Rattle.std.proofs.lemmas.List.{take-append-le}
+use Rattle.td_site.proofs.Lists.{prefix_self, prefix_then}
 use Rattle.td_line.specs.Calls.{entry_at}
 use Rattle.td_line.proofs.Calling.{entry_more}
 use Rattle.td_script.specs.declared.live.editor_line.EditorLine.{EditorLine}
@@ -107,7 +108,7 @@ module _ (old new : Family) (g : IsGrown old new) (site : ℕ) (some : 0 < site)
   pub text_same : (k : ℕ) → k ≤ length before → text_past old site k ≡ text_past new site k
   text_same k few =
       let same : take k (history old site) ≡ take k (history new site) =
-      sym (take_more k (history old site) goes_on.0 few) ∙ ap (take k) goes_on.1 in
+      sym (take-append-le k (history old site) goes_on.0 few) ∙ ap (take k) goes_on.1 in
       ap (λ (x : ℕ × History). text_of (after (start site x.0) x.1).doc) (λ i. (sym g.size i, same i))
 
   pub did_grown : (s : Sofar) (did : List Did) → AreDid (traced_history (history old site)) (text_past old site) s did

@@ -8,7 +8,7 @@ use Rattle.td_op.specs.declared.request.Request.{Request}
 use Rattle.td_doc.specs.Document.{text_of}
 use Rattle.td_machine.specs.Machine.{Machine, start}
 use Rattle.td_machine.specs.History.{History, history, machine, after}
-use Rattle.td_site.proofs.Lists.{take_all}
+use Rattle.std.proofs.Math.Seq.{take-length}
 use Rattle.td_script.specs.declared.live.editor_line.EditorLine.{EditorLine}
 use Rattle.td_script.specs.declared.live.editor_line.EditorLine.TheVariants.{Look as LookLine}
 use Rattle.td_script.specs.LiveScript.{calls}
@@ -60,7 +60,7 @@ looked_home w i b upto text some within next shows at =
     let long : upto ≡ length (history (family_of w) b.home) =
     at ∙ sym (ap (λ (h : History). length h) (history_of w b.home)) in
     let whole : take upto (history (family_of w) b.home) ≡ history (family_of w) b.home =
-    ap (λ (n : ℕ). take n (history (family_of w) b.home)) long ∙ take_all (history (family_of w) b.home) in
+    ap (λ (n : ℕ). take n (history (family_of w) b.home)) long ∙ take-length (history (family_of w) b.home) in
     further_look (family_of w) b upto text some long
     (shows ∙ ap (λ (m : Machine). text_of m.doc) (i.machines b.home some within)
     ∙ ap (λ (h : History). text_of (after (start b.home (length (family_of w))) h).doc) (sym whole))

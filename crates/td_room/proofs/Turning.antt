@@ -20,7 +20,8 @@ use Rattle.td_room.specs.Turns.{NotMadeThen, HeardPeer, ToldPeer, GivenPeer, Exc
 use Rattle.td_room.specs.Turns.{IsCaughtUp, TurnedLine, TurnedWorker}
 use Rattle.td_room.specs.Workers.{WorkerValue}
 use Rattle.td_line.specs.Lines.{LineValue}
-use Rattle.td_site.proofs.Lists.{take_more, take_all}
+use Rattle.std.proofs.lemmas.List.{take-append-le}
+use Rattle.std.proofs.Math.Seq.{take-length}
 use Rattle.td_room.proofs.Walks.{zip_then, zip_on}
 
 longer : {X : Type 0} (xs ys : List X) → IsPrefix xs ys → length xs ≤ length ys
@@ -33,7 +34,7 @@ pub not_made_now : (r s : ReplicaValue) (known : ℕ) → IsPrefix r.entries s.e
     → NotMadeThen r s known
 not_made_now r s known grown i h =
     let e : machine_then s.machine.site s.machine.size s.entries (length s.entries) ≡ s.machine =
-    ap (λ (l : History). after (start s.machine.site s.machine.size) l) (take_all s.entries) ∙ sym i.is in
+    ap (λ (l : History). after (start s.machine.site s.machine.size) l) (take-length s.entries) ∙ sym i.is in
     record {
       upto = length s.entries;
       from = longer r.entries s.entries grown;
@@ -46,7 +47,7 @@ pub not_made_on : (r s t : ReplicaValue) (known : ℕ) → IsPrefix s.entries t.
 not_made_on r s t known grown site size h =
     let n = longer s.entries t.entries grown in
     let front : take h.upto t.entries ≡ take h.upto s.entries =
-    ap (λ (l : History). take h.upto l) (sym grown.1) ∙ take_more h.upto s.entries grown.0 h.to in
+    ap (λ (l : History). take h.upto l) (sym grown.1) ∙ take-append-le h.upto s.entries grown.0 h.to in
     record {
       upto = h.upto;
       from = h.from;

@@ -5,7 +5,8 @@ use Rattle.std.specs.Prelude.{All}
 use Rattle.std.proofs.lemmas.List.{append-nil, append_assoc, length-map}
 use Rattle.std.proofs.lemmas.List.Elements.{All-cons, All-head, All-nil, All-tail, All-weaker}
 use Rattle.td_base.specs.Atom.{IsAtom}
-use Rattle.td_base.specs.Lists.{In}
+use Rattle.td_base.specs.Lists.{In, kth}
+use Rattle.td_op.specs.Message.{is_for}
 use Rattle.td_base.specs.Run.{IsRun}
 use Rattle.td_base.specs.Value.{DotValue, IsDot}
 use Rattle.td_base.specs.declared.site.TheConstants.{MAX_SITE}
@@ -14,7 +15,6 @@ use Rattle.td_op.specs.declared.input.Input.TheVariants.{Take, Next}
 use Rattle.td_op.specs.declared.message.Message.{Message}
 use Rattle.td_op.specs.declared.reply.Reply.{Reply}
 use Rattle.td_op.specs.declared.request.Request.TheVariants.{Cancel as GiveUp, Delete}
-use Rattle.td_history.specs.Past.{kth}
 use Rattle.td_replica.specs.Replica.{ReplicaValue, has_ready}
 use Rattle.td_report.specs.Given.{settle_line}
 use Rattle.td_report.specs.Numbers.{count_line}
@@ -28,7 +28,7 @@ use Rattle.td_script.specs.declared.command.Place.{Place}
 use Rattle.td_script.specs.declared.command.Place.TheVariants.{Root, Beside}
 use Rattle.td_script.specs.declared.script.Script.{Script}
 use Rattle.td_text.proofs.RunLemmas.{runs_are_runs}
-use Rattle.td_world.specs.World.{IsWorld, WorldValue, family_of, is_for, machine_of, moved}
+use Rattle.td_world.specs.World.{IsWorld, WorldValue, family_of, machine_of, moved}
 use Rattle.td_world.specs.World.{moved_all, new_world, reply_to, size}
 use Rattle.td_world.specs.Calls.{ask, count_given, found_moves, give_moves}
 use Rattle.td_world.specs.Calls.{next, nexts, passes, take, wanted_moves}
