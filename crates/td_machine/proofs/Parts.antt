@@ -9,7 +9,8 @@ use Rattle.td_op.specs.Op.{OpValue}
 use Rattle.td_doc.specs.Document.{DocRow}
 use Rattle.td_machine.specs.Machine.{Machine, start, next_op}
 use Rattle.td_machine.specs.Making.{effect}
-use Rattle.td_machine.specs.Parts.{MayMake, IsFit, Part, Makes, Proposes, Takes, Agrees, Declines, IsBuilt, Begins, Goes}
+use Rattle.td_machine.specs.Parts.{MayMake, IsFit, Part, Makes, Proposes, Takes, Agrees}
+use Rattle.td_machine.specs.Parts.{Declines, IsBuilt, Begins, Goes}
 
 -- an operation that is made or taken
 pub data IsDone (Came : Message → Type 0) (m : Machine) : OpValue → Type 0 where

@@ -1,4 +1,5 @@
-use Rattle.std.proofs.Common.{rules, ◌≡◌, ◌<◌, ◌≤◌, ◌+◌, ◌-◌, ◌++◌, [], ◌∷◌, length, Some, sym, ap, subst, refl, ◌∙◌, leb, arith, List}
+use Rattle.std.proofs.Common.{rules, ◌≡◌, ◌<◌, ◌≤◌, ◌+◌, ◌-◌, ◌++◌, [], ◌∷◌, length, Some}
+use Rattle.std.proofs.Common.{sym, ap, subst, refl, ◌∙◌, leb, arith, List}
 use Rattle.td_history.proofs.EntryRuns.{start_below, next_of_last}
 use Rattle.td_history.proofs.entry_runs.goes_on.Goals as goal
 

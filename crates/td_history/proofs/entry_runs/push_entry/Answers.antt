@@ -1,4 +1,5 @@
-use Rattle.std.proofs.Common.{rules, ◌≡◌, ◌<◌, ◌≤◌, ◌+◌, ◌-◌, ◌++◌, [], ◌∷◌, length, Some, sym, ap, subst, refl, ◌∙◌, leb, arith, List}
+use Rattle.std.proofs.Common.{rules, ◌≡◌, ◌<◌, ◌≤◌, ◌+◌, ◌-◌, ◌++◌, [], ◌∷◌, length, Some}
+use Rattle.std.proofs.Common.{sym, ap, subst, refl, ◌∙◌, leb, arith, List}
 use Rattle.td_history.specs.declared.entry_runs.EntryRun.{EntryRun}
 use Rattle.td_history.specs.EntryRuns.{IsNextOfRun}
 use Rattle.td_history.proofs.EntryRuns.{run_put, put_runs, run_on, on_runs}

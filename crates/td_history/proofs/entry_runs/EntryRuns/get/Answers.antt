@@ -1,4 +1,5 @@
-use Rattle.std.proofs.Common.{rules, ◌≡◌, ◌<◌, ◌≤◌, ◌+◌, ◌-◌, ◌++◌, [], ◌∷◌, length, Some, sym, ap, subst, refl, ◌∙◌, leb, arith, List}
+use Rattle.std.proofs.Common.{rules, ◌≡◌, ◌<◌, ◌≤◌, ◌+◌, ◌-◌, ◌++◌, [], ◌∷◌, length, Some}
+use Rattle.std.proofs.Common.{sym, ap, subst, refl, ◌∙◌, leb, arith, List}
 use Rattle.std.proofs.Common.{None}
 use Rattle.std.proofs.lemmas.Option.{slice_get_past}
 use Rattle.td_history.specs.EntryRuns.{EntryRunsValue, entries_in}

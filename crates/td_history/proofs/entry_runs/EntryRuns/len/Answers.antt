@@ -1,4 +1,5 @@
-use Rattle.std.proofs.Common.{rules, ◌≡◌, ◌<◌, ◌≤◌, ◌+◌, ◌-◌, ◌++◌, [], ◌∷◌, length, Some, sym, ap, subst, refl, ◌∙◌, leb, arith, List}
+use Rattle.std.proofs.Common.{rules, ◌≡◌, ◌<◌, ◌≤◌, ◌+◌, ◌-◌, ◌++◌, [], ◌∷◌, length, Some}
+use Rattle.std.proofs.Common.{sym, ap, subst, refl, ◌∙◌, leb, arith, List}
 use Rattle.td_history.specs.EntryRuns.{EntryRunsValue}
 use Rattle.td_history.proofs.EntryRuns.{entries_len}
 use Rattle.td_history.proofs.entry_runs.EntryRuns.len.Goals as goal

@@ -1,0 +1,9 @@
+pub mod Stable
+pub mod Unknown
+pub mod Candidate
+pub mod Best
+pub mod Certificate
+pub mod Walk
+pub mod Kept
+pub mod Against
+pub mod Examples
