@@ -1,0 +1,9 @@
+pub mod Mark
+pub mod Marks
+pub mod Making
+pub mod Taking
+pub mod Text
+pub mod Index
+pub mod MarksParts
+pub mod Laws
+pub mod Examples
