@@ -32,7 +32,7 @@ use Rattle.td_op.specs.Insertion.{Inserts, insertion_by, ids_of}
 use Rattle.td_op.proofs.InsertionLemmas.{inserted_dot}
 use Rattle.td_op.specs.Input.{IsInput, IsRequest}
 use Rattle.td_op.specs.Message.{IsOpValue, IsBody}
-use Rattle.td_doc.specs.Document.{live_id_at}
+use Rattle.td_doc.specs.Document.{DocRow, live_id_at, row_id}
 use Rattle.td_doc.specs.Answers.{is_live_id, is_rooted}
 use Rattle.td_machine.specs.Counts.{counts, IsInTurn}
 use Rattle.td_machine.specs.Decision.{Ballot, is_on, is_open, outcome, new_ballot, counted as counted_vote, revise}
@@ -48,7 +48,7 @@ use Rattle.td_machine.proofs.Walk.{offered}
 use Rattle.td_machine.proofs.Turns.{counted, by_each, length_counts}
 use Rattle.td_machine.proofs.Counting.{older_in_turn}
 use Rattle.td_machine.proofs.Induction.{IsBuiltSomewhere, built_of, by_steps}
-use Rattle.td_machine.proofs.Naming.{sound, names}
+use Rattle.td_machine.proofs.Naming.{atoms, sound, names}
 use Rattle.td_machine.proofs.OwnProposals.{open_proposed, proposal_in}
 use Rattle.td_machine.proofs.Ballots.{find_ballot}
 use Rattle.td_machine.proofs.Reached.{of_sites, room_of}
@@ -367,3 +367,8 @@ module _ (m : Machine) (r : IsReached m) where
 
   pub values_of : (x : OpValue) → In x m.log → IsOpValue x
   values_of x i = all_valid m.log [] refl x i
+
+  -- the identity of each row is a value
+  pub row_ids_of : (r : DocRow) → In r m.doc → IsAtomId (row_id r)
+  row_ids_of r i =
+      let y = atoms m b.built r i in inserted_valid y.0 (row_id r) y.2 (values_of y.0 y.1)

@@ -91,7 +91,7 @@ own_full (Abort p) m may slot run e = absurd cc
 
 module _ {Came : Message → Type 0} {site size : ℕ} where
   -- each row is of an insert in the log
-  atoms : (m : Machine) → IsBuilt Came site size m → (r : DocRow) → In r m.doc → IsInserted m.log (row_id r)
+  pub atoms : (m : Machine) → IsBuilt Came site size m → (r : DocRow) → In r m.doc → IsInserted m.log (row_id r)
   atoms =
       by_operations (λ s n doc have log. (r : DocRow) → In r doc → IsInserted log (row_id r))
       (λ some within r i. absurd i)
