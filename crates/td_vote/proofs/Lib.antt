@@ -1,4 +1,5 @@
 pub mod Commits
 pub mod Placing
-pub mod PassedOver
+pub mod Unseen
+pub mod BySite
 pub mod Newest

@@ -1,6 +1,6 @@
 -- Where a commit is put among those in order, and that they stay in order.
-use Rattle.std.proofs.Common.{◌≡◌, ◌≤◌, ℕ, zero, suc, List, [], ◌∷◌, Bool, true, false}
-use Rattle.std.proofs.Common.{if◌then◌else◌, length, refl, sym, ◌∙◌, arith, true≢false}
+use Rattle.std.proofs.Common.{◌≡◌, ◌<◌, ◌≤◌, ℕ, zero, suc, List, [], ◌∷◌, ◌++◌, Bool, true, false, inl, inr}
+use Rattle.std.proofs.Common.{if◌then◌else◌, length, refl, sym, ap, ◌∙◌, arith, true≢false}
 use Rattle.std.proofs.lemmas.List.Sorted.{ranks_by}
 use Rattle.std.specs.Cmp.{IsStrictWeakOrder}
 use Rattle.std.specs.Prelude.{insert}
@@ -8,11 +8,12 @@ use Rattle.std.specs.List.{AllByRecursion}
 use Rattle.std.specs.List.Sorted.{IsPartitionedBy, IsPartitionPoint}
 use Rattle.td_base.specs.Value.{DotValue}
 use Rattle.td_base.specs.Order.{dot_lt}
+use Rattle.td_base.specs.Lists.{In}
 use Rattle.td_base.proofs.Lists.{all_in, all_of, successive_imp}
-use Rattle.td_base.proofs.Orders.{dot_total}
+use Rattle.td_base.proofs.Orders.{dot_total, dot_lt_from}
 use Rattle.td_base.proofs.Searches.{passing_first}
 use Rattle.td_machine.specs.Log.{Committed}
-use Rattle.td_vote.specs.Commits.{put_commit, AtMost, InOrder}
+use Rattle.td_vote.specs.Commits.{put_commit, AtMost, InOrder, IsOfSite}
 
 dots_rank : IsStrictWeakOrder dot_lt
 dots_rank = ranks_by dot_total (λ (d : DotValue). d)
@@ -55,7 +56,7 @@ module _ (P : Committed → Type 0) where
   all_put_at c d commits true h k rest put = (k, put)
   all_put_at c d commits false h k rest put = (h, (k, rest))
 
-  all_put : (c : Committed) (commits : List Committed) → P c → AllByRecursion P commits
+  pub all_put : (c : Committed) (commits : List Committed) → P c → AllByRecursion P commits
       → AllByRecursion P (put_commit c commits)
   all_put c [] h rest = (h, tt)
   all_put c (d ∷ commits) h rest =
@@ -77,3 +78,44 @@ pub put_in_order : (c : Committed) (commits : List Committed) → InOrder commit
 put_in_order c [] order = (tt, tt)
 put_in_order c (d ∷ commits) order =
     put_in_order_at c d commits (dot_lt d.dot c.dot) refl order (put_in_order c commits order.1)
+
+pub put_of_site : (c : Committed) (commits : List Committed) (site : ℕ) → c.dot.site ≡ site → IsOfSite site commits
+    → IsOfSite site (put_commit c commits)
+put_of_site c commits site here of = record {
+  one = all_put (λ (d : Committed). d.dot.site ≡ site) c commits here of.one;
+  order = put_in_order c commits of.order;
+}
+
+-- ---- where others stand before or behind
+
+pub smaller_site : (c d : Committed) → c.dot.site < d.dot.site → dot_lt c.dot d.dot ≡ true
+smaller_site c d lt = dot_lt_from c.dot d.dot (inl lt)
+
+pub not_greater : (c d : Committed) → c.dot.site < d.dot.site → AtMost c d
+not_greater c d lt = dots_rank.one_way c.dot d.dot (smaller_site c d lt)
+
+-- behind it stand those that are no smaller
+put_front_at : (c x : Committed) (xs ys : List Committed) (b : Bool)
+    → put_commit c (xs ++ ys) ≡ put_commit c xs ++ ys
+    → (if b then x ∷ put_commit c (xs ++ ys) else c ∷ x ∷ xs ++ ys)
+    ≡ (if b then x ∷ put_commit c xs else c ∷ x ∷ xs) ++ ys
+put_front_at c x xs ys true h = ap (λ (q : List Committed). x ∷ q) h
+put_front_at c x xs ys false h = refl
+
+put_first : (c : Committed) (ys : List Committed) → ((y : Committed) → In y ys → AtMost c y)
+    → put_commit c ys ≡ c ∷ ys
+put_first c [] h = refl
+put_first c (y ∷ ys) h = rw (h y (inl refl)) refl
+
+pub put_front : (c : Committed) (xs ys : List Committed) → ((y : Committed) → In y ys → AtMost c y)
+    → put_commit c (xs ++ ys) ≡ put_commit c xs ++ ys
+put_front c [] ys h = put_first c ys h
+put_front c (x ∷ xs) ys h = put_front_at c x xs ys (dot_lt x.dot c.dot) (put_front c xs ys h)
+
+-- before it stand those that are smaller
+pub put_behind : (c : Committed) (xs ys : List Committed)
+    → ((x : Committed) → In x xs → dot_lt x.dot c.dot ≡ true) → put_commit c (xs ++ ys) ≡ xs ++ put_commit c ys
+put_behind c [] ys h = refl
+put_behind c (x ∷ xs) ys h =
+    let rest = put_behind c xs ys (λ y i. h y (inr i)) in
+    rw (h x (inl refl)) (ap (λ (q : List Committed). x ∷ q) rest)

@@ -1,3 +1,4 @@
 pub mod Commits
+pub mod BySite
 pub mod Holds
 pub mod HoldsParts

@@ -6,7 +6,7 @@ ghost use Rattle.td_machine.specs.Log.{commit_at};
 ghost use Rattle.td_machine.specs.Vote.{votes_yes};
 ghost use Rattle.td_vote.specs.Commits.{put_commit};
 
-use crate::committed::{Committed, all_apart, place_of};
+use crate::by_site::Commits;
 use crate::held::{Held, any_overlaps, has_proposal, least_held};
 use crate::room::make_room;
 use crate::slots::{is_known, is_rooted, overlap};
@@ -26,20 +26,19 @@ const MAX_HOLDS: usize = u32::MAX as usize;
 pub struct Holds {
     // the newest at the end
     holds: Vec<Held>,
-    // in the order of their dots
-    commits: Vec<Committed>,
+    commits: Commits,
 }
 
 impl Model for Holds {
     ghost use Rattle.td_vote.specs.Holds.{HoldsValue};
-    ghost use Rattle.td_vote.specs.HoldsParts.{IsHoldsParts, holds_of};
-    ghost use Rattle.std.specs.Prelude.{vec_len, vec_capacity};
+    ghost use Rattle.td_vote.specs.HoldsParts.{holds_of};
+    ghost use Rattle.std.specs.Prelude.{◌<◌, ◌^◌, length, vec_capacity};
 
     ghost Value = { HoldsValue };
 
-    ghost view = { λ a. holds_of a.holds.items (vec_capacity a.holds) a.commits.items (vec_capacity a.commits) };
+    ghost view = { λ a. holds_of a.holds.items (vec_capacity a.holds) a.commits };
 
-    ghost invariant = { λ a. IsHoldsParts a.holds.items a.commits.items };
+    ghost invariant = { λ a. length a.holds.items < 2 ^ 32 };
 }
 
 impl Holds {
@@ -49,7 +48,7 @@ impl Holds {
     {
         Holds {
             holds: Vec::new(alloc),
-            commits: Vec::new(alloc),
+            commits: Commits::new(alloc),
         }
     }
 
@@ -64,7 +63,7 @@ impl Holds {
         is_rooted(doc, &slot)
             && is_known(doc, have, &slot, v)
             && !any_overlaps(&self.holds, doc, &slot)
-            && all_apart(&self.commits, doc, &slot, v)
+            && self.commits.all_apart(doc, &slot, v)
     }
 
     /// Makes a place for one hold and for one commit more, where there is none.
@@ -79,7 +78,7 @@ impl Holds {
             return Err(Memory);
         }
         make_room(&mut self.holds)?;
-        make_room(&mut self.commits)
+        self.commits.reserve()
     }
 
     /// Holds the slot for the proposal. `Memory` comes only where there was no place, as where `u32::MAX` are held.
@@ -111,7 +110,6 @@ impl Holds {
     }
 
     /// Knows one commit more, by its own dot, with the slot of its proposal.
-    #[tactic(auto, using(crate::proofs::Placing::put_in_order))]
     pub fn committed(&mut self, commit: Dot, slot: Slot) -> Result<(), Memory>
         ensures ok { OnOk result (self.new.commits ≡ put_commit (commit_at commit slot) self.old.commits) }
         ensures err { OnErr result (self.new.commits ≡ self.old.commits) }
@@ -120,9 +118,7 @@ impl Holds {
         ensures place { 0 < self.old.commit_places → self.new.commit_places + 1 ≡ self.old.commit_places }
         ensures hold_places { self.new.hold_places ≡ self.old.hold_places }
     {
-        let place = place_of(&self.commits, commit);
-        self.commits.insert(place, Committed { dot: commit, slot })?;
-        Ok(())
+        self.commits.put(commit, slot)
     }
 
     /// The least proposal whose held slot contains the slot.

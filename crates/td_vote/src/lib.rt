@@ -7,11 +7,13 @@
 //! one.
 #![tactic(auto)]
 
+mod by_site;
 mod committed;
 mod held;
 mod holds;
 mod laws;
 mod room;
+mod site_commits;
 mod slots;
 
 pub use holds::Holds;
