@@ -1,11 +1,11 @@
 -- Each argument: its spelling is read as its value, and what is read is its spelling.
 use Rattle.std.proofs.Common.{◌≡◌, ◌≢◌, ◌<◌, ◌≤◌, ◌^◌, ℕ, Bool, true, false, cond, eqb, List, [], ◌∷◌, ◌++◌}
-use Rattle.std.proofs.Common.{get_or, codes, Option, Some, None, Result, Ok, Err, refl, ap, subst, ◌∙◌, bytes_eq}
+use Rattle.std.proofs.Common.{get_or, codes, Option, Some, None, Result, Ok, Err, refl, ap, subst, ◌∙◌, bytes_eq, ltb}
 use Rattle.std.proofs.Common.{length-append, arith}
 use Rattle.std.specs.Fmt.{decimal}
 use Rattle.std.specs.Int.{is_in_range, IsInRange}
 use Rattle.std.proofs.lemmas.Option.{none-some, same_Some}
-use Rattle.std.proofs.lemmas.Bool.{eqb-true}
+use Rattle.std.proofs.lemmas.Bool.{eqb-true, ltb-true, lt-ltb}
 use Rattle.std.proofs.lemmas.List.{get_or_default}
 use Rattle.std.proofs.lemmas.List.Elements.{All-append}
 use Rattle.std.proofs.lemmas.Slice.Eq.{bytes_eq-Decides}
@@ -14,9 +14,10 @@ use Rattle.td_base.specs.declared.bit.Bit.{Bit}
 use Rattle.td_base.specs.declared.bit.Bit.TheVariants.{Left, Right}
 use Rattle.td_base.specs.declared.dot.TheConstants.{MAX_SEQ}
 use Rattle.td_base.specs.declared.site.TheConstants.{MAX_SITE}
+use Rattle.td_marks.specs.declared.mark_op.TheConstants.{NAMES}
 use Rattle.td_script.specs.declared.kind.Kind.{Kind}
 use Rattle.td_script.specs.declared.kind.Kind.TheVariants as Fault
-use Rattle.td_script.specs.Arguments.{tested, by_word, number_of, site_of, sites_of, dot_of, dot_of_parts}
+use Rattle.td_script.specs.Arguments.{tested, by_word, name_of, number_of, site_of, sites_of, dot_of, dot_of_parts}
 use Rattle.td_script.specs.Arguments.{dot_of_numbers, cut_dot, onto_part, bit_of}
 use Rattle.td_script.specs.Script.{IsNumber, IsSiteOf, IsDotOf}
 use Rattle.td_script.specs.Spelling.{spaced, spaced_dot, spaced_bit}
@@ -113,6 +114,17 @@ pub sites_at_back : (bytes : List ℕ) (n : ℕ) (rest : List ℕ) → by_word s
     → IsArgument spaced (IsSiteOf MAX_SITE) bytes n rest
 sites_at_back bytes n rest e = tested_at_back (is_in_range 1 MAX_SITE) Fault.Sites (IsSiteOf MAX_SITE)
     (range_in 1 MAX_SITE) bytes n rest e
+
+-- the name of a mark
+pub name_at_there : (name : ℕ) (rest : List ℕ) → name < NAMES → IsOpen rest
+    → by_word name_of (spaced name ++ rest) ≡ Ok (name, rest)
+name_at_there name rest h free = tested_at_there (λ n. ltb n NAMES) Fault.Number name rest (omega (arith, h))
+    (lt-ltb name NAMES h) free
+
+pub name_at_back : (bytes : List ℕ) (name : ℕ) (rest : List ℕ) → by_word name_of bytes ≡ Ok (name, rest)
+    → IsArgument spaced (λ n. n < NAMES) bytes name rest
+name_at_back bytes name rest e = tested_at_back (λ n. ltb n NAMES) Fault.Number (λ n. n < NAMES)
+    (λ n. ltb-true n NAMES) bytes name rest e
 
 -- a dot
 pub dot_at_there : (sites : ℕ) (d : DotValue) (rest : List ℕ) → sites ≤ MAX_SITE → IsDotOf sites d → IsOpen rest

@@ -19,8 +19,9 @@ use Rattle.td_base.specs.declared.site.TheConstants.{MAX_SITE}
 use Rattle.unicode_segmentation.proofs.TextLemmas.{IsUtf8-after}
 use Rattle.td_script.specs.declared.before.Before.{Before}
 use Rattle.td_script.specs.declared.command.Command.{Command}
-use Rattle.td_script.specs.declared.command.Command.TheVariants.{Sites, Ins, Paste, Del, Flat, Cancel, Give}
+use Rattle.td_script.specs.declared.command.Command.TheVariants.{Sites, Ins, Paste, Del, Flat, FlatAuto, Cancel, Give}
 use Rattle.td_script.specs.declared.command.Command.TheVariants.{GiveAll, Settle, Show, Tree, Count}
+use Rattle.td_script.specs.declared.command.Command.TheVariants.{Mark, Meet, Marks}
 use Rattle.td_script.specs.declared.kind.Kind.{Kind}
 use Rattle.td_script.specs.declared.kind.Kind.TheVariants as Fault
 use Rattle.td_script.specs.declared.word.Word.{Word}
@@ -91,6 +92,10 @@ site_spelling_ascii At.Give = refl
 site_spelling_ascii At.Show = refl
 site_spelling_ascii At.Tree = refl
 site_spelling_ascii At.Count = refl
+site_spelling_ascii At.Mark = refl
+site_spelling_ascii At.Unmark = refl
+site_spelling_ascii At.Meet = refl
+site_spelling_ascii At.Marks = refl
 
 spelling_utf8 : (word : Word) → IsUtf8 (spelling word)
 spelling_utf8 First.Sites = ascii_by_test (codes "sites") refl
@@ -107,6 +112,10 @@ site_word_named At.Give = refl
 site_word_named At.Show = refl
 site_word_named At.Tree = refl
 site_word_named At.Count = refl
+site_word_named At.Mark = refl
+site_word_named At.Unmark = refl
+site_word_named At.Meet = refl
+site_word_named At.Marks = refl
 
 named_there : (word : Word) → word_named (spelling word) ≡ Some word
 named_there First.Sites = refl
@@ -243,6 +252,7 @@ spoken (Ins site index atoms) = refl
 spoken (Paste site index atoms) = refl
 spoken (Del site index count) = refl
 spoken (Flat site place) = refl
+spoken (FlatAuto site) = refl
 spoken (Cancel site proposal) = refl
 spoken (Give site number) = refl
 spoken (GiveAll site) = refl
@@ -250,6 +260,10 @@ spoken Settle = refl
 spoken (Show site) = refl
 spoken (Tree site) = refl
 spoken (Count site) = refl
+spoken (Mark site true name index count) = refl
+spoken (Mark site false name index count) = refl
+spoken (Meet site other) = refl
+spoken (Marks site) = refl
 
 -- the line of a command that can stand there says the command
 pub judged_there : (size : ℕ) (before : Before) (c : Command) → before.sites ≤ MAX_SITE → CanStand size before c

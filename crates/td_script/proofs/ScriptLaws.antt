@@ -9,8 +9,9 @@ use Rattle.std.proofs.lemmas.List.Elements.{All-nil, All-cons, All-head, All-tai
 use Rattle.td_base.specs.declared.site.TheConstants.{MAX_SITE}
 use Rattle.td_script.specs.declared.before.Before.{Before}
 use Rattle.td_script.specs.declared.command.Command.{Command}
-use Rattle.td_script.specs.declared.command.Command.TheVariants.{Sites, Ins, Paste, Del, Flat, Cancel, Give}
+use Rattle.td_script.specs.declared.command.Command.TheVariants.{Sites, Ins, Paste, Del, Flat, FlatAuto, Cancel, Give}
 use Rattle.td_script.specs.declared.command.Command.TheVariants.{GiveAll, Settle, Show, Tree, Count}
+use Rattle.td_script.specs.declared.command.Command.TheVariants.{Mark, Meet, Marks}
 use Rattle.td_script.specs.declared.kind.Kind.{Kind}
 use Rattle.td_script.specs.declared.kind.Kind.TheVariants as Fault
 use Rattle.td_script.specs.declared.script.Script.{Script}
@@ -38,6 +39,7 @@ after_sites sites before (Ins site index atoms) h = refl
 after_sites sites before (Paste site index atoms) h = refl
 after_sites sites before (Del site index count) h = refl
 after_sites sites before (Flat site place) h = refl
+after_sites sites before (FlatAuto site) h = refl
 after_sites sites before (Cancel site proposal) h = refl
 after_sites sites before (Give site number) h = refl
 after_sites sites before (GiveAll site) h = refl
@@ -45,6 +47,9 @@ after_sites sites before Settle h = refl
 after_sites sites before (Show site) h = refl
 after_sites sites before (Tree site) h = refl
 after_sites sites before (Count site) h = refl
+after_sites sites before (Mark site add name index count) h = refl
+after_sites sites before (Meet site other) h = refl
+after_sites sites before (Marks site) h = refl
 
 after_requests : (before : Before) (c : Command) → (after before c).requests ≡ before.requests + requests c
 after_requests before (Sites n) = refl
@@ -52,6 +57,7 @@ after_requests before (Ins site index atoms) = refl
 after_requests before (Paste site index atoms) = refl
 after_requests before (Del site index count) = refl
 after_requests before (Flat site place) = refl
+after_requests before (FlatAuto site) = refl
 after_requests before (Cancel site proposal) = refl
 after_requests before (Give site number) = refl
 after_requests before (GiveAll site) = refl
@@ -59,6 +65,9 @@ after_requests before Settle = refl
 after_requests before (Show site) = refl
 after_requests before (Tree site) = refl
 after_requests before (Count site) = refl
+after_requests before (Mark site add name index count) = refl
+after_requests before (Meet site other) = refl
+after_requests before (Marks site) = refl
 
 pub few_after : (size : ℕ) (before : Before) (c : Command) → before.sites ≤ MAX_SITE → CanStand size before c
     → (after before c).sites ≤ MAX_SITE

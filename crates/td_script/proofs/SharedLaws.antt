@@ -143,12 +143,16 @@ place_word_back rest word left place true begins is e =
     (record { fits = tt; whole = fixed_word rest word left (codes "root") begins is end.1 })
 place_word_back rest word left place false begins is e = beside_back rest word left place begins e
 
+pub place_of_back : (rest word left : List ℕ) (place : Place) → rest ≡ 32 ∷ (word ++ left)
+    → place_of word left ≡ Ok place → AreRead spaced_place IsPlace rest place
+place_of_back rest word left place begins e =
+    place_word_back rest word left place (bytes_eq word (codes "root")) begins refl e
+
 pub place_back : (rest : List ℕ) (place : Place) → place_at rest ≡ Ok place → AreRead spaced_place IsPlace rest place
 place_back rest place e =
     let first = behind_back (word_at rest) place_of place e in
     let spaced_word = word_at_back rest first.value first.rest first.is in
-    place_word_back rest first.value first.rest place
-    (bytes_eq first.value (codes "root")) spaced_word.whole refl first.then_is
+    place_of_back rest first.value first.rest place spaced_word.whole first.then_is
 
 pub proposal_back : (sites : ℕ) (rest : List ℕ) (proposal : DotValue) → proposal_at sites rest ≡ Ok proposal
     → AreRead spaced_dot (IsDotOf sites) rest proposal
@@ -208,7 +212,7 @@ two_numbers_there one two h k = behind_there _ _ one (spaced two) (number_at_the
 bit_end : (bit : Bit) → by_word bit_of (spaced_bit bit) ≡ Ok (bit, [])
 bit_end bit = ap (by_word bit_of) (sym (append-nil (spaced_bit bit))) ∙ bit_at_there bit [] tt
 
-bit_open : (bit : Bit) → IsOpen (spaced_bit bit)
+pub bit_open : (bit : Bit) → IsOpen (spaced_bit bit)
 bit_open Left = refl
 bit_open Right = refl
 
@@ -217,15 +221,20 @@ beside_there : (index : ℕ) (bit : Bit) → IsNumber index
 beside_there index bit h = behind_there _ _ index (spaced_bit bit)
     (ap (with_rest (spaced_bit bit)) (number_of_decimal index h)) ∙ behind_there _ _ bit [] (bit_end bit)
 
+pub place_of_there : (index : ℕ) (bit : Bit) → IsNumber index
+    → place_of (decimal index) (spaced_bit bit) ≡ Ok (Beside index bit)
+place_of_there index bit h =
+    cond-false {A = Result Place Kind} (bytes_eq (decimal index) (codes "root")) (last Root (spaced_bit bit))
+    (place_beside (decimal index) (spaced_bit bit)) (not_name index (codes "root") h refl)
+    ∙ beside_there index bit h
+
 pub place_there : (place : Place) → IsPlace place → place_at (spaced_place place) ≡ Ok place
 place_there Root h = refl
 place_there (Beside index bit) h =
     behind_there _ place_of (decimal index) (spaced_bit bit)
     (word_at_there (decimal index) (spaced_bit bit) (form_of_decimal index h).some
     (decimal_lacks 32 index h (omega arith)) (bit_open bit))
-    ∙ cond-false {A = Result Place Kind} (bytes_eq (decimal index) (codes "root")) (last Root (spaced_bit bit))
-    (place_beside (decimal index) (spaced_bit bit)) (not_name index (codes "root") h refl)
-    ∙ beside_there index bit h
+    ∙ place_of_there index bit h
 
 pub place_open : (place : Place) → IsOpen (spaced_place place)
 place_open Root = refl

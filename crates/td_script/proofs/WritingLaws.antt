@@ -15,9 +15,11 @@ use Rattle.td_base.specs.Value.{DotValue}
 use Rattle.td_base.specs.declared.bit.Bit.{Bit}
 use Rattle.td_base.specs.declared.bit.Bit.TheVariants.{Left, Right}
 use Rattle.td_base.specs.declared.site.TheConstants.{MAX_SITE}
+use Rattle.td_marks.specs.declared.mark_op.TheConstants.{NAMES}
 use Rattle.td_script.specs.declared.command.Command.{Command}
-use Rattle.td_script.specs.declared.command.Command.TheVariants.{Sites, Ins, Paste, Del, Flat, Cancel, Give}
+use Rattle.td_script.specs.declared.command.Command.TheVariants.{Sites, Ins, Paste, Del, Flat, FlatAuto, Cancel, Give}
 use Rattle.td_script.specs.declared.command.Command.TheVariants.{GiveAll, Settle, Show, Tree, Count}
+use Rattle.td_script.specs.declared.command.Command.TheVariants.{Mark, Meet, Marks}
 use Rattle.td_script.specs.declared.command.Place.TheVariants.{Root, Beside}
 use Rattle.std.specs.Char.{is_ascii_control}
 use Rattle.td_script.specs.Lines.{is_text_line}
@@ -117,6 +119,12 @@ pub alone_clean : (word : List ℕ) (sites site : ℕ) → list_any is_ascii_con
     → list_all (λ b. ltb b 128) word ≡ true → sites ≤ MAX_SITE → IsSiteOf sites site → IsClean (word ++ spaced site)
 alone_clean word sites site h k few is = both word (spaced site) (by_test word h k) (site_clean sites site few is)
 
+mark_clean : (name index count : ℕ) → name < NAMES → IsNumber index → IsNumber count
+    → IsClean (spaced name ++ (spaced index ++ spaced count))
+mark_clean name index count h k l =
+    both (spaced name) (spaced index ++ spaced count) (spaced_clean name (omega (arith, h)))
+    (both (spaced index) (spaced count) (spaced_clean index k) (spaced_clean count l))
+
 command_clean : (sites : ℕ) (c : Command) → sites ≤ MAX_SITE → IsCommand sites c → IsWritable c → IsClean (line_of c)
 command_clean sites (Sites n) few h k = absurd h
 command_clean sites (Ins site index atoms) few h k =
@@ -133,6 +141,8 @@ command_clean sites (Flat site Root) few h k =
 command_clean sites (Flat site (Beside index bit)) few h k =
     line_clean (codes "flat") sites site (spaced index ++ spaced_bit bit) refl refl few h.0
     (both (spaced index) (spaced_bit bit) (spaced_clean index h.1) (bit_clean bit))
+command_clean sites (FlatAuto site) few h k =
+    line_clean (codes "flat") sites site (codes " auto") refl refl few h (by_test (codes " auto") refl refl)
 command_clean sites (Cancel site proposal) few h k =
     line_clean (codes "cancel") sites site (spaced_dot proposal) refl refl few h.0 (dot_clean sites proposal few h.1)
 command_clean sites (Give site number) few h k =
@@ -143,6 +153,15 @@ command_clean sites Settle few h k = by_test (codes "settle") refl refl
 command_clean sites (Show site) few h k = alone_clean (codes "show") sites site refl refl few h
 command_clean sites (Tree site) few h k = alone_clean (codes "tree") sites site refl refl few h
 command_clean sites (Count site) few h k = alone_clean (codes "count") sites site refl refl few h
+command_clean sites (Mark site true name index count) few h k =
+    line_clean (codes "mark") sites site (spaced name ++ (spaced index ++ spaced count)) refl refl few h.0
+    (mark_clean name index count h.1 h.2 h.3)
+command_clean sites (Mark site false name index count) few h k =
+    line_clean (codes "unmark") sites site (spaced name ++ (spaced index ++ spaced count)) refl refl few h.0
+    (mark_clean name index count h.1 h.2 h.3)
+command_clean sites (Meet site other) few h k =
+    line_clean (codes "meet") sites site (spaced other) refl refl few h.0 (site_clean sites other few h.1)
+command_clean sites (Marks site) few h k = alone_clean (codes "marks") sites site refl refl few h
 
 -- the line of a command of a script can be read
 pub others_written : (sites : ℕ) (c : Command) → sites ≤ MAX_SITE → IsCommand sites c → IsWritable c

@@ -11,6 +11,7 @@ use Rattle.td_base.specs.declared.bit.Bit.{Bit}
 use Rattle.td_base.specs.declared.bit.Bit.TheVariants.{Left, Right}
 use Rattle.td_base.specs.declared.dot.TheConstants.{MAX_SEQ}
 use Rattle.td_base.specs.declared.site.TheConstants.{MAX_SITE}
+use Rattle.td_marks.specs.declared.mark_op.TheConstants.{NAMES}
 use Rattle.td_script.specs.declared.kind.Kind.{Kind}
 use Rattle.td_script.specs.declared.kind.Kind.TheVariants as Fault
 use Rattle.td_script.specs.declared.number.TheConstants.{MAX_DIGITS}
@@ -84,6 +85,10 @@ site_of sites word = tested (is_in_range 1 sites) Fault.Site (number_of word)
 -- how many sites there are
 abbrev pub sites_of : List ℕ → Result ℕ Kind
 sites_of word = tested (is_in_range 1 MAX_SITE) Fault.Sites (number_of word)
+
+-- the name of a mark
+abbrev pub name_of : List ℕ → Result ℕ Kind
+name_of word = tested (λ name. nat_lt name NAMES) Fault.Number (number_of word)
 
 abbrev pub onto_part : ℕ → Option (List ℕ × List ℕ) → Option (List ℕ × List ℕ)
 onto_part byte (Some cut) = Some (onto_word byte cut)

@@ -1,9 +1,10 @@
 -- The order in which a line is judged, and the first fault of a script.
-use Rattle.std.specs.Prelude.{ℕ, Bool, ◌+◌, ◌==◌, ◌&&◌, ◌||◌, nat_lt, if◌then◌else◌}
+use Rattle.std.specs.Prelude.{ℕ, Bool, true, false, ◌+◌, ◌==◌, ◌&&◌, ◌||◌, nat_lt, if◌then◌else◌}
 use Rattle.std.specs.Prelude.{List, Option, Some, None, Result, Ok, Err, codes, length, bytes_eq}
 use Rattle.td_script.specs.declared.command.Command.{Command}
-use Rattle.td_script.specs.declared.command.Command.TheVariants.{Sites, Ins, Paste, Del, Flat, Cancel, Give}
+use Rattle.td_script.specs.declared.command.Command.TheVariants.{Sites, Ins, Paste, Del, Flat, FlatAuto, Cancel, Give}
 use Rattle.td_script.specs.declared.command.Command.TheVariants.{GiveAll, Settle, Show, Tree, Count}
+use Rattle.td_script.specs.declared.command.Command.TheVariants.{Mark, Meet, Marks}
 use Rattle.td_script.specs.declared.before.Before.{Before}
 use Rattle.td_script.specs.declared.before.TheConstants.{MAX_NARROW, MAX_FREE}
 use Rattle.td_script.specs.declared.kind.Kind.{Kind}
@@ -14,8 +15,8 @@ use Rattle.td_script.specs.declared.word.Word.TheVariants as First
 use Rattle.td_script.specs.declared.word.SiteWord.{SiteWord}
 use Rattle.td_script.specs.declared.word.SiteWord.TheVariants as AtSite
 use Rattle.td_script.specs.Arguments.{behind, last, with_rest, by_word, word_at, cut_word}
-use Rattle.td_script.specs.Arguments.{number_of, site_of}
-use Rattle.td_script.specs.Shared.{mapped, sites_at, index_and_text, two_numbers, place_at, proposal_at}
+use Rattle.td_script.specs.Arguments.{name_of, number_of, site_of}
+use Rattle.td_script.specs.Shared.{mapped, sites_at, index_and_text, two_numbers, place_of, proposal_at}
 use Rattle.td_script.specs.Judging.{Judged, judged_each, judged_line, fault_in}
 use Rattle.td_script.specs.Lines.{lines_of}
 use Rattle.td_script.specs.Script.{requests}
@@ -27,17 +28,37 @@ give_at site word rest =
     if bytes_eq word (codes "all") then last (GiveAll site) rest else
     behind (with_rest rest (number_of word)) (λ number rest. last (Give site number) rest)
 
+-- behind the site of a `flat`: `auto`, or a place
+abbrev pub flat_at : ℕ → List ℕ → List ℕ → Result Command Kind
+flat_at site word rest =
+    if bytes_eq word (codes "auto") then last (FlatAuto site) rest else
+    mapped (λ place. Flat site place) (place_of word rest)
+
+-- behind the site of a `mark` or `unmark`: the name, the index of the first atom, and how many atoms there are
+abbrev pub mark_at : ℕ → Bool → List ℕ → Result Command Kind
+mark_at site add rest =
+    behind (by_word name_of rest) (λ name rest.
+    mapped (λ asked. Mark site add name asked.0 asked.1) (two_numbers rest))
+
+-- behind the site of a `meet`: another one, or the same
+abbrev pub meet_at : ℕ → ℕ → List ℕ → Result Command Kind
+meet_at sites site rest = behind (by_word (site_of sites) rest) (λ other rest. last (Meet site other) rest)
+
 -- what each command asks for behind its site, from left to right, among so many sites
 abbrev pub site_command : ℕ → ℕ → SiteWord → List ℕ → Result Command Kind
 site_command sites site AtSite.Ins rest = mapped (λ asked. Ins site asked.0 asked.1) (index_and_text rest)
 site_command sites site AtSite.Paste rest = mapped (λ asked. Paste site asked.0 asked.1) (index_and_text rest)
 site_command sites site AtSite.Del rest = mapped (λ asked. Del site asked.0 asked.1) (two_numbers rest)
-site_command sites site AtSite.Flat rest = mapped (λ place. Flat site place) (place_at rest)
+site_command sites site AtSite.Flat rest = behind (word_at rest) (flat_at site)
 site_command sites site AtSite.Cancel rest = mapped (λ proposal. Cancel site proposal) (proposal_at sites rest)
 site_command sites site AtSite.Give rest = behind (word_at rest) (give_at site)
 site_command sites site AtSite.Show rest = last (Show site) rest
 site_command sites site AtSite.Tree rest = last (Tree site) rest
 site_command sites site AtSite.Count rest = last (Count site) rest
+site_command sites site AtSite.Mark rest = mark_at site true rest
+site_command sites site AtSite.Unmark rest = mark_at site false rest
+site_command sites site AtSite.Meet rest = meet_at sites site rest
+site_command sites site AtSite.Marks rest = last (Marks site) rest
 
 -- what each command asks for behind its word, in a script of so many bytes, behind what stands before the line
 abbrev pub command : ℕ → Before → Word → List ℕ → Result Command Kind

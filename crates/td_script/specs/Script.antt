@@ -7,9 +7,11 @@ use Rattle.td_base.specs.Atom.{IsAtom}
 use Rattle.td_base.specs.Value.{DotValue}
 use Rattle.td_base.specs.declared.dot.TheConstants.{MAX_SEQ}
 use Rattle.td_base.specs.declared.site.TheConstants.{MAX_SITE}
+use Rattle.td_marks.specs.declared.mark_op.TheConstants.{NAMES}
 use Rattle.td_script.specs.declared.command.Command.{Command}
-use Rattle.td_script.specs.declared.command.Command.TheVariants.{Sites, Ins, Paste, Del, Flat, Cancel, Give}
+use Rattle.td_script.specs.declared.command.Command.TheVariants.{Sites, Ins, Paste, Del, Flat, FlatAuto, Cancel, Give}
 use Rattle.td_script.specs.declared.command.Command.TheVariants.{GiveAll, Settle, Show, Tree, Count}
+use Rattle.td_script.specs.declared.command.Command.TheVariants.{Mark, Meet, Marks}
 use Rattle.td_script.specs.declared.command.Place.{Place}
 use Rattle.td_script.specs.declared.command.Place.TheVariants.{Root, Beside}
 use Rattle.td_script.specs.declared.number.TheConstants.{MAX_DIGITS}
@@ -51,6 +53,7 @@ IsCommand sites (Paste site index atoms) = IsSiteOf sites site × IsNumber index
 IsCommand sites (Del site index count) = IsSiteOf sites site × IsNumber index × IsNumber count
 IsCommand sites (Flat site Root) = IsSiteOf sites site
 IsCommand sites (Flat site (Beside index bit)) = IsSiteOf sites site × IsNumber index
+IsCommand sites (FlatAuto site) = IsSiteOf sites site
 IsCommand sites (Cancel site proposal) = IsSiteOf sites site × IsDotOf sites proposal
 IsCommand sites (Give site number) = IsSiteOf sites site × IsNumber number
 IsCommand sites (GiveAll site) = IsSiteOf sites site
@@ -58,6 +61,10 @@ IsCommand sites Settle = ⊤
 IsCommand sites (Show site) = IsSiteOf sites site
 IsCommand sites (Tree site) = IsSiteOf sites site
 IsCommand sites (Count site) = IsSiteOf sites site
+IsCommand sites (Mark site add name index count) =
+    IsSiteOf sites site × (name < NAMES) × IsNumber index × IsNumber count
+IsCommand sites (Meet site other) = IsSiteOf sites site × IsSiteOf sites other
+IsCommand sites (Marks site) = IsSiteOf sites site
 
 -- the commands of a script: none, or `sites` and then others
 abbrev pub AreCommands : ℕ → List Command → Type 0
@@ -70,6 +77,7 @@ requests (Ins site index atoms) = length atoms
 requests (Paste site index atoms) = length atoms
 requests (Del site index count) = count
 requests (Flat site place) = 1
+requests (FlatAuto site) = 1
 requests (Cancel site proposal) = 1
 requests _ = 0
 

@@ -1,11 +1,12 @@
 // Arguments of one word: each is read from what is left of a line, and leaves what stands behind it.
 ghost use Rattle.std.specs.Prelude.{◌≡◌, ◌≤◌, MatchResult, Ok, Err};
 ghost use Rattle.td_script.specs.Arguments.{argument, by_word, cut_word, last, word_at};
-ghost use Rattle.td_script.specs.Arguments.{bit_of, dot_of, number_of, site_of};
+ghost use Rattle.td_script.specs.Arguments.{bit_of, dot_of, name_of, number_of, site_of};
 
 use crate::kind::Kind;
 use crate::number::number_of;
 use td_base::{Bit, Dot, MAX_SITE, Site};
+use td_marks::NAMES;
 
 /// What stands up to the next space or to the end, and what stands from there on.
 pub(crate) fn split_word(text: &str) -> (&str, &str)
@@ -61,6 +62,17 @@ pub(crate) fn site_word(word: &str, sites: u8) -> Result<Site, Kind>
         return Err(Kind::Site);
     }
     Site::new(number as u8).ok_or(Kind::Site)
+}
+
+/// The name of a mark that the word is.
+pub(crate) fn name_word(word: &str) -> Result<u8, Kind>
+    ensures { result ≡ name_of word.now }
+{
+    let number = number_word(word)?;
+    if number >= u32::from(NAMES) {
+        return Err(Kind::Number);
+    }
+    Ok(number as u8)
 }
 
 /// The dot that the word is, of so many sites.

@@ -67,7 +67,7 @@ fn requests(command: &Command) -> u64
     match command {
         Command::Ins { atoms, .. } | Command::Paste { atoms, .. } => u64::from(atoms.len()),
         Command::Del { count, .. } => u64::from(*count),
-        Command::Flat { .. } | Command::Cancel { .. } => 1,
+        Command::Flat { .. } | Command::FlatAuto { .. } | Command::Cancel { .. } => 1,
         _ => 0,
     }
 }

@@ -31,6 +31,10 @@ pub enum Command {
         site: Site,
         place: Place,
     },
+    /// `flat R auto`: proposes a flatten of the best idle slot, if there is one.
+    FlatAuto {
+        site: Site,
+    },
     /// `cancel R S.Q`: aborts the proposal.
     Cancel {
         site: Site,
@@ -57,6 +61,23 @@ pub enum Command {
     },
     /// `count R`: prints how many atoms, rows, waiting operations and holds there are.
     Count {
+        site: Site,
+    },
+    /// `mark R M I K` and `unmark R M I K`: adds the name to so many live atoms from the index on, or removes it.
+    Mark {
+        site: Site,
+        add: bool,
+        name: u8,
+        index: u32,
+        count: u32,
+    },
+    /// `meet R Q`: gives the site the operations on marks of the other one that it does not have.
+    Meet {
+        site: Site,
+        other: Site,
+    },
+    /// `marks R`: prints the marked text.
+    Marks {
         site: Site,
     },
 }

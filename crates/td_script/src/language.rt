@@ -1,14 +1,14 @@
 // The commands of the language, and what each asks for behind its first word.
 ghost use Rattle.std.specs.Prelude.{◌≡◌, ◌≤◌};
 ghost use Rattle.td_script.specs.Answers.{IsLineAnswer};
-ghost use Rattle.td_script.specs.Faults.{command, site_command};
+ghost use Rattle.td_script.specs.Faults.{command, mark_at, meet_at, site_command};
 ghost use Rattle.td_script.specs.declared.word.SiteWord.TheVariants as At;
 
-use crate::argument::{last, next_word, number_word, site_word};
+use crate::argument::{last, name_word, next_word, number_word, site_word};
 use crate::before::Before;
 use crate::command::Command;
 use crate::kind::{Kind, LineFault};
-use crate::shared::{index_and_text, place, proposal, sites_number, two_numbers};
+use crate::shared::{index_and_text, place_named, proposal, sites_number, two_numbers};
 use crate::word::{SiteWord, Word};
 use std::alloc::Global;
 use td_base::{MAX_SITE, Site};
@@ -59,6 +59,10 @@ fn site_command(
         SiteWord::Show => Ok(last(Command::Show { site }, rest)?),
         SiteWord::Tree => Ok(last(Command::Tree { site }, rest)?),
         SiteWord::Count => Ok(last(Command::Count { site }, rest)?),
+        SiteWord::Mark => Ok(mark(site, true, rest)?),
+        SiteWord::Unmark => Ok(mark(site, false, rest)?),
+        SiteWord::Meet => Ok(meet(sites, site, rest)?),
+        SiteWord::Marks => Ok(last(Command::Marks { site }, rest)?),
     }
 }
 
@@ -86,7 +90,11 @@ fn del(site: Site, rest: &str) -> Result<Command, Kind>
 fn flat(site: Site, rest: &str) -> Result<Command, Kind>
     ensures { result ≡ site_command 0 site At.Flat rest.now }
 {
-    let place = place(rest)?;
+    let (word, rest) = next_word(rest)?;
+    if word == "auto" {
+        return last(Command::FlatAuto { site }, rest);
+    }
+    let place = place_named(word, rest)?;
     Ok(Command::Flat { site, place })
 }
 
@@ -107,4 +115,28 @@ fn give(site: Site, rest: &str) -> Result<Command, Kind>
     }
     let number = u64::from(number_word(message)?);
     last(Command::Give { site, number }, rest)
+}
+
+fn mark(site: Site, add: bool, rest: &str) -> Result<Command, Kind>
+    ensures { result ≡ mark_at site add rest.now }
+{
+    let (name, rest) = next_word(rest)?;
+    let name = name_word(name)?;
+    let (index, count) = two_numbers(rest)?;
+    Ok(Command::Mark {
+        site,
+        add,
+        name,
+        index,
+        count,
+    })
+}
+
+fn meet(sites: u8, site: Site, rest: &str) -> Result<Command, Kind>
+    requires { sites ≤ MAX_SITE }
+    ensures { result ≡ meet_at sites site rest.now }
+{
+    let (other, rest) = next_word(rest)?;
+    let other = site_word(other, sites)?;
+    last(Command::Meet { site, other }, rest)
 }

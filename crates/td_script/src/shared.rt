@@ -1,7 +1,8 @@
 // What commands of more than one language ask for behind their words.
 ghost use Rattle.std.specs.Prelude.{◌≡◌, ◌≤◌};
 ghost use Rattle.td_script.specs.Answers.{IsLineAnswer};
-ghost use Rattle.td_script.specs.Shared.{index_and_text, place_at, place_beside, proposal_at, sites_at, two_numbers};
+ghost use Rattle.td_script.specs.Shared.{index_and_text, place_at, place_beside, place_of, proposal_at};
+ghost use Rattle.td_script.specs.Shared.{sites_at, two_numbers};
 
 use crate::argument::{bit_word, dot_word, last, next_word, number, number_word};
 use crate::before::MAX_NARROW;
@@ -51,6 +52,13 @@ pub(crate) fn place(rest: &str) -> Result<Place, Kind>
     ensures { result ≡ place_at rest.now }
 {
     let (word, rest) = next_word(rest)?;
+    place_named(word, rest)
+}
+
+/// The same, behind its first word.
+pub(crate) fn place_named(word: &str, rest: &str) -> Result<Place, Kind>
+    ensures { result ≡ place_of word.now rest.now }
+{
     match word {
         "root" => last(Place::Root, rest),
         _ => place_beside(word, rest),

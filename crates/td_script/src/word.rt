@@ -21,10 +21,14 @@ pub(crate) enum SiteWord {
     Show,
     Tree,
     Count,
+    Mark,
+    Unmark,
+    Meet,
+    Marks,
 }
 
 /// The words of the language.
-const WORDS: [Word; 11] = [
+const WORDS: [Word; 15] = [
     Word::Sites,
     Word::Settle,
     Word::AtSite(SiteWord::Ins),
@@ -36,6 +40,10 @@ const WORDS: [Word; 11] = [
     Word::AtSite(SiteWord::Show),
     Word::AtSite(SiteWord::Tree),
     Word::AtSite(SiteWord::Count),
+    Word::AtSite(SiteWord::Mark),
+    Word::AtSite(SiteWord::Unmark),
+    Word::AtSite(SiteWord::Meet),
+    Word::AtSite(SiteWord::Marks),
 ];
 
 impl Word {
@@ -55,6 +63,10 @@ impl Word {
             Word::AtSite(SiteWord::Show) => "show",
             Word::AtSite(SiteWord::Tree) => "tree",
             Word::AtSite(SiteWord::Count) => "count",
+            Word::AtSite(SiteWord::Mark) => "mark",
+            Word::AtSite(SiteWord::Unmark) => "unmark",
+            Word::AtSite(SiteWord::Meet) => "meet",
+            Word::AtSite(SiteWord::Marks) => "marks",
         }
     }
 

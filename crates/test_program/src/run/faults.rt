@@ -65,15 +65,15 @@ del 2 0 65534
     ),
     (
         r#"sites 1
-flat 1 auto
+mark 1 32 0 1
 "#,
         "fault 2 number\n",
     ),
     (
         r#"sites 1
-marks 1
+meet 1 2
 "#,
-        "fault 2 word\n",
+        "fault 2 site\n",
     ),
 ];
 

@@ -38,23 +38,27 @@ fn the_first_faulty_line_is_named_with_its_first_fault(rt: HostRuntime) -> Resul
         ("sites 2\ncancel 1 1.65536\n", "fault 2 dot"),
         ("sites 2\ncancel 1 1.01\n", "fault 2 dot"),
         ("sites 2\ncancel 1 1\n", "fault 2 dot"),
-        ("sites 2\nflat 1 auto\n", "fault 2 number"),
-        ("sites 2\nmark 1 31 2 3\n", "fault 2 word"),
-        ("sites 2\nunmark 1 0 2 3\n", "fault 2 word"),
-        ("sites 2\nmeet 1 2\n", "fault 2 word"),
-        ("sites 2\nmarks 1\n", "fault 2 word"),
+        ("sites 2\nflat 1 Auto\n", "fault 2 number"),
+        ("sites 2\nmark 1 32 0 1\n", "fault 2 number"),
+        ("sites 2\nunmark 1 x 0 1\n", "fault 2 number"),
+        ("sites 2\nmark 1 0 0\n", "fault 2 end"),
+        ("sites 2\nmeet 1 3\n", "fault 2 site"),
+        ("sites 2\nmeet 1 x\n", "fault 2 number"),
+        ("sites 2\nmeet 1\n", "fault 2 end"),
+        ("sites 2\nmarks 1 0\n", "fault 2 end"),
         (
             "sites 17\nins 1 0 \"ab\"\nsettle\ndel 2 0 65534\n",
             "fault 4 size",
         ),
         ("sites 9\ndel 1 0 131072\nflat 1 root\n", "fault 3 size"),
+        ("sites 9\ndel 1 0 131072\nflat 1 auto\n", "fault 3 size"),
         // an earlier line, also behind lines that say nothing
         ("\n# a remark\nsites 1\nmove\nshow 2\n", "fault 4 word"),
         // each rule where a later one applies too
         ("#\u{7f}\n", "fault 1 bytes"),
         ("move\u{1}\n", "fault 1 bytes"),
         ("move 1\n", "fault 1 word"),
-        ("mark 1 32\n", "fault 1 word"),
+        ("mark 1 32\n", "fault 1 sites"),
         ("show\n", "fault 1 sites"),
         ("sites 1\nsites 0\n", "fault 2 sites"),
         ("sites 0 1\n", "fault 1 sites"),
@@ -66,7 +70,10 @@ fn the_first_faulty_line_is_named_with_its_first_fault(rt: HostRuntime) -> Resul
         ("sites 2\nins 1 0 \"a\" \n", "fault 2 end"),
         ("flat 1 auto\n", "fault 1 sites"),
         ("sites 2\nflat 3 auto\n", "fault 2 site"),
-        ("sites 2\nflat 1 auto 0\n", "fault 2 number"),
+        ("sites 2\nflat 1 auto 0\n", "fault 2 end"),
+        ("sites 2\nmark 3 32 x\n", "fault 2 site"),
+        ("sites 2\nmark 1 32 x\n", "fault 2 number"),
+        ("sites 2\nmeet 3 x\n", "fault 2 site"),
         ("sites 17\ndel 1 0 65536 \n", "fault 2 end"),
         // none
         ("", "0 commands"),
@@ -74,6 +81,10 @@ fn the_first_faulty_line_is_named_with_its_first_fault(rt: HostRuntime) -> Resul
         ("sites 8\ndel 1 0 999999999\n", "2 commands"),
         ("sites 16\npaste 1 0 \"ab\"\ndel 1 0 131070", "3 commands"),
         ("sites 64\nshow 64\ncancel 64 64.65535\n", "3 commands"),
+        (
+            "sites 9\ndel 1 0 131072\nmark 1 31 0 999999999\nunmark 9 0 0 0\nmeet 9 9\n",
+            "5 commands",
+        ),
     ] {
         let answer = answer(rt.alloc(), script.as_bytes())?;
         assert_eq!(rt; answer.as_str(), wanted, "at {script:?}");
@@ -142,12 +153,26 @@ fn each_command_is_read(rt: HostRuntime) -> Result<(), Fail> {
             "cancel 1 2.3",
             "Cancel { site: Site { number: 1 }, proposal: Dot { site: Site { number: 2 }, seq: 3 } }",
         ),
+        ("flat 1 auto", "FlatAuto { site: Site { number: 1 } }"),
         ("give 1 2", "Give { site: Site { number: 1 }, number: 2 }"),
         ("give 1 all", "GiveAll { site: Site { number: 1 } }"),
         ("settle", "Settle"),
         ("show 1", "Show { site: Site { number: 1 } }"),
         ("tree 1", "Tree { site: Site { number: 1 } }"),
         ("count 1", "Count { site: Site { number: 1 } }"),
+        (
+            "mark 1 31 2 3",
+            "Mark { site: Site { number: 1 }, add: true, name: 31, index: 2, count: 3 }",
+        ),
+        (
+            "unmark 1 0 2 3",
+            "Mark { site: Site { number: 1 }, add: false, name: 0, index: 2, count: 3 }",
+        ),
+        (
+            "meet 1 2",
+            "Meet { site: Site { number: 1 }, other: Site { number: 2 } }",
+        ),
+        ("marks 1", "Marks { site: Site { number: 1 } }"),
     ] {
         let script = format!(in rt.alloc(); "sites 2\n{line}\n")?;
         let script = read(rt.alloc(), &script)?;
