@@ -1,5 +1,6 @@
 pub mod Counts
 pub mod Parts
+pub mod Meeting
 pub mod Names
 pub mod Pieces
 pub mod Lives

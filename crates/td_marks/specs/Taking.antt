@@ -1,5 +1,5 @@
 -- What becomes of an operation of another site.
-use Rattle.std.specs.Prelude.{◌==◌, ◌&&◌, ℕ, Bool, List, length, nat_le, nat_lt, if◌then◌else◌}
+use Rattle.std.specs.Prelude.{◌==◌, ◌&&◌, ℕ, Bool, List, [], ◌∷◌, length, nat_le, nat_lt, if◌then◌else◌}
 use Rattle.std.specs.List.{list_any}
 use Rattle.td_base.specs.Value.{DotValue}
 use Rattle.td_base.specs.Equality.{same_dot}
@@ -30,3 +30,8 @@ after_take New o m = with_op o m
 after_take Repeat o m = m
 after_take (Gap want) o m = m
 after_take Size o m = m
+
+-- and after several, one after another
+abbrev pub after_takes : List MarkOpValue → MarksValue → MarksValue
+after_takes [] m = m
+after_takes (o ∷ ops) m = after_takes ops (after_take (take_answer m o) o m)

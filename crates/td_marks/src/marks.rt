@@ -1,5 +1,6 @@
 ghost use Rattle.std.specs.Prelude.{◌≡◌, ◌<◌, ◌≤◌, ◌+◌, ◌-◌, ◌||◌, ◌&&◌, not, ℕ, [], length};
 ghost use Rattle.std.specs.Prelude.{IfOk, IfErr, IfSome, OnOk, OnErr, Some, None, if◌then◌else◌, slice_get, option_copied};
+ghost use Rattle.std.specs.Prelude.{take};
 ghost use Rattle.std.specs.List.{list_any};
 ghost use Rattle.std.specs.Int.{bit_at};
 ghost use Rattle.td_base.specs.Lists.{kth};
@@ -9,9 +10,9 @@ ghost use Rattle.td_clock.specs.Vector.{vector_has};
 ghost use Rattle.td_doc.specs.Document.{live_rows};
 ghost use Rattle.td_marks.specs.Index.{HaveAll, ops_at, passes};
 ghost use Rattle.td_marks.specs.Making.{live_ids_at, made_op, mark_refusal, refusal_told};
-ghost use Rattle.td_marks.specs.Mark.{adds, removes, has_name, names_of};
+ghost use Rattle.td_marks.specs.Mark.{MarkOpValue, adds, removes, has_name, names_of};
 ghost use Rattle.td_marks.specs.Marks.{IsMarkOp, IsMarks, count_of, next_dot, with_op};
-ghost use Rattle.td_marks.specs.Taking.{take_answer, after_take};
+ghost use Rattle.td_marks.specs.Taking.{take_answer, after_take, after_takes};
 
 use crate::index::Index;
 use crate::mark_fault::MarkFault;
@@ -112,6 +113,34 @@ impl Marks {
             self.keep(op.copied(self.alloc)?)?;
         }
         Ok(answer)
+    }
+
+    /// Takes all operations that another site has, in the order in which they came there, and answers how many were
+    /// new. After `Memory` those from the first on up to one are taken.
+    pub fn meet(&mut self, other: &Marks) -> Result<u32, Memory>
+        ensures met { OnOk result (self.new ≡ after_takes other.now.ops self.old) }
+        ensures taken { IfOk result (λ taken. taken + length self.old.ops ≡ length self.new.ops) }
+        ensures err { OnErr result ((k : ℕ) × (self.new ≡ after_takes (take k other.now.ops) self.old)) }
+    {
+        let before = self.ops();
+        for place in 0..other.ops() {
+            self.take_kth(other, place + 1)?;
+        }
+        Ok(self.ops() - before)
+    }
+
+    // Takes the k-th operation of another site, from 1.
+    fn take_kth(&mut self, other: &Marks, k: u32) -> Result<(), Memory>
+        requires some { 1 ≤ k }
+        requires within { k ≤ length other.now.ops }
+        ensures ok { (o : MarkOpValue) → kth k other.now.ops ≡ Some o
+            → OnOk result (self.new ≡ after_take (take_answer self.old o) o self.old) }
+        ensures err { OnErr result (self.new ≡ self.old) }
+    {
+        if let Some(op) = other.op(k) {
+            self.take(op)?;
+        }
+        Ok(())
     }
 
     /// The names that the atom has: bit m is set where it has the name m.

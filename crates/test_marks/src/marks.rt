@@ -54,16 +54,6 @@ fn letters(rt: &impl Abort, alloc: Global, text: &[u8]) -> Result<Rows, Fail> {
     Ok(doc)
 }
 
-// Gives the operations of one site to the other, in their order.
-fn meet(to: &mut Marks, from: &Marks) -> Result<(), Fail> {
-    for k in 1..=from.ops() {
-        if let Some(op) = from.op(k) {
-            to.take(op)?;
-        }
-    }
-    Ok(())
-}
-
 fn shows(
     rt: &impl Abort,
     alloc: Global,
@@ -85,11 +75,11 @@ fn marks_stay_through_a_flatten(rt: HostRuntime) -> Result<(), Fail> {
     let mut first = marks_of(rt.alloc(), 1)?;
     let mut second = marks_of(rt.alloc(), 2)?;
     same(&rt, first.mark(&doc, true, 3, 0, 2), Ok(dot(1, 1)?));
-    meet(&mut second, &first)?;
+    same(&rt, second.meet(&first)?, 1);
     same(&rt, second.mark(&doc, false, 3, 1, 1), Ok(dot(2, 1)?));
     same(&rt, first.mark(&doc, true, 3, 1, 1), Ok(dot(1, 2)?));
-    meet(&mut first, &second)?;
-    meet(&mut second, &first)?;
+    same(&rt, first.meet(&second)?, 1);
+    same(&rt, second.meet(&first)?, 1);
     doc.flatten(Slot::Root)?;
     for marks in [&first, &second] {
         shows(&rt, rt.alloc(), marks, &doc, &[(b"ab", 8), (b"c", 0)])?;

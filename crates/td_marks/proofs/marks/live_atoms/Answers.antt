@@ -1,5 +1,4 @@
-use Rattle.std.proofs.Common.{◌≡◌, ◌∙◌, sym, ap, List, ◌∷◌, ◌++◌, []}
-use Rattle.td_base.specs.Value.{AtomIdValue}
+use Rattle.std.proofs.Common.{◌∙◌, sym, ap, List}
 use Rattle.td_doc.specs.Document.{DocRow}
 use Rattle.td_marks.proofs.Lives.{ids_next, ids_end, none_left}
 use Rattle.td_marks.proofs.marks.live_atoms.Goals.{in-Some+in_ok-push, in_default}

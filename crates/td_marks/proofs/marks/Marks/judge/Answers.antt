@@ -1,5 +1,4 @@
-use Rattle.std.proofs.Common.{◌≡◌, ◌≤◌, ◌<◌, ◌∙◌, ◌+◌, ℕ, sym, ap, arith, None, Some, Option}
-use Rattle.td_base.specs.Value.{DotValue}
+use Rattle.std.proofs.Common.{◌≡◌, ◌≤◌, ◌∙◌, ◌+◌, ℕ, sym, ap, arith, Some}
 use Rattle.td_base.specs.declared.dot.TheConstants.{MAX_SEQ}
 use Rattle.td_marks.specs.Making.{mark_refusal}
 use Rattle.td_marks.specs.Marks.{MarksValue, count_of, next_dot}

@@ -1,6 +1,6 @@
-use Rattle.std.proofs.Common.{◌≡◌, ◌≤◌, ◌<◌, ◌∙◌, ◌++◌, ◌∷◌, [], List, ℕ, sym, ap, length, subst, arith}
+use Rattle.std.proofs.Common.{◌≡◌, ◌≤◌, ◌<◌, ◌∙◌, List, ℕ, sym, ap, length, subst}
 use Rattle.td_base.specs.Lists.{In}
-use Rattle.td_base.specs.Value.{DotValue, AtomIdValue, IsDot}
+use Rattle.td_base.specs.Value.{DotValue, IsDot}
 use Rattle.td_base.specs.declared.dot.TheConstants.{MAX_SEQ}
 use Rattle.td_clock.specs.Vector.{vector_get, vector_bump}
 use Rattle.td_marks.specs.Index.{numbers_at}
