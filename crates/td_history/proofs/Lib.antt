@@ -1,4 +1,4 @@
-pub mod EntryRuns
+pub mod RampPlaces
 pub mod Standing
 pub mod Places
 pub mod Logs

@@ -1,5 +1,5 @@
 -- What was sent and the entries, once more operations are kept.
-use Rattle.std.proofs.Common.{◌≡◌, ◌≤◌, ◌<◌, ◌+◌, ◌-◌, ℕ, zero, suc, true≢false, List, [], ◌∷◌}
+use Rattle.std.proofs.Common.{◌≡◌, ◌≤◌, ◌<◌, ◌-◌, ℕ, zero, suc, true≢false, List, [], ◌∷◌}
 use Rattle.std.proofs.Common.{length, Option, Some, sym, ap, ◌∙◌, subst, arith}
 use Rattle.std.proofs.lemmas.Bool.{ne_eqb}
 use Rattle.std.specs.List.{filter_map, slice_get}
@@ -58,14 +58,14 @@ entries_on ops more e grown h =
 
 -- with more room
 pub reserved : (site : ℕ) (log log_new : LogValue) (sent sent_new : List CompactMessage) (e e_new : EntriesValue)
-    (len capacity room : ℕ)
+    (sent_place room : ℕ)
     → site ≤ log.size → StandFor (message_of log.ops) sent (sent_of log.ops sent)
     → StandFor (entry_of log.ops e) e.entries (entries_of log.ops e)
     → log_new.size ≡ log.size → log_new.ops ≡ log.ops → sent_new ≡ sent → e_new.entries ≡ e.entries → e_new.texts
     ≡ e.texts → e_new.offered ≡ e.offered → e_new.wholes ≡ e.wholes
-    → room ≤ log_new.room → len + room ≤ capacity → room ≤ e_new.room
-    → IsHistoryParts site log_new sent_new len capacity e_new room
-reserved site log log_new sent sent_new e e_new len capacity room own sending entering size ops same entries texts
+    → room ≤ log_new.room → room ≤ sent_place → room ≤ e_new.room
+    → IsHistoryParts site log_new (record { items = sent_new; room = sent_place }) e_new room
+reserved site log log_new sent sent_new e e_new sent_place room own sending entering size ops same entries texts
     offered wholes log_room sent_room entries_room =
     record {
       own = rw size own;

@@ -8,11 +8,12 @@ pub mod Inputs
 pub mod Messages
 pub mod IndexValue
 pub mod Index
+pub mod GoesOn
+pub mod Ramps
 pub mod LogValue
 pub mod Logs
 pub mod AsideValue
 pub mod EntriesValue
-pub mod EntryRuns
 pub mod Entries
 pub mod EntriesParts
 pub mod HistoryParts

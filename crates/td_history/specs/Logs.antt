@@ -10,6 +10,7 @@ use Rattle.td_history.specs.declared.index.Logged.{Logged}
 use Rattle.td_history.specs.Past.{decided_by, IsUndecided}
 use Rattle.td_history.specs.Standing.{StandFor}
 use Rattle.td_history.specs.IndexValue.{IndexValue}
+use Rattle.td_history.specs.Ramps.{RampsValue}
 use Rattle.td_history.specs.Index.{IsIndex}
 
 -- the operations of these numbers, the oldest number first
@@ -41,11 +42,10 @@ pub record IsFoundAs (ops log : List OpValue) (d : DotValue) (l : Logged) (x : O
   pub decided : l.decided ≡ decision d log
 
 -- the parts are those of a log with room for so many more operations
-pub record IsLogParts (n : ℕ) (ops : OpsValue) (numbers : List ℕ) (len capacity : ℕ) (index : IndexValue)
-    (room : ℕ) : Type 0 where
-  pub log : IsLog n ops.ops numbers index.lists (log_of ops.ops numbers)
+pub record IsLogParts (n : ℕ) (ops : OpsValue) (numbers : RampsValue ℕ) (index : IndexValue) (room : ℕ) : Type 0 where
+  pub log : IsLog n ops.ops numbers.items index.lists (log_of ops.ops numbers.items)
   pub size : ops.size ≡ n
   pub site : index.room_site ≤ n
   pub ops_room : room ≤ ops.room
-  pub numbers_room : len + room ≤ capacity
+  pub numbers_room : room ≤ numbers.room
   pub index_room : room ≤ index.room

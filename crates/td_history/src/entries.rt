@@ -8,8 +8,8 @@ ghost use Rattle.td_history.specs.Entries.{entry_of};
 
 use crate::aside::Aside;
 use crate::entry::{CompactEntry, keep_entry};
-use crate::entry_runs::EntryRuns;
 use crate::log::Log;
+use crate::ramps::Ramps;
 use std::alloc::Global;
 use std::marker::Model;
 use td_base::Memory;
@@ -19,7 +19,7 @@ use td_op::{Entry, Input, Reply};
 /// for so many more entries.
 #[derive(Drop)]
 pub struct Entries {
-    entries: EntryRuns,
+    entries: Ramps<CompactEntry>,
     aside: Aside,
     room: u32,
 }
@@ -33,7 +33,7 @@ impl Model for Entries {
     ghost use Rattle.td_history.specs.EntriesParts.{AreEntriesParts};
 
     ghost view = { λ e. record {
-      entries = e.entries.entries;
+      entries = e.entries.items;
       wholes = e.aside.wholes;
       texts = e.aside.texts;
       offered = e.aside.offered;
@@ -49,7 +49,7 @@ impl Entries {
         ensures { result ≡ record { entries = []; wholes = []; texts = []; offered = []; room = 0 } }
     {
         Entries {
-            entries: EntryRuns::new(alloc),
+            entries: Ramps::new(alloc),
             aside: Aside::new(alloc),
             room: 0,
         }

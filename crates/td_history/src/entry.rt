@@ -1,19 +1,22 @@
 // An entry of a history as it is kept.
-ghost use Rattle.std.specs.Prelude.{◌≡◌, ◌≤◌, ◌+◌, List, ℕ, IfSome, IsTrue, Some};
+ghost use Rattle.std.specs.Prelude.{◌≡◌, ◌≤◌, ◌+◌, List, ℕ, IfSome, IsTrue, Some, refl};
 ghost use Rattle.std.specs.List.{slice_get};
+ghost use Rattle.std.proofs.Common.{rules};
 ghost use Rattle.std.specs.Option.{option_map};
 ghost use Rattle.td_op.specs.declared.reply.Reply.TheVariants.{Made, Taken};
 ghost use Rattle.td_op.specs.Op.{OpValue};
 ghost use Rattle.td_history.specs.declared.entry.WholeEntry.{WholeEntry};
 ghost use Rattle.td_history.specs.Past.{IsDoneAs};
 ghost use Rattle.td_history.specs.AsideValue.{HasGrown};
-ghost use Rattle.td_history.specs.EntryRuns.{entry_on};
+ghost use Rattle.td_history.specs.GoesOn.{entry_on};
 ghost use Rattle.td_history.specs.Entries.{entry_among, whole_among};
 
 use crate::aside::Aside;
+use crate::goes_on::GoesOn;
 use crate::input::{CompactInput, put_input};
 use crate::log::Log;
 use crate::put::CompactPut;
+use crate::ramps::Ramp;
 use crate::reply::CompactReply;
 use std::mem::size_of;
 use td_base::Dot;
@@ -46,6 +49,8 @@ pub struct WholeEntry {
 }
 
 const _: () = prove!(size_of::<CompactEntry>() == 12);
+
+const _: () = prove!(size_of::<Ramp<CompactEntry>>() == 16);
 
 const _: () = prove!(size_of::<WholeEntry>() == 28);
 
@@ -96,15 +101,15 @@ impl CompactEntry {
     }
 }
 
-impl CompactEntry {
-    /// The entry so far behind it in its run.
-    pub fn on(&self, k: u32) -> CompactEntry
-        ensures { result ≡ entry_on k self.now }
-    {
+/// In an entry numbers rise by one, and the index at which a letter is put does so.
+impl GoesOn for CompactEntry {
+    ghost on = { entry_on };
+
+    fn on(self, k: u32) -> CompactEntry {
         if k == 0 {
-            return *self;
+            return self;
         }
-        match *self {
+        match self {
             CompactEntry::Inserted { index, number } => CompactEntry::Inserted {
                 index: index.wrapping_add(k),
                 number: number.wrapping_add(k),
@@ -127,6 +132,10 @@ impl CompactEntry {
             },
         }
     }
+
+    ghost first = { λ x. refl };
+
+    ghost same = { Prim.search rules };
 }
 
 impl WholeEntry {

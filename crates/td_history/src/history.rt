@@ -12,6 +12,7 @@ ghost use Rattle.td_base.specs.Lists.{kth};
 use crate::entries::Entries;
 use crate::log::Log;
 use crate::message::CompactMessage;
+use crate::ramps::Ramps;
 use crate::vote::CompactVote;
 use std::alloc::Global;
 use std::marker::Model;
@@ -31,13 +32,12 @@ const MORE: u32 = 64;
 pub struct History {
     site: Site,
     log: Log,
-    sent: Vec<CompactMessage>,
+    sent: Ramps<CompactMessage>,
     entries: Entries,
     room: u32,
 }
 
 impl Model for History {
-    ghost use Rattle.std.specs.Prelude.{vec_len, vec_capacity};
     ghost use Rattle.td_history.specs.Past.{Past};
 
     ghost Value = { Past };
@@ -55,8 +55,7 @@ impl Model for History {
       room_site = h.log.room_site;
     } };
 
-    ghost invariant = { λ h.
-        IsHistoryParts h.site h.log h.sent.items (vec_len h.sent) (vec_capacity h.sent) h.entries h.room };
+    ghost invariant = { λ h. IsHistoryParts h.site h.log h.sent h.entries h.room };
 }
 
 impl History {
@@ -70,7 +69,7 @@ impl History {
         Ok(History {
             site,
             log: Log::new(alloc, site, n)?,
-            sent: Vec::new(alloc),
+            sent: Ramps::new(alloc),
             entries: Entries::new(alloc),
             room: 0,
         })
@@ -89,7 +88,7 @@ impl History {
         }
         self.room = 0;
         self.log.reserve(of, MORE)?;
-        self.sent.reserve(MORE as usize)?;
+        self.sent.reserve(MORE)?;
         self.entries.reserve(MORE)?;
         self.room = MORE;
         Ok(())
@@ -103,7 +102,7 @@ impl History {
         ensures { self.new ≡ with_made op.now self.old }
     {
         let number = self.log.add(op);
-        self.sent.push_reserved(CompactMessage::Op { number });
+        self.sent.push(CompactMessage::Op { number });
         self.room -= 1;
     }
 
@@ -146,7 +145,7 @@ impl History {
         ensures { self.new ≡ voted proposal yes self.old }
     {
         let vote = CompactVote::new(proposal, self.site, yes);
-        self.sent.push_reserved(CompactMessage::Vote { vote });
+        self.sent.push(CompactMessage::Vote { vote });
         self.room -= 1;
     }
 
@@ -247,7 +246,7 @@ impl History {
         ensures { kth k self.now.sent ≡ Some result }
     {
         // each call that hands a message on, and each arm of a `match`, would copy its 240 bytes once more
-        let number = match compact_at(&self.sent, k - 1) {
+        let number = match self.sent.at(k - 1) {
             CompactMessage::Op { number } => number,
             CompactMessage::Vote { vote } => return Message::Vote(vote.vote()),
         };
@@ -260,12 +259,4 @@ impl History {
     {
         self.entries.get(&self.log, i)
     }
-}
-
-// The compact message at a place from 0, which is there.
-fn compact_at(sent: &[CompactMessage], i: u64) -> CompactMessage
-    requires { i < length sent.now }
-    ensures { slice_get sent.now i ≡ Some result }
-{
-    sent[i as usize]
 }

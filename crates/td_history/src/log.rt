@@ -1,4 +1,5 @@
-ghost use Rattle.std.specs.Prelude.{◌≡◌, ◌<◌, ◌≤◌, ◌+◌, ◌-◌, ◌∷◌, ◌++◌, [], length, IfOk, IfSome, OnOk, vec_len, vec_capacity, IfNone, None, Some};
+ghost use Rattle.std.specs.Prelude.{◌≡◌, ◌<◌, ◌≤◌, ◌+◌, ◌-◌, ◌∷◌, ◌++◌, [], length};
+ghost use Rattle.std.specs.Prelude.{IfOk, IfSome, OnOk, IfNone, None, Some};
 ghost use Rattle.std.specs.List.{find, slice_get};
 ghost use Rattle.std.specs.Option.{is_some, option_and_then, option_map};
 ghost use Rattle.td_base.specs.declared.site.TheConstants.{MAX_SITE};
@@ -13,6 +14,7 @@ ghost use Rattle.td_history.specs.Past.{IsNextIn, decided_by};
 ghost use Rattle.td_history.specs.Index.{with_logged, with_decision, IsFromOne, IsLoggedAs};
 
 use crate::index::{Index, Logged};
+use crate::ramps::Ramps;
 use std::alloc::Global;
 use std::marker::Model;
 use td_base::{Dot, Memory, Run, Site};
@@ -26,14 +28,13 @@ use td_store::Ops;
 pub struct Log {
     ops: Ops,
     // the numbers of those in the log, the oldest first
-    numbers: Vec<u32>,
+    numbers: Ramps<u32>,
     index: Index,
     size: u8,
     room: u32,
 }
 
 impl Model for Log {
-    ghost use Rattle.std.specs.Prelude.{vec_len, vec_capacity};
     ghost use Rattle.td_history.specs.LogValue.{LogValue};
 
     ghost Value = { LogValue };
@@ -48,8 +49,7 @@ impl Model for Log {
       room_site = l.index.room_site;
     } };
 
-    ghost invariant = { λ l.
-        IsLogParts l.size l.ops l.numbers.items (vec_len l.numbers) (vec_capacity l.numbers) l.index l.room };
+    ghost invariant = { λ l. IsLogParts l.size l.ops l.numbers l.index l.room };
 }
 
 impl Log {
@@ -62,7 +62,7 @@ impl Log {
     {
         Ok(Log {
             ops: Ops::new(alloc, n),
-            numbers: Vec::new(alloc),
+            numbers: Ramps::new(alloc),
             index: Index::new(alloc, site, n)?,
             size: n,
             room: 0,
@@ -80,7 +80,7 @@ impl Log {
     {
         self.room = 0;
         self.ops.reserve(more)?;
-        self.numbers.reserve(more as usize)?;
+        self.numbers.reserve(more)?;
         self.index.reserve(of, more)?;
         self.room = more;
         Ok(())
@@ -240,12 +240,11 @@ impl Log {
 }
 
 // Adds the operation with this number to the numbers and to the index.
-fn note(numbers: &mut Vec<u32>, index: &mut Index, number: u32, op: &Op)
-    requires numbers_room { vec_len numbers.old < vec_capacity numbers.old }
+fn note(numbers: &mut Ramps<u32>, index: &mut Index, number: u32, op: &Op)
+    requires numbers_room { 1 ≤ numbers.old.room }
     requires index_room { 1 ≤ index.old.room }
     ensures numbers { numbers.new.items ≡ numbers.old.items ++ number ∷ [] }
-    ensures len { vec_len numbers.new ≡ vec_len numbers.old + 1 }
-    ensures capacity { vec_capacity numbers.new ≡ vec_capacity numbers.old }
+    ensures numbers_room { numbers.new.room ≡ numbers.old.room - 1 }
     ensures lists { index.new.lists
         ≡ with_decision op.now.body (with_logged index.old.room_site number index.old.lists) }
     ensures site { index.new.room_site ≡ index.old.room_site }
@@ -253,7 +252,7 @@ fn note(numbers: &mut Vec<u32>, index: &mut Index, number: u32, op: &Op)
     ensures room { index.new.room ≡ index.old.room - 1 }
     ensures dot { IfSome (decided_by op.now.body) IsFromOne }
 {
-    numbers.push_reserved(number);
+    numbers.push(number);
     index.push(number);
     match *op.body_ref() {
         Body::Commit { proposal } => index.decide(proposal, true),

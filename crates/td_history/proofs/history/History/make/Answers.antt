@@ -1,5 +1,7 @@
 use Rattle.std.proofs.Common.{◌++◌, ◌∷◌, [], ◌-◌, ap, arith}
 use Rattle.td_op.specs.declared.message.Message.TheVariants.{Op}
+use Rattle.td_history.specs.declared.message.CompactMessage.{CompactMessage}
+use Rattle.td_history.specs.Ramps.{RampsValue}
 use Rattle.td_history.specs.Standing.{StandFor, IsGrown}
 use Rattle.td_history.specs.Messages.{message_of}
 use Rattle.td_history.specs.Entries.{entry_of}
@@ -12,11 +14,11 @@ grown : (c : goal.After-self-1) → IsGrown c.self.inside.log.ops c.add-number.n
 grown c = rw (ap (λ l. l.ops) c.add-number.ensures.log) (grown_push c.self.inside.log.ops c.args.op.now)
 
 sending : (c : goal.After-self-1)
-    → StandFor (message_of c.add-number.new.self.ops) c.push_reserved.new.self.items
+    → StandFor (message_of c.add-number.new.self.ops) c.push.new.self.items
     (sent_of c.self.inside.log.ops c.self.inside.sent.items ++ Op c.args.op.now ∷ [])
 sending c =
     let kept = push_get c.self.inside.log.ops c.args.op.now in
-    rw c.push_reserved.ensures.items
+    rw (ap (λ (v : RampsValue CompactMessage). v.items) c.push.ensures)
     (stand_push _ _ _ _ _ (sent_on _ _ _ (grown c) c.self.invariant.sending)
     (rw (ap (λ l. l.ops) c.add-number.ensures.log, c.add-number.ensures.number, kept)))
 
@@ -34,11 +36,8 @@ invariant_of-self c =
       log_room = omega (arith, ap (λ l. l.room) c.add-number.ensures.log, c.self.invariant.log_room);
       sent_room = omega (
         arith,
-        c.push_reserved.ensures.len,
-        c.push_reserved.ensures.capacity,
+        ap (λ (v : RampsValue CompactMessage). v.room) c.push.ensures,
         c.self.invariant.sent_room,
-        c.requires.room,
-        ap (λ v. v.room) c.self.view_is,
       );
       entries_room = omega (arith, c.self.invariant.entries_room);
     }

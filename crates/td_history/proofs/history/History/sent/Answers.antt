@@ -4,5 +4,4 @@ use Rattle.td_history.proofs.history.History.sent.Goals as goal
 
 pub returns : goal.returns
 returns c =
-    c.len.ensures ∙ (c.self.inside.sent.ok.0 ∙ (stand_length _ _ _ c.self.invariant.sending
-    ∙ ap (λ v. length v.sent) c.self.view_is))
+    c.len.ensures ∙ (stand_length _ _ _ c.self.invariant.sending ∙ ap (λ v. length v.sent) c.self.view_is)

@@ -1,5 +1,7 @@
 use Rattle.std.proofs.Common.{◌++◌, ◌∷◌, [], ◌-◌, Some, ap, arith}
 use Rattle.td_op.specs.declared.message.Message.TheVariants.{Vote}
+use Rattle.td_history.specs.declared.message.CompactMessage.{CompactMessage}
+use Rattle.td_history.specs.Ramps.{RampsValue}
 use Rattle.td_history.specs.Standing.{StandFor}
 use Rattle.td_history.specs.Messages.{message_of}
 use Rattle.td_history.specs.HistoryParts.{sent_of, entries_of}
@@ -8,11 +10,11 @@ use Rattle.td_history.proofs.Pasts.{told}
 use Rattle.td_history.proofs.history.History.vote.Goals as goal
 
 sending : (c : goal.After-self-1)
-    → StandFor (message_of c.self.inside.log.ops) c.push_reserved.new.self.items
+    → StandFor (message_of c.self.inside.log.ops) c.push.new.self.items
     (sent_of c.self.inside.log.ops c.self.inside.sent.items
     ++ Vote (record { proposal = c.args.proposal; voter = c.self.inside.site; yes = c.args.yes }) ∷ [])
 sending c =
-    rw c.push_reserved.ensures.items
+    rw (ap (λ (v : RampsValue CompactMessage). v.items) c.push.ensures)
     (stand_push _ _ _ _ _ c.self.invariant.sending (ap (λ v. Some (Vote v)) c.new-vote.ensures))
 
 pub invariant_of-self : goal.invariant_of-self
@@ -24,11 +26,8 @@ invariant_of-self c =
       log_room = omega (arith, c.self.invariant.log_room);
       sent_room = omega (
         arith,
-        c.push_reserved.ensures.len,
-        c.push_reserved.ensures.capacity,
+        ap (λ (v : RampsValue CompactMessage). v.room) c.push.ensures,
         c.self.invariant.sent_room,
-        c.requires,
-        ap (λ v. v.room) c.self.view_is,
       );
       entries_room = omega (arith, c.self.invariant.entries_room);
     }

@@ -1,4 +1,4 @@
-use Rattle.std.proofs.Common.{◌≡◌, sym, ap, subst, ◌-◌, ◌∷◌, Some, arith}
+use Rattle.std.proofs.Common.{◌≡◌, sym, subst, ◌-◌, ◌∷◌, Some, arith}
 use Rattle.std.specs.List.{slice_get}
 use Rattle.td_history.specs.Past.{IsNextIn}
 use Rattle.td_history.specs.Logs.{IsLog, log_of}
@@ -24,14 +24,7 @@ invariant_of-self c =
       size = c.self.invariant.size;
       site = omega (arith, c.note.ensures.site, c.self.invariant.site);
       ops_room = omega (arith, c.self.invariant.ops_room);
-      numbers_room = omega (
-        arith,
-        c.note.ensures.len,
-        c.note.ensures.capacity,
-        c.self.invariant.numbers_room,
-        c.requires.room,
-        ap (λ v. v.room) c.self.view_is,
-      );
+      numbers_room = omega (arith, c.note.ensures.numbers_room, c.self.invariant.numbers_room);
       index_room = omega (arith, c.note.ensures.room, c.self.invariant.index_room);
     }
 

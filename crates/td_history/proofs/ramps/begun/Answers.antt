@@ -1,0 +1,11 @@
+use Rattle.std.proofs.Common.{rules, leb}
+use Rattle.std.proofs.lemmas.List.Sorted.{IsPartitionPoint-from_clause, IsPartitionedBy-leb}
+use Rattle.td_history.specs.declared.ramps.Ramp.{Ramp}
+use Rattle.td_history.proofs.ramps.begun.Goals as goal
+
+pub returns-clause-point : goal.returns-clause-point
+returns-clause-point g c =
+    λ rise. IsPartitionPoint-from_clause (λ (r : Ramp g.row.T.Denot). leb r.start c.args.k) c.args.ramps.now
+    c.partition_point.result c.partition_point.ensures.partitioned
+    (IsPartitionedBy-leb (λ (r : Ramp g.row.T.Denot). r.start) c.args.ramps.now c.args.k rise)
+    (λ a r f' k. search rules)
