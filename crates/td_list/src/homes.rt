@@ -3,6 +3,7 @@ ghost use Rattle.std.specs.Prelude.{◌≡◌, ◌<◌, ◌≤◌, ◌^◌, ℕ,
 ghost use Rattle.td_list.specs.Items.{IsItem};
 
 use crate::item::Item;
+use crate::room::reserve_by_quarter;
 use td_base::Memory;
 
 /// Writes down one number for all these items.
@@ -40,6 +41,7 @@ fn reach(homes: &mut Vec<u32>, name: u32) -> Result<(), Memory>
 {
     let name = name as usize;
     if homes.len() <= name {
+        reserve_by_quarter(homes, name - homes.len() + AHEAD)?;
         homes.resize(name + AHEAD, 0)?;
     }
     Ok(())

@@ -10,6 +10,7 @@ ghost use Rattle.td_list.specs.Index.{all_items, items_of, chunks_before, chunks
 use crate::chunk::Chunk;
 use crate::homes::{grow, settle};
 use crate::item::Item;
+use crate::room::reserve_by_quarter;
 use crate::sequence::Sequence;
 use std::alloc::Global;
 use std::marker::Model;
@@ -299,7 +300,7 @@ impl<S: Sequence> Index<S> {
             return Err(Memory);
         }
         self.free.reserve(new + 1)?;
-        self.chunks.push(Chunk::new(self.alloc))?;
+        push_empty(self.alloc, &mut self.chunks)?;
         self.free.push(new as u32).unwrap();
         Ok(())
     }
@@ -349,6 +350,16 @@ impl<S: Sequence> Index<S> {
         self.chunks[new as usize] = chunk;
         Ok(())
     }
+}
+
+// Adds a chunk without items.
+fn push_empty(alloc: Global, chunks: &mut Vec<Chunk>) -> Result<(), Memory>
+    ensures ok { OnOk result (chunks.new.items ≡ chunks.old.items ++ [] ∷ []) }
+    ensures err { OnErr result (chunks.new.items ≡ chunks.old.items) }
+{
+    reserve_by_quarter(chunks, 1)?;
+    chunks.push(Chunk::new(alloc)).unwrap();
+    Ok(())
 }
 
 // Where a chunk of so many items is parted, if others are to be put before the one at a place. Typing puts items at one

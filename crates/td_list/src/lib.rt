@@ -18,6 +18,7 @@ mod item;
 mod line;
 mod order;
 mod replacement;
+mod room;
 mod scan;
 mod sequence;
 
@@ -26,4 +27,5 @@ pub use deferred::Deferred;
 pub use edit::put_each;
 pub use item::{Item, Share};
 pub use line::Line;
+pub use room::reserve_by_quarter;
 pub use sequence::Sequence;
