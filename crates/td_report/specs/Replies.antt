@@ -33,6 +33,10 @@ proposal_or_refusal reply = refusal reply
 abbrev pub flat_line : ℕ → Reply → List ℕ
 flat_line site reply = line (codes "flat") site (proposal_or_refusal reply)
 
+-- nothing is idle that could be flattened
+abbrev pub flat_none_line : ℕ → List ℕ
+flat_none_line site = line (codes "flat") site (codes " none")
+
 -- a proposal is cancelled, or it was not open
 abbrev pub cancel_outcome : Reply → List ℕ
 cancel_outcome Cancelled = codes " ok"

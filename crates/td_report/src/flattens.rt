@@ -1,5 +1,6 @@
 ghost use Rattle.std.specs.Prelude.{◌≡◌, ◌++◌, IfOk, OnOk};
-ghost use Rattle.td_report.specs.Replies.{cancel_line, cancel_outcome, flat_line, proposal_or_refusal};
+ghost use Rattle.td_report.specs.Replies.{cancel_line, cancel_outcome};
+ghost use Rattle.td_report.specs.Replies.{flat_line, flat_none_line, proposal_or_refusal};
 
 use crate::parts::{begin, push_refusal, push_spaced_dot};
 use std::alloc::Global;
@@ -12,6 +13,16 @@ pub fn flat_line(alloc: Global, site: Site, reply: Reply) -> Result<Bytes, Memor
 {
     let mut line = begin(alloc, b"flat", site)?;
     push_proposal(&mut line, &reply)?;
+    line.push(b"\n")?;
+    Ok(line)
+}
+
+/// `flat R none`: nothing is idle that could be flattened, so nothing was asked.
+pub fn flat_none_line(alloc: Global, site: Site) -> Result<Bytes, Memory>
+    ensures { IfOk result (λ line. line ≡ flat_none_line site) }
+{
+    let mut line = begin(alloc, b"flat", site)?;
+    line.push(b" none")?;
     line.push(b"\n")?;
     Ok(line)
 }

@@ -1,3 +1,4 @@
 mod documents;
 mod lines;
+mod marks;
 mod trace;
