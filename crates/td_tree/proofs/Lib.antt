@@ -1,4 +1,5 @@
 pub mod Columns
+pub mod KeptRows
 pub mod ArrayParts
 pub mod ItemTokens
 pub mod Cuts

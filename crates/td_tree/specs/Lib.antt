@@ -9,4 +9,5 @@ pub mod Nodes
 pub mod Ways
 pub mod KeptAtom
 pub mod KeptState
+pub mod KeptRows
 pub mod Deletes

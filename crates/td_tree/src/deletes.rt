@@ -9,7 +9,7 @@ use std::{mem, slice};
 use td_base::{Dot, Memory};
 use td_doc::add_dot;
 
-/// Dots in their order, in 16 bytes where there are none or one, as for most rows. Contracts see the list of them.
+/// Dots in their order, in 16 bytes where there is one, as mostly. Contracts see the list of them.
 #[derive(Debug, Drop)]
 pub struct Deletes {
     named: Named,
@@ -35,12 +35,12 @@ impl Model for Deletes {
 }
 
 impl Deletes {
-    /// No dots. Takes no memory.
-    pub fn none() -> Deletes
-        ensures { result ≡ [] }
+    /// One dot. Takes no memory.
+    pub fn one(dot: Dot) -> Deletes
+        ensures { result ≡ dot ∷ [] }
     {
         Deletes {
-            named: Named::Never,
+            named: Named::Once(dot),
         }
     }
 
@@ -56,7 +56,7 @@ impl Deletes {
         }
     }
 
-    /// Adds a dot, unless it is there. The first takes no memory.
+    /// Adds a dot, unless it is there.
     pub fn add(&mut self, alloc: Global, by: Dot) -> Result<(), Memory>
         ensures ok { OnOk result (self.new ≡ add_dot by self.old) }
         ensures err { OnErr result (self.new ≡ self.old) }

@@ -17,7 +17,7 @@ use crate::tokens::Tokens;
 use crate::tree_row::Array;
 use std::alloc::Global;
 use td_base::{Bit, Memory};
-use td_list::{List, Sequence};
+use td_list::{List, Sequence, reserve_by_quarter};
 
 impl Tokens {
     /// Makes one leaf of the live rows of the root slot, and drops its tombstones.
@@ -95,7 +95,7 @@ impl Tokens {
         if self.arrays.len() >= MOST_ARRAYS as usize {
             return Err(Memory);
         }
-        self.arrays.reserve(1)?;
+        reserve_by_quarter(&mut self.arrays, 1)?;
         put_leaf(&mut self.list, first, end, &found.live)?;
         bury(&mut self.states, &found.nodes);
         gather(&mut self.states, self.arrays.len() as u32, &found.live);

@@ -9,21 +9,22 @@ ghost use Rattle.td_doc.specs.Answers.{IsFresh};
 ghost use Rattle.td_list.specs.Items.{IsItem, AreApart, AreNew, weight_of};
 ghost use Rattle.td_tree.specs.declared.kept_state.TheConstants.{MOST_ARRAYS};
 ghost use Rattle.td_tree.specs.declared.tree_row.RowState.TheVariants.{InArray};
+ghost use Rattle.td_tree.specs.KeptRows.{new_entries};
 ghost use Rattle.td_tree.specs.KeptState.{FitsKept};
 ghost use Rattle.td_tree.specs.Parts.{doc_rows, IsTree};
 ghost use Rattle.td_tree.specs.Places.{IsNewPlace, IsPut, IsRunPut, put_at, run_entries, top_id};
 
-use crate::deletes::Deletes;
 use crate::flatten::push_array;
 use crate::item_of::{atom_item, close_item, open_item};
 use crate::kept_atom::KeptAtom;
 use crate::kept_id::KeptId;
+use crate::kept_rows::KeptRows;
 use crate::kept_state::{KeptState, MOST_ARRAYS};
 use crate::tokens::Tokens;
 use crate::tree_row::{Array, RowState, TreeRow};
 use std::alloc::Global;
 use td_base::{Atom, AtomId, Dot, Memory, Run};
-use td_list::{Item, List, Sequence};
+use td_list::{Item, List, Sequence, reserve_by_quarter};
 
 impl Tokens {
     /// Puts a new row in brackets of its own before a token, or at the end.
@@ -42,7 +43,7 @@ impl Tokens {
             at,
             &[open_item(row), atom_item(row, 1), close_item(row)],
         )?;
-        push_row(&mut self.rows, id, atom);
+        self.rows.push(id, atom);
         push_state(&mut self.states, RowState::Node);
         self.nodes += 1;
         self.count += 1;
@@ -64,7 +65,7 @@ impl Tokens {
         let numbers = numbers_from(self.alloc, first, count)?;
         let mut rows = rows_of_run(self.alloc, dot, run)?;
         put(&mut self.list, at, &[atom_item(first + count / 2, count)])?;
-        append(&mut self.rows, &mut rows);
+        self.rows.append(&mut rows);
         push_states(&mut self.states, self.arrays.len() as u32, count);
         push_array(&mut self.arrays, numbers);
         self.count += count;
@@ -73,24 +74,19 @@ impl Tokens {
 }
 
 // Makes room for so many more rows.
-fn make_room(
-    rows: &mut Vec<TreeRow>,
-    states: &mut Vec<KeptState>,
-    count: usize,
-) -> Result<(), Memory>
+fn make_room(rows: &mut KeptRows, states: &mut Vec<KeptState>, count: usize) -> Result<(), Memory>
     requires { count < 2 ^ 30 }
-    ensures rows { rows.new.items ≡ rows.old.items }
+    ensures rows { rows.new.entries ≡ rows.old.entries }
     ensures states { states.new.items ≡ states.old.items }
-    ensures few { OnOk result (length rows.old.items + count < 2 ^ 30) }
-    ensures room { OnOk result (vec_len rows.new + count ≤ vec_capacity rows.new) }
+    ensures few { OnOk result (length rows.old.entries + count < 2 ^ 30) }
+    ensures room { OnOk result (count ≤ rows.new.room) }
     ensures states_room { OnOk result (vec_len states.new + count ≤ vec_capacity states.new) }
 {
     if rows.len() >= MOST_ROWS - count {
         return Err(Memory);
     }
     rows.reserve(count)?;
-    states.reserve(count)?;
-    Ok(())
+    reserve_by_quarter(states, count)
 }
 
 // Makes room for one more array.
@@ -102,8 +98,7 @@ fn make_array_room(arrays: &mut Vec<Array>) -> Result<(), Memory>
     if arrays.len() >= MOST_ARRAYS as usize {
         return Err(Memory);
     }
-    arrays.reserve(1)?;
-    Ok(())
+    reserve_by_quarter(arrays, 1)
 }
 
 // So many numbers, from the first on.
@@ -117,7 +112,7 @@ fn numbers_from(alloc: Global, first: u32, count: u32) -> Result<Vec<u32>, Memor
 // The rows of an insert's run.
 fn rows_of_run(alloc: Global, dot: Dot, run: &Run) -> Result<Vec<TreeRow>, Memory>
     requires { IsRun run.now }
-    ensures { IfOk result (λ rows. rows.items ≡ run_entries dot 0 run.now) }
+    ensures { IfOk result (λ rows. new_entries rows.items ≡ run_entries dot 0 run.now) }
 {
     let mut rows = Vec::new(alloc);
     rows.reserve(run.len() as usize)?;
@@ -132,24 +127,16 @@ fn rows_of_run(alloc: Global, dot: Dot, run: &Run) -> Result<Vec<TreeRow>, Memor
     Ok(rows)
 }
 
-// Adds more rows at the end, in the room that there is.
-fn append(rows: &mut Vec<TreeRow>, more: &mut Vec<TreeRow>)
-    requires { vec_len rows.old + length more.old.items ≤ vec_capacity rows.old }
-    ensures { rows.new.items ≡ rows.old.items ++ more.old.items }
-{
-    rows.append(more).unwrap();
-}
-
 // Adds a live row, in the room that there is.
 fn push_row(rows: &mut Vec<TreeRow>, id: AtomId, atom: KeptAtom)
     requires { vec_len rows.old < vec_capacity rows.old }
-    ensures row { rows.new.items ≡ rows.old.items ++ record { id = id; atom = atom; deletes = [] } ∷ [] }
+    ensures row { new_entries rows.new.items
+        ≡ new_entries rows.old.items ++ record { id = id; atom = atom; deletes = [] } ∷ [] }
     ensures room { vec_capacity rows.old ≤ vec_capacity rows.new }
     ensures long { vec_len rows.new ≡ vec_len rows.old + 1 }
 {
     let id = KeptId::of(id);
-    let deletes = Deletes::none();
-    rows.push(TreeRow { id, atom, deletes }).unwrap();
+    rows.push(TreeRow { id, atom }).unwrap();
 }
 
 // Adds the states of the rows of an array, in the room that there is.

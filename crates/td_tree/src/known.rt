@@ -16,7 +16,7 @@ use crate::found::items_up_to;
 use crate::side::{side_end, side_start};
 use crate::stretch::Stretch;
 use crate::tokens::Tokens;
-use crate::tree_row::{RowState, TreeRow};
+use crate::tree_row::RowState;
 use td_base::{Bit, Dot};
 use td_clock::Vector;
 use td_list::Item;
@@ -118,20 +118,12 @@ impl Tokens {
         true
     }
 
+    // Whether the vector has the dot of the row's identity and its delete dots.
     fn is_row_known(&self, row: u32, v: &Vector) -> bool
         requires { row < length self.now.rows }
         ensures { result ≡ is_known_entry v.now (table self.now row) }
     {
-        self.row(row).is_known(v)
-    }
-}
-
-impl TreeRow {
-    // Whether the vector has the dot of the row's identity and its delete dots.
-    fn is_known(&self, v: &Vector) -> bool
-        ensures { result ≡ is_known_entry v.now self.now }
-    {
-        v.has(self.id.id().dot) && has_all(v, self.deletes.as_slice())
+        v.has(self.id(row).dot) && has_all(v, self.deletes(row))
     }
 }
 

@@ -18,6 +18,7 @@ mod growth;
 mod item_of;
 mod kept_atom;
 mod kept_id;
+mod kept_rows;
 mod kept_state;
 mod known;
 mod last;

@@ -3,8 +3,10 @@ ghost use Rattle.std.specs.Prelude.{◌≡◌, ◌<◌, ◌≤◌, ◌^◌, [], 
 ghost use Rattle.td_list.specs.Items.{IsItem, items_after, first_name};
 ghost use Rattle.td_tree.specs.Parts.{state_at, table, doc_rows, nodes_of, tokens, IsTree};
 
+use crate::kept_atom::KeptAtom;
+use crate::kept_rows::KeptRows;
 use crate::kept_state::KeptState;
-use crate::tree_row::{Array, RowState, TreeRow};
+use crate::tree_row::{Array, RowState};
 use std::alloc::Global;
 use std::marker::Model;
 use td_base::{AtomId, Dot, Memory};
@@ -16,7 +18,7 @@ pub struct Tokens {
     // the tokens in their order, named by their rows
     pub(crate) list: List,
     // by number, in the order in which they came
-    pub(crate) rows: Vec<TreeRow>,
+    pub(crate) rows: KeptRows,
     // where each of them is, by number too: a flatten reads this of each row, and of most no more
     pub(crate) states: Vec<KeptState>,
     pub(crate) arrays: Vec<Array>,
@@ -37,13 +39,13 @@ impl Model for Tokens {
 
     ghost view = { λ t. record {
       items = t.list;
-      rows = rows_with t.rows.items t.states.items;
+      rows = rows_with t.rows.entries t.states.items;
       arrays = t.arrays.items;
       nodes = t.nodes;
       count = t.count;
     } };
 
-    ghost invariant = { λ t. length t.rows.items ≡ length t.states.items };
+    ghost invariant = { λ t. length t.rows.entries ≡ length t.states.items };
 }
 
 impl Tokens {
@@ -53,7 +55,7 @@ impl Tokens {
     {
         Ok(Tokens {
             list: List::empty(alloc)?,
-            rows: Vec::new(alloc),
+            rows: KeptRows::new(alloc),
             states: Vec::new(alloc),
             arrays: Vec::new(alloc),
             nodes: 0,
@@ -71,20 +73,29 @@ impl Tokens {
         self.states[row as usize].state()
     }
 
-    /// A row.
-    pub fn row(&self, row: u32) -> &TreeRow
-        requires { row < length self.now.rows }
-        ensures { result.now ≡ table self.now row }
-    {
-        &self.rows[row as usize]
-    }
-
     /// The identity of a row.
     pub fn id(&self, row: u32) -> AtomId
         requires { row < length self.now.rows }
         ensures { result ≡ (table self.now row).id }
     {
-        self.row(row).id.id()
+        self.rows.id(row)
+    }
+
+    /// The atom of a row.
+    pub fn kept_atom(&self, row: u32) -> &KeptAtom
+        requires { row < length self.now.rows }
+        ensures { result.now ≡ (table self.now row).atom }
+    {
+        self.rows.atom(row)
+    }
+
+    /// The dots of the deletes that named a row; fewer than 2^32.
+    pub fn deletes(&self, row: u32) -> &[Dot]
+        requires { row < length self.now.rows }
+        ensures dots { result.now ≡ (table self.now row).deletes }
+        ensures few { length result.now < 2 ^ 32 }
+    {
+        self.rows.deletes(row)
     }
 
     /// The first token.
@@ -107,7 +118,7 @@ impl Tokens {
         requires { row < length self.now.rows }
         ensures { result ≡ slice_get (table self.now row).deletes k }
     {
-        self.row(row).deletes.as_slice().get(k as usize).copied()
+        self.deletes(row).get(k as usize).copied()
     }
 
     /// The number of rows.

@@ -42,14 +42,14 @@ impl Tokens {
         requires { row < length self.now.rows }
         ensures { result ≡ (table self.now row).atom }
     {
-        self.row(row).atom.atom()
+        self.kept_atom(row).atom()
     }
 
     fn delete_count(&self, row: u32) -> u32
         requires { row < length self.now.rows }
         ensures { result ≡ length (table self.now row).deletes }
     {
-        self.row(row).deletes.as_slice().len() as u32
+        self.deletes(row).len() as u32
     }
 
     /// The number of live rows before a row.

@@ -1,15 +1,11 @@
 // The rows of a tree by number, where they are, and the arrays of its leaves.
-ghost use Rattle.std.specs.Prelude.{◌≡◌, ◌<◌, ◌^◌, length, set, OnOk, OnErr};
-ghost use Rattle.td_doc.specs.Deletion.{add_dot};
+ghost use Rattle.std.specs.Prelude.{◌≡◌, ◌<◌, length, set};
 ghost use Rattle.td_tree.specs.KeptState.{FitsKept};
 
-use crate::deletes::Deletes;
 use crate::kept_atom::KeptAtom;
 use crate::kept_id::KeptId;
 use crate::kept_state::KeptState;
-use std::alloc::Global;
 use std::marker::Model;
-use td_base::{Dot, Memory};
 
 /// Where a row is: in brackets of its own, at an index of an array that leaves share, or in the document no longer.
 #[derive(Clone, Copy, Debug, PartialEq, Eq)]
@@ -19,31 +15,11 @@ pub enum RowState {
     Gone,
 }
 
-/// A row, without its place among the others and where it is.
+/// A row as it came, without its place among the others, where it is, and the deletes that named it since.
 #[derive(Debug, Drop)]
 pub struct TreeRow {
     pub id: KeptId,
     pub atom: KeptAtom,
-    pub deletes: Deletes,
-}
-
-impl Model for TreeRow {
-    ghost use Rattle.td_brackets.specs.Brackets.{Entry};
-
-    ghost Value = { Entry };
-
-    ghost view = { λ r. record { id = r.id; atom = r.atom; deletes = r.deletes } };
-}
-
-impl TreeRow {
-    /// Adds the dot of a delete, unless it is there.
-    pub fn add_delete(&mut self, alloc: Global, by: Dot) -> Result<(), Memory>
-        ensures ok { OnOk result (self.new ≡ record self.old { deletes = add_dot by self.old.deletes }) }
-        ensures err { OnErr result (self.new ≡ self.old) }
-    {
-        self.deletes.add(alloc, by)?;
-        Ok(())
-    }
 }
 
 /// The numbers of rows that were once made an array. Leaves are stretches of it.

@@ -1,5 +1,6 @@
 use Rattle.std.proofs.Common.{◌≡◌, ◌+◌, ◌≤◌, ◌++◌, length}
 use Rattle.std.specs.Prelude.{vec_len, vec_capacity}
+use Rattle.td_tree.specs.KeptRows.{new_entries}
 use Rattle.td_tree.specs.Places.{run_entries}
 use Rattle.td_tree.proofs.growth.rows_of_run.Given as goal
 
@@ -10,5 +11,5 @@ invariant-loop-offset l = record {
   ends : (goal.iterator-loop-offset).is_finite l.atom-iterator;
   place : l.offset + length l.atom-iterator ≡ length l.run;
   room : vec_len l.rows + length l.atom-iterator ≤ vec_capacity l.rows;
-  there : l.rows.items ++ run_entries l.dot l.offset l.atom-iterator ≡ run_entries l.dot 0 l.run;
+  there : new_entries l.rows.items ++ run_entries l.dot l.offset l.atom-iterator ≡ run_entries l.dot 0 l.run;
 }

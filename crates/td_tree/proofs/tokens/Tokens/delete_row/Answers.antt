@@ -11,7 +11,7 @@ use Rattle.td_tree.proofs.tokens.Tokens.delete_row.Goals as goal
 pub add_delete-requires : goal.add_delete-requires
 add_delete-requires c =
     let was = ap (λ (p : Parts). length p.rows) c.self.view_is in
-    let long = rows_long c.self.inside.rows.items c.self.inside.states.items c.self.invariant in
+    let long = rows_long c.self.inside.rows.entries c.self.inside.states.items c.self.invariant in
     omega (arith, c.requires.row)
 
 pub renew-requires-clause-there : goal.renew-requires-clause-there
@@ -34,9 +34,9 @@ returns-clause-ok c =
     let p : Parts = c.args.self.now in
     let items : c.renew.new.self ≡ renew (atom_item c.args.row 0) p.items = c.renew.ensures
     ∙ (λ i. renew (c.atom_item.ensures i) (c.self.view_is i).items) in
-    let entries : List Entry = c.self.inside.rows.items in
+    let entries : List Entry = c.self.inside.rows.entries in
     let states : List RowState = c.self.inside.states.items in
-    let rows : rows_with c.add_delete.new.rows.items states
+    let rows : rows_with c.add_delete.new.self.entries states
     ≡ set p.rows c.args.row (record {
       entry = deleted (table p c.args.row) c.args.by;
       state = state_at p c.args.row;

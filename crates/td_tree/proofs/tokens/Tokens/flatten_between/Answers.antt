@@ -84,7 +84,7 @@ bury-requires c = λ r m.
     let s = c.requires.stretch in
     let nodes = c.deref-2.ensures.value ∙ (found d).nodes_are in
     let below = open_below c.args.self.now c.requires.tree s.0 c.args.first c.args.end s.1 r (subst (In r) nodes m) in
-    let known = states_long c.self.inside.rows.items c.self.inside.states.items c.self.invariant in
+    let known = states_long c.self.inside.rows.entries c.self.inside.states.items c.self.invariant in
     let was = ap (λ (q : Parts). length q.rows) c.self.view_is in
     omega arith
 
@@ -101,7 +101,7 @@ gather-requires-clause-known c = λ r m.
     let below : get_or (live_numbers (table p) (tokens_of p s.1.stretch.inner)) k.0 0 < length p.rows =
     live_below p c.requires.tree s.0 c.args.first c.args.end s.1 k.0 k.1 in
     let long = c.bury.ensures.long in
-    let known = states_long c.self.inside.rows.items c.self.inside.states.items c.self.invariant in
+    let known = states_long c.self.inside.rows.entries c.self.inside.states.items c.self.invariant in
     let was = ap (λ (q : Parts). length q.rows) c.self.view_is in
     subst (λ (x : ℕ). x < length c.bury.new.states.items) (sym k.2) (omega arith)
 
@@ -167,14 +167,15 @@ returns-clause-ok c = λ slot s.
     let len = c.len-3.ensures ∙ c.in_ok-found.found.nodes.ok.0 in
     let q : Parts = record {
       items = c.put_leaf.new.list;
-      rows = rows_with c.self.inside.rows.items c.gather.new.states.items;
+      rows = rows_with c.self.inside.rows.entries c.gather.new.states.items;
       arrays = c.push_array.new.arrays.items;
       nodes = c.self.inside.nodes - c.len-3.result;
       count = c.self.inside.count - c.in_ok-found.found.dead;
     } in
-    let arrays_len : c.len-2.result ≡ length p.arrays = c.len-2.ensures ∙ c.reserve.new.self.ok.0
-    ∙ ap (λ (xs : List (List ℕ)). length xs) (c.in_ok-reserve.ensures.items ∙ ap (λ (q : Parts). q.arrays) view) in
-    let entries : List Entry = c.self.inside.rows.items in
+    let arrays_len : c.len-2.result ≡ length p.arrays = c.len-2.ensures ∙ c.reserve_by_quarter.new.items.ok.0
+    ∙ ap (λ (xs : List (List ℕ)). length xs)
+    (c.reserve_by_quarter.ensures.items ∙ ap (λ (q : Parts). q.arrays) view) in
+    let entries : List Entry = c.self.inside.rows.entries in
     let states : List RowState = c.self.inside.states.items in
     let buried : List RowState = c.bury.new.states.items in
     let gathered : List RowState = c.gather.new.states.items in
@@ -182,7 +183,7 @@ returns-clause-ok c = λ slot s.
     let two : length entries ≡ length gathered = one ∙ sym c.gather.ensures.long in
     flattened p c.requires.tree slot c.args.first c.args.end s q
     (c.in_ok-put_leaf.ensures.ok ∙ (λ i. replace c.args.first c.args.end (leaf_of (now i)) (view i).items))
-    (c.push_array.ensures ∙ (λ i. (c.in_ok-reserve.ensures.items ∙ ap (λ (q : Parts). q.arrays) view) i
+    (c.push_array.ensures ∙ (λ i. (c.reserve_by_quarter.ensures.items ∙ ap (λ (q : Parts). q.arrays) view) i
     ++ f.live_is i ∷ []))
     (rows_with entries buried)
     (rows_long entries buried one ∙ sym (rows_long entries states c.self.invariant)
@@ -224,16 +225,17 @@ returns-clause-last c = λ starts ends r a i l e.
     let view = c.self.view_is in
     let q : Parts = record {
       items = c.put_leaf.new.list;
-      rows = rows_with c.self.inside.rows.items c.gather.new.states.items;
+      rows = rows_with c.self.inside.rows.entries c.gather.new.states.items;
       arrays = c.push_array.new.arrays.items;
       nodes = c.self.inside.nodes - c.len-3.result;
       count = c.self.inside.count - c.in_ok-found.found.dead;
     } in
     let live : List ℕ = live_numbers (table p) (tokens_of p s.1.stretch.inner) in
-    let arrays_len : c.len-2.result ≡ length p.arrays = c.len-2.ensures ∙ c.reserve.new.self.ok.0
-    ∙ ap (λ (xs : List (List ℕ)). length xs) (c.in_ok-reserve.ensures.items ∙ ap (λ (q : Parts). q.arrays) view) in
+    let arrays_len : c.len-2.result ≡ length p.arrays = c.len-2.ensures ∙ c.reserve_by_quarter.new.items.ok.0
+    ∙ ap (λ (xs : List (List ℕ)). length xs)
+    (c.reserve_by_quarter.ensures.items ∙ ap (λ (q : Parts). q.arrays) view) in
     let arrays : q.arrays ≡ p.arrays ++ live ∷ [] = c.push_array.ensures
-    ∙ (λ i. (c.in_ok-reserve.ensures.items ∙ ap (λ (q : Parts). q.arrays) view) i ++ f.live_is i ∷ []) in
+    ∙ (λ i. (c.reserve_by_quarter.ensures.items ∙ ap (λ (q : Parts). q.arrays) view) i ++ f.live_is i ∷ []) in
     let long : length q.arrays ≡ length p.arrays + 1 = ap (λ (xs : List (List ℕ)). length xs) arrays
     ∙ length-append p.arrays (live ∷ []) in
     let items : q.items ≡ leaf_of live =
@@ -242,7 +244,7 @@ returns-clause-last c = λ starts ends r a i l e.
     let alone : a ≡ length p.arrays =
     in_array q (returns-clause-ok c s.0 s.1).tree live (length p.arrays) items
     (λ m. ap (λ (xs : List ℕ). state_at q (get_or xs (length live / 2) 0)) (sym last)
-    ∙ state_in c.self.inside.rows.items c.gather.new.states.items
+    ∙ state_in c.self.inside.rows.entries c.gather.new.states.items
     (c.self.invariant ∙ sym c.bury.ensures.long ∙ sym c.gather.ensures.long)
     (get_or c.deref-3.result.now (length live / 2) 0)
     ∙ c.gather.ensures.inside (length live / 2) (subst (λ (xs : List ℕ). length live / 2 < length xs) (sym last)

@@ -7,14 +7,14 @@ pub returns : goal.returns
 returns c =
     let p : Parts = record {
       items = c.self.inside.list;
-      rows = rows_with c.self.inside.rows.items c.self.inside.states.items;
+      rows = rows_with c.self.inside.rows.entries c.self.inside.states.items;
       arrays = c.self.inside.arrays.items;
       nodes = c.self.inside.nodes;
       count = c.self.inside.count;
     } in
     let q : Parts = record {
       items = c.self.inside.list;
-      rows = rows_with c.self.inside.rows.items c.self.inside.states.items;
+      rows = rows_with c.self.inside.rows.entries c.self.inside.states.items;
       arrays = c.empty.new.arrays.items;
       nodes = c.self.inside.nodes;
       count = c.self.inside.count;

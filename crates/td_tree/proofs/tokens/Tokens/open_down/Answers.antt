@@ -29,7 +29,7 @@ pub make_nodes-requires : goal.make_nodes-requires
 make_nodes-requires c = λ r m.
     let known = c.in_ok-way.ensures.known r (subst (In r) c.deref-2.ensures.value m) in
     let was = ap (λ (q : Parts). length q.rows) c.self.view_is in
-    let long = states_long c.self.inside.rows.items c.self.inside.states.items c.self.invariant in
+    let long = states_long c.self.inside.rows.entries c.self.inside.states.items c.self.invariant in
     omega arith
 
 pub invariant_of-self-2 : goal.invariant_of-self-2
@@ -42,7 +42,7 @@ now : (c : After-drop-way-3) → with_way c.args.self.now c.args.leaf c.in_ok-wa
     ≡ record {
       items = c.replace_one.new.self;
       rows =
-          rows_with c.self.inside.rows.items c.make_nodes.new.states.items;
+          rows_with c.self.inside.rows.entries c.make_nodes.new.states.items;
       arrays = c.self.inside.arrays.items;
       nodes = c.self.inside.nodes + c.len.result;
       count = c.self.inside.count;
@@ -55,10 +55,10 @@ now c =
     c.in_ok-replace_one.ensures.ok
     ∙ (λ i. items_before (name i) ((view i).items)
     ++ (c.deref.ensures.value i ++ items_after (name i) ((view i).items))) in
-    let rows : rows_with c.self.inside.rows.items c.make_nodes.new.states.items
+    let rows : rows_with c.self.inside.rows.entries c.make_nodes.new.states.items
     ≡ nodes_at c.in_ok-way.way.tops.items c.args.self.now.rows =
-    ap (rows_with c.self.inside.rows.items) c.make_nodes.ensures
-    ∙ nodes_set c.self.inside.rows.items c.deref-2.result.now c.self.inside.states.items c.self.invariant
+    ap (rows_with c.self.inside.rows.entries) c.make_nodes.ensures
+    ∙ nodes_set c.self.inside.rows.entries c.deref-2.result.now c.self.inside.states.items c.self.invariant
     ∙ (λ i. nodes_at (c.deref-2.ensures.value i) ((view i).rows)) in
     let count : length c.in_ok-way.way.tops.items ≡ c.len.result =
     (let same = c.len.ensures in let lent = c.deref-2.ensures.len in let value = ap length c.deref-2.ensures.value in

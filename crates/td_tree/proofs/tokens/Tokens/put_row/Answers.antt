@@ -24,11 +24,11 @@ as_put n o a k e f g = λ i. sym e i ∷ sym f i ∷ sym g i ∷ []
 
 piece : (c : After-close_item) → Piece c
 piece c =
-    let long : length c.make_room.new.rows.items ≡ length c.args.self.now.rows =
+    let long : length c.make_room.new.rows.entries ≡ length c.args.self.now.rows =
     ap (λ (xs : List Entry). length xs) c.make_room.ensures.rows
-    ∙ sym (rows_long c.self.inside.rows.items c.self.inside.states.items c.self.invariant)
+    ∙ sym (rows_long c.self.inside.rows.entries c.self.inside.states.items c.self.invariant)
     ∙ ap (λ (p : Parts). length p.rows) c.self.view_is in
-    let row : c.len-row.result ≡ length c.args.self.now.rows = c.len-row.ensures ∙ c.make_room.new.rows.ok.0 ∙ long in
+    let row : c.len-row.result ≡ length c.args.self.now.rows = c.len-row.ensures ∙ long in
     record {
       row = row;
       items = as_put (length c.args.self.now.rows) c.open_item.result c.atom_item.result c.close_item.result
@@ -76,18 +76,18 @@ returns-clause-ok c =
     let items : c.put.new.list ≡ put_at c.args.at (node_items (length p.rows) [] []) p.items = c.in_ok-put.ensures.ok
     ∙ (λ i. put_at c.args.at (sym k.items i) (sym k.list i)) in
     let entry : Entry = record { id = c.args.id; atom = c.args.atom.now; deletes = [] } in
-    let entries : c.push_row.new.rows.items ≡ c.self.inside.rows.items ++ entry ∷ [] =
-    c.push_row.ensures.row ∙ (λ i. c.make_room.ensures.rows i
+    let entries : c.push.new.self.entries ≡ c.self.inside.rows.entries ++ entry ∷ [] =
+    c.push.ensures.row ∙ (λ i. c.make_room.ensures.rows i
     ++ record { id = c.args.id; atom = c.in_ok-atom.ensures i; deletes = [] } ∷ []) in
     let states : c.push_state.new.states.items ≡ c.self.inside.states.items ++ Node ∷ [] = c.push_state.ensures.state
     ∙ ap (λ (xs : List RowState). xs ++ Node ∷ []) c.make_room.ensures.states in
-    let rows : rows_with c.push_row.new.rows.items c.push_state.new.states.items ≡ p.rows
+    let rows : rows_with c.push.new.self.entries c.push_state.new.states.items ≡ p.rows
     ++ record { entry = entry; state = Node } ∷ [] =
-    (λ i. rows_with (entries i) (states i)) ∙ rows_more c.self.inside.rows.items (entry ∷ [])
+    (λ i. rows_with (entries i) (states i)) ∙ rows_more c.self.inside.rows.entries (entry ∷ [])
     c.self.inside.states.items (Node ∷ []) c.self.invariant
     ∙ ap (λ (q : Parts). q.rows ++ record { entry = entry; state = Node } ∷ []) c.self.view_is in
     let few = c.in_ok-make_room.ensures.few in
-    let long = rows_long c.self.inside.rows.items c.self.inside.states.items c.self.invariant in
+    let long = rows_long c.self.inside.rows.entries c.self.inside.states.items c.self.invariant in
     let was = ap (λ (q : Parts). length q.rows) c.self.view_is in
     subst (λ (q : Parts). IsPut p q c.args.at c.args.id c.args.atom.now)
     (λ i. record {

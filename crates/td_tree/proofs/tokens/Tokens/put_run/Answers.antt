@@ -6,9 +6,11 @@ use Rattle.td_list.specs.Items.{Item, IsItem}
 use Rattle.td_brackets.specs.Brackets.{Entry}
 use Rattle.td_tree.specs.declared.tree_row.RowState.{RowState}
 use Rattle.td_tree.specs.declared.tree_row.RowState.TheVariants.{InArray}
+use Rattle.td_tree.specs.KeptRows.{new_entries}
 use Rattle.td_tree.specs.Parts.{Parts, rows_with, atom_item}
 use Rattle.td_tree.specs.Places.{IsRunPut, put_at, run_rows, run_entries, top_id}
 use Rattle.td_tree.proofs.Columns.{rows_long, rows_more, run_columns, entries_long}
+use Rattle.td_tree.proofs.KeptRows.{news_long}
 use Rattle.td_tree.proofs.PutRow.{place_there, piece_new}
 use Rattle.td_tree.proofs.PutRun.{is_run_put}
 use Rattle.td_tree.proofs.tokens.Tokens.put_run.Goals as goal
@@ -24,12 +26,11 @@ record Piece (c : After-atom_item) : Type 0 where
 
 piece : (c : After-atom_item) → Piece c
 piece c =
-    let long : length c.make_room.new.rows.items ≡ length c.args.self.now.rows =
+    let long : length c.make_room.new.rows.entries ≡ length c.args.self.now.rows =
     ap (λ (xs : List Entry). length xs) c.make_room.ensures.rows
-    ∙ sym (rows_long c.self.inside.rows.items c.self.inside.states.items c.self.invariant)
+    ∙ sym (rows_long c.self.inside.rows.entries c.self.inside.states.items c.self.invariant)
     ∙ ap (λ (p : Parts). length p.rows) c.self.view_is in
-    let first : c.len-first.result ≡ length c.args.self.now.rows = c.len-first.ensures ∙ c.make_room.new.rows.ok.0
-    ∙ long in
+    let first : c.len-first.result ≡ length c.args.self.now.rows = c.len-first.ensures ∙ long in
     let count : c.from-count.result ≡ length c.args.run.now = c.from-count.ensures ∙ c.len.ensures.len in
     record {
       first = first;
@@ -58,13 +59,14 @@ put-requires-clause-new c = λ x i m.
 pub append-requires : goal.append-requires
 append-requires c =
     let long = ap (λ (xs : List Entry). length xs) c.in_ok-rows.ensures ∙ entries_long c.args.dot 0 c.args.run.now in
+    let kept = news_long c.in_ok-rows.rows.items in
     let count = c.from-count.ensures ∙ c.len.ensures.len in
     omega (arith, c.in_ok-make_room.ensures.room)
 
 pub invariant_of-self-2 : goal.invariant_of-self-2
 invariant_of-self-2 c =
     let entries = ap (λ (xs : List Entry). length xs) c.append.ensures
-    ∙ length-append c.make_room.new.rows.items c.in_ok-rows.rows.items in
+    ∙ length-append c.make_room.new.rows.entries (new_entries c.in_ok-rows.rows.items) in
     let entries_kept = ap (λ (xs : List Entry). length xs) c.make_room.ensures.rows in
     let entries_more = ap (λ (xs : List Entry). length xs) c.in_ok-rows.ensures
     ∙ entries_long c.args.dot 0 c.args.run.now in
@@ -89,23 +91,23 @@ returns-clause-ok c =
     ∙ ap (λ (xs : List (List ℕ)). length xs) arrays_same in
     let items : c.put.new.list ≡ put_at c.args.at (atom_item (n + j / 2) j ∷ []) p.items = c.in_ok-put.ensures.ok
     ∙ (λ i. put_at c.args.at (k.item i ∷ []) (sym k.list i)) in
-    let entries : c.append.new.rows.items ≡ c.self.inside.rows.items
+    let entries : c.append.new.self.entries ≡ c.self.inside.rows.entries
     ++ run_entries c.args.dot 0 run = c.append.ensures
     ∙ (λ i. c.make_room.ensures.rows i ++ c.in_ok-rows.ensures i) in
     let more : List RowState = map (InArray (length p.arrays)) (range_with_len 0 j) in
     let states : c.push_states.new.states.items ≡ c.self.inside.states.items ++ more =
     c.push_states.ensures ∙ (λ i. c.make_room.ensures.states i
     ++ map (InArray (array_is i)) (range_with_len 0 (k.count i))) in
-    let rows : rows_with c.append.new.rows.items c.push_states.new.states.items ≡ p.rows
+    let rows : rows_with c.append.new.self.entries c.push_states.new.states.items ≡ p.rows
     ++ run_rows (length p.arrays) c.args.dot 0 run =
-    (λ i. rows_with (entries i) (states i)) ∙ rows_more c.self.inside.rows.items (run_entries c.args.dot 0 run)
+    (λ i. rows_with (entries i) (states i)) ∙ rows_more c.self.inside.rows.entries (run_entries c.args.dot 0 run)
     c.self.inside.states.items more c.self.invariant
     ∙ (λ i. (c.self.view_is i).rows ++ run_columns (length p.arrays) c.args.dot 0 run i) in
     let arrays : c.push_array.new.arrays.items ≡ p.arrays ++ range_with_len n j ∷ [] =
     c.push_array.ensures ∙ (λ i. arrays_same i ++ (c.in_ok-numbers.ensures
     ∙ (λ m. range_with_len (k.first m) (k.count m))) i ∷ []) in
     let few = c.in_ok-make_room.ensures.few in
-    let long = rows_long c.self.inside.rows.items c.self.inside.states.items c.self.invariant in
+    let long = rows_long c.self.inside.rows.entries c.self.inside.states.items c.self.invariant in
     let was = ap (λ (q : Parts). length q.rows) c.self.view_is in
     let some = c.len.ensures.run.some in
     let total = k.count in
