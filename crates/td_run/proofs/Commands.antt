@@ -8,8 +8,9 @@ use Rattle.td_gen.specs.Generator.{generated}
 use Rattle.td_gen.proofs.Commands.{generated_are}
 use Rattle.td_script.specs.Script.{AreCommands, IsCommand}
 use Rattle.td_script.specs.declared.command.Command.{Command}
-use Rattle.td_script.specs.declared.command.Command.TheVariants.{Sites, Ins, Paste, Del, Flat, Cancel, Give}
-use Rattle.td_script.specs.declared.command.Command.TheVariants.{GiveAll, Settle, Show, Tree, Count}
+use Rattle.td_script.specs.declared.command.Command.TheVariants.{Sites, Ins, Paste, Del, Flat, FlatAuto, Cancel}
+use Rattle.td_script.specs.declared.command.Command.TheVariants.{Give, GiveAll, Settle, Show, Tree, Count}
+use Rattle.td_script.specs.declared.command.Command.TheVariants.{Mark, Meet, Marks}
 use Rattle.td_script.specs.declared.command.Place.TheVariants.{Root, Beside}
 use Rattle.td_run.specs.Sites.{MayStand}
 
@@ -22,6 +23,7 @@ stands sites (Paste site index atoms) is = (is.0.1, is.2.each)
 stands sites (Del site index count) is = is.0.1
 stands sites (Flat site Root) is = is.1
 stands sites (Flat site (Beside index bit)) is = is.0.1
+stands sites (FlatAuto site) is = is.1
 stands sites (Cancel site proposal) is = is.0.1
 stands sites (Give site number) is = is.0.1
 stands sites (GiveAll site) is = is.1
@@ -29,6 +31,9 @@ stands sites Settle is = tt
 stands sites (Show site) is = is.1
 stands sites (Tree site) is = is.1
 stands sites (Count site) is = is.1
+stands sites (Mark site add name index count) is = (is.0.1, is.1)
+stands sites (Meet site other) is = (is.0.1, is.1.1)
+stands sites (Marks site) is = is.1
 
 pub commands_stand : (sites : ℕ) (commands : List Command) → AreCommands sites commands → All (MayStand sites) commands
 commands_stand sites [] are = All-nil (MayStand sites)
@@ -55,6 +60,7 @@ stands_there (Paste site index atoms) is = absurd is
 stands_there (Del site index count) is = is
 stands_there (Flat site Root) is = is
 stands_there (Flat site (Beside index bit)) is = absurd is
+stands_there (FlatAuto site) is = absurd is
 stands_there (Cancel site proposal) is = absurd is
 stands_there (Give site number) is = absurd is
 stands_there (GiveAll site) is = absurd is
@@ -62,6 +68,9 @@ stands_there Settle is = tt
 stands_there (Show site) is = absurd is
 stands_there (Tree site) is = absurd is
 stands_there (Count site) is = absurd is
+stands_there (Mark site add name index count) is = absurd is
+stands_there (Meet site other) is = absurd is
+stands_there (Marks site) is = absurd is
 
 pub generated_stand : (size number : ℕ) → All (MayStand 3) (generated size number).commands
 generated_stand size number =

@@ -6,7 +6,7 @@ use Rattle.std.proofs.lemmas.List.{append-nil, append_assoc, length-drop, take_a
 use Rattle.td_op.specs.declared.message.Message.{Message}
 use Rattle.td_report.specs.Replies.{event_line}
 use Rattle.td_world.specs.World.{WorldValue}
-use Rattle.td_run.specs.Printing.{Printed, and_then, event_of, events, line_and_events, with_line}
+use Rattle.td_run.specs.Printing.{Printed, and_then, event_of, events, line_and_events, with_line, with_world}
 
 -- the message behind the first n of those from a place on
 next_of : (sent : List Message) (n : ℕ) → n < length sent
@@ -56,10 +56,10 @@ all_events sent before number past =
 -- a line is printed, and then the events since a moment
 pub line_then_events : (p q r : Printed) (world : WorldValue) (line : List ℕ) (before : ℕ) → before
     ≡ length p.world.sent
-    → q ≡ with_line line (record { world = world; text = p.text })
+    → q ≡ with_line line (with_world world p)
     → r ≡ with_line (flat_map event_line (drop before q.world.sent)) q
     → r ≡ and_then p (line_and_events p.world world line)
 line_then_events p q r world line before moment printed more =
     more
     ∙ (λ i. with_line (flat_map event_line (drop (moment i) (printed i).world.sent)) (printed i))
-    ∙ (λ i. record { world = world; text = append_assoc p.text line (events p.world world) i })
+    ∙ (λ i. record { world = world; marks = p.marks; text = append_assoc p.text line (events p.world world) i })

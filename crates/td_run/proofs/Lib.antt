@@ -3,6 +3,8 @@ pub mod NextEdits
 pub mod Events
 pub mod Offers
 pub mod Sizes
+pub mod IdleSlots
+pub mod Meeting
 pub mod Commands
 pub mod Played
 pub mod GenWords

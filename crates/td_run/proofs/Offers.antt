@@ -15,7 +15,8 @@ use Rattle.td_replica.specs.Replica.{knows_message}
 use Rattle.td_world.specs.Calls.{give_moves, is_wanted, offered, offered_by, offer_moves}
 use Rattle.td_world.specs.Calls.{offer_moves_of, took, wanted_answer, wanted_moves}
 use Rattle.td_world.specs.Parts.{ArePassed}
-use Rattle.td_run.specs.Printing.{Printed, and_then, give_each, give_wanted, line_and_events, only_line}
+use Rattle.td_run.specs.Printing.{Printed, Effect, and_then, give_each, give_wanted, in_turn, line_and_events}
+use Rattle.td_run.specs.Printing.{only_line, with_world}
 
 -- ---- one message
 
@@ -96,25 +97,26 @@ printed_given site number m given p q world there offers is printed =
 pub printed_nothing : (site number : ℕ) (m : Message) (given : Option Given) (p : Printed) (world : WorldValue)
     → given ≡ offered site number p.world → given ≡ None
     → world ≡ moved_all (offer_moves site number p.world) p.world → kth number p.world.sent ≡ Some m
-    → ◌≡◌ {A = Printed} (record { world = world; text = p.text }) (and_then p (give_wanted site number m p.world))
+    → with_world world p ≡ and_then p (give_wanted site number m p.world)
 printed_nothing site number m given p world offers none is there =
     let nothing = not_given site number m p.world there (sym offers ∙ none) in
     let same : world ≡ p.world = is ∙ ap (λ (l : List Move). moved_all l p.world) nothing.1 in
-    (λ i. record { world = same i; text = sym (append-nil p.text) i }) ∙ ap (and_then p) (sym nothing.0)
+    (λ i. record { world = same i; marks = p.marks; text = sym (append-nil p.text) i })
+    ∙ ap (and_then p) (sym nothing.0)
 
 -- ---- one after another
 
-pub then_then : (first second third : Printed)
-    → and_then first (and_then second third) ≡ and_then (and_then first second) third
-then_then first second third =
-    λ i. record { world = third.world; text = sym (append_assoc first.text second.text third.text) i }
+pub then_then : (p : Printed) (first second : Effect)
+    → and_then p (in_turn first second) ≡ and_then (and_then p first) second
+then_then p first second =
+    λ i. record { world = second.world; marks = p.marks; text = sym (append_assoc p.text first.text second.text) i }
 
 -- the first of those that are left
 pub next_given : (site number : ℕ) (m : Message) (rest : List Message) (p q : Printed)
     → q ≡ and_then p (give_wanted site number m p.world)
     → and_then p (give_each site number (m ∷ rest) p.world) ≡ and_then q (give_each site (suc number) rest q.world)
 next_given site number m rest p q is =
-    let given : Printed = give_wanted site number m p.world in
+    let given : Effect = give_wanted site number m p.world in
     let world : moved_all (wanted_moves site m p.world) p.world ≡ q.world =
     sym (world_after site number m p.world) ∙ ap (λ (x : Printed). x.world) (sym is) in
     then_then p given (give_each site (suc number) rest (moved_all (wanted_moves site m p.world) p.world))
@@ -136,7 +138,7 @@ pub none_left : (site number : ℕ) (messages : List Message) (p : Printed) → 
     → and_then p (give_each site number messages p.world) ≡ p
 none_left site number messages p none =
     ap (λ (l : List Message). and_then p (give_each site number l p.world)) none
-    ∙ (λ i. record { world = p.world; text = append-nil p.text i })
+    ∙ (λ i. record { world = p.world; marks = p.marks; text = append-nil p.text i })
 
 -- ---- those that are passed
 
@@ -158,7 +160,7 @@ passed_over site (suc k) number [] w each = refl
 passed_over site (suc k) number (m ∷ messages) w each =
     let not_wanted : is_wanted site m w ≡ false = each zero m (omega arith) refl in
     let later : suc number + k ≡ number + suc k = omega arith in
-    (λ i. and_then (nothing_printed site number m w not_wanted i)
+    (λ i. in_turn (nothing_printed site number m w not_wanted i)
     (give_each site (suc number) messages (moved_all (nothing_moved site m w not_wanted i) w)))
     ∙ passed_over site k (suc number) messages w (λ j x less there. each (suc j) x (omega (arith, less)) there)
     ∙ ap (λ (n : ℕ). give_each site n (drop k messages) w) later

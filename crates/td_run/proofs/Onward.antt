@@ -1,7 +1,7 @@
 -- In every world each command of a script leads on to a world. So a script has an output.
 use Rattle.std.proofs.Common.{◌≡◌, ◌<◌, ◌≤◌, ◌+◌, ◌*◌, ◌++◌, ◌⊎◌, ℕ, zero, suc, List, [], ◌∷◌, Bool, true, false}
 use Rattle.std.proofs.Common.{Option, Some, None, length, refl, sym, ap, subst, ◌∙◌, inl, inr, if◌then◌else◌, arith}
-use Rattle.std.specs.Prelude.{All}
+use Rattle.std.specs.Prelude.{All, IfSome}
 use Rattle.std.proofs.lemmas.List.{append-nil, append_assoc, length-map}
 use Rattle.std.proofs.lemmas.List.Elements.{All-cons, All-head, All-nil, All-tail, All-weaker}
 use Rattle.td_base.specs.Atom.{IsAtom}
@@ -14,16 +14,20 @@ use Rattle.td_op.specs.Input.{IsRequest}
 use Rattle.td_op.specs.declared.input.Input.TheVariants.{Take, Next}
 use Rattle.td_op.specs.declared.message.Message.{Message}
 use Rattle.td_op.specs.declared.reply.Reply.{Reply}
-use Rattle.td_op.specs.declared.request.Request.TheVariants.{Cancel as GiveUp, Delete}
+use Rattle.td_op.specs.declared.request.Request.TheVariants.{Cancel as GiveUp, Delete, Propose}
 use Rattle.td_replica.specs.Replica.{ReplicaValue, has_ready}
+use Rattle.td_idle.specs.Best.{best_slot}
+use Rattle.td_path.specs.declared.slot.Slot.{Slot}
+use Rattle.td_path.specs.Slot.{IsSlot}
 use Rattle.td_report.specs.Given.{settle_line}
 use Rattle.td_report.specs.Numbers.{count_line}
 use Rattle.td_report.specs.Tree.{show_line, tree_lines}
 use Rattle.td_text.specs.Runs.{runs_of}
 use Rattle.td_script.specs.Script.{AreCommands, IsCommand, IsDotOf}
 use Rattle.td_script.specs.declared.command.Command.{Command}
-use Rattle.td_script.specs.declared.command.Command.TheVariants.{Sites, Ins, Paste, Del, Flat, Cancel, Give}
-use Rattle.td_script.specs.declared.command.Command.TheVariants.{GiveAll, Settle, Show, Tree, Count}
+use Rattle.td_script.specs.declared.command.Command.TheVariants.{Sites, Ins, Paste, Del, Flat, FlatAuto, Cancel}
+use Rattle.td_script.specs.declared.command.Command.TheVariants.{Give, GiveAll, Settle, Show, Tree, Count}
+use Rattle.td_script.specs.declared.command.Command.TheVariants.{Mark, Meet, Marks}
 use Rattle.td_script.specs.declared.command.Place.{Place}
 use Rattle.td_script.specs.declared.command.Place.TheVariants.{Root, Beside}
 use Rattle.td_script.specs.declared.script.Script.{Script}
@@ -42,9 +46,12 @@ use Rattle.td_world.proofs.Promised.{promised, shown}
 use Rattle.td_world.proofs.Replicas.{new_length}
 use Rattle.td_run.specs.Asking.{Asked, Edit, ask_all, deletes, done_before, goes_on, inserts, is_made, pastes}
 use Rattle.td_run.specs.Outputs.{IsOutputOf}
-use Rattle.td_run.specs.Printing.{Printed, Prints, PrintsAll, Shown, and_then, behind, cancel, del, events, flat, give}
-use Rattle.td_run.specs.Printing.{give_each, ins, only_line, own_text, paste, proposal, taken_text, with_line}
+use Rattle.td_run.specs.Marking.{Marking, mark, marked_lines, meet}
+use Rattle.td_run.specs.Printing.{Printed, Effect, Prints, PrintsAll, Shown, and_marked, and_then, behind, cancel, del}
+use Rattle.td_run.specs.Printing.{events, flat, flat_slot, give, give_each, ins, own_text, paste, proposal, start_of}
+use Rattle.td_run.specs.Printing.{taken_text, with_line, with_text}
 use Rattle.td_run.proofs.EditsShown.{asked_within, asked_world}
+use Rattle.td_run.proofs.IdleSlots.{best_is_slot}
 use Rattle.td_run.proofs.Sizes.{size_stays}
 
 -- ---- requests
@@ -103,6 +110,11 @@ dot_among w i d is =
 proposal_is_asked : (place : Place) → IsRequest (proposal place)
 proposal_is_asked Root = tt
 proposal_is_asked (Beside index bit) = tt
+
+slot_leads : (site : ℕ) (slot : Option Slot) (w : WorldValue) → IsWorld w → 0 < site → site ≤ size w
+    → IfSome slot IsSlot → IsWorld (flat_slot site slot w).world
+slot_leads site None w i some within is = i
+slot_leads site (Some slot) w i some within is = asked_world w site i some within (Propose slot) is
 
 -- ---- messages that are given
 
@@ -196,7 +208,7 @@ settles old i =
     let moves = passes (2 * size w + 3) w in
     let v : WorldValue = moved_all moves w in
     let given : ℕ = count_given moves in
-    let p : Printed = record { world = v; text = events w v ++ settle_line given } in
+    let p : Effect = record { world = v; text = events w v ++ settle_line given } in
     let settled : IsSettled w v given =
     record { number = 2 * size w + 3; after = refl; still = always_enough w i; count = refl } in
     record {
@@ -241,6 +253,14 @@ goes_on_from old (Flat site (Beside index bit)) i is = record {
   world = asked_world old.world site i is.0.0 is.0.1 (proposal (Beside index bit))
       (proposal_is_asked (Beside index bit));
 }
+goes_on_from old (FlatAuto site) i is =
+    let slot : Option Slot = best_slot (machine_of old.world site) in
+    record {
+      new = and_then old (flat_slot site slot old.world);
+      own = refl;
+      taken = refl;
+      world = slot_leads site slot old.world i is.0 is.1 (best_is_slot old.world i site is.0 is.1);
+    }
 goes_on_from old (Cancel site p) i is = record {
   new = and_then old (cancel site p old.world);
   own = refl;
@@ -274,6 +294,24 @@ goes_on_from old (Tree site) i is = record {
 }
 goes_on_from old (Count site) i is = record {
   new = with_line (count_line (machine_of old.world site)) old;
+  own = refl;
+  taken = refl;
+  world = i;
+}
+goes_on_from old (Mark site add name index count) i is = record {
+  new = and_marked old (mark site add name index count (machine_of old.world site).doc old.marks);
+  own = refl;
+  taken = refl;
+  world = i;
+}
+goes_on_from old (Meet site other) i is = record {
+  new = and_marked old (meet site other old.marks);
+  own = refl;
+  taken = refl;
+  world = i;
+}
+goes_on_from old (Marks site) i is = record {
+  new = with_line (marked_lines site (machine_of old.world site).doc old.marks) old;
   own = refl;
   taken = refl;
   world = i;
@@ -329,6 +367,7 @@ grows shown old (Ins site index atoms) new is = (_, ap (λ (p : Printed). p.text
 grows shown old (Paste site index atoms) new is = (_, ap (λ (p : Printed). p.text) is)
 grows shown old (Del site index count) new is = (_, ap (λ (p : Printed). p.text) is)
 grows shown old (Flat site place) new is = (_, ap (λ (p : Printed). p.text) is)
+grows shown old (FlatAuto site) new is = (_, ap (λ (p : Printed). p.text) is)
 grows shown old (Cancel site proposal) new is = (_, ap (λ (p : Printed). p.text) is)
 grows shown old (Give site number) new is = (_, ap (λ (p : Printed). p.text) is)
 grows shown old (GiveAll site) new is = (_, ap (λ (p : Printed). p.text) is)
@@ -336,6 +375,9 @@ grows shown old Settle new is = (is.0.text, ap (λ (p : Printed). p.text) is.2)
 grows shown old (Show site) new is = (_, ap (λ (p : Printed). p.text) is)
 grows shown old (Tree site) new is = (_, ap (λ (p : Printed). p.text) is)
 grows shown old (Count site) new is = (_, ap (λ (p : Printed). p.text) is)
+grows shown old (Mark site add name index count) new is = (_, ap (λ (p : Printed). p.text) is)
+grows shown old (Meet site other) new is = (_, ap (λ (p : Printed). p.text) is)
+grows shown old (Marks site) new is = (_, ap (λ (p : Printed). p.text) is)
 
 pub all_grow : (shown : Shown) (old : Printed) (commands : List Command) (new : Printed)
     → PrintsAll shown old commands new → (more : List ℕ) × (new.text ≡ old.text ++ more)
@@ -348,14 +390,20 @@ all_grow shown old (command ∷ commands) new is =
     )
 
 -- and makes no difference to what comes
-shifts : (front : List ℕ) (old p : Printed) → behind front (and_then old p) ≡ and_then (behind front old) p
-shifts front old p =
-    ap (λ (t : List ℕ). only_line p.world t) (sym (append_assoc front old.text p.text))
+shifts : (front : List ℕ) (old : Printed) (effect : Effect)
+    → behind front (and_then old effect) ≡ and_then (behind front old) effect
+shifts front old effect =
+    ap (λ (t : List ℕ). with_text t (and_then old effect)) (sym (append_assoc front old.text effect.text))
+
+marking_shifts : (front : List ℕ) (old : Printed) (m : Marking)
+    → behind front (and_marked old m) ≡ and_marked (behind front old) m
+marking_shifts front old m =
+    ap (λ (t : List ℕ). with_text t (and_marked old m)) (sym (append_assoc front old.text m.line))
 
 line_shifts : (front line : List ℕ) (old : Printed)
     → behind front (with_line line old) ≡ with_line line (behind front old)
 line_shifts front line old =
-    ap (λ (t : List ℕ). only_line old.world t) (sym (append_assoc front old.text line))
+    ap (λ (t : List ℕ). with_text t old) (sym (append_assoc front old.text line))
 
 pub prints_behind : (shown : Shown) (front : List ℕ) (old : Printed) (command : Command) (new : Printed)
     → Prints shown old command new → Prints shown (behind front old) command (behind front new)
@@ -364,6 +412,7 @@ prints_behind shown front old (Ins site index atoms) new is = ap (behind front) 
 prints_behind shown front old (Paste site index atoms) new is = ap (behind front) is ∙ shifts front old _
 prints_behind shown front old (Del site index count) new is = ap (behind front) is ∙ shifts front old _
 prints_behind shown front old (Flat site place) new is = ap (behind front) is ∙ shifts front old _
+prints_behind shown front old (FlatAuto site) new is = ap (behind front) is ∙ shifts front old _
 prints_behind shown front old (Cancel site proposal) new is = ap (behind front) is ∙ shifts front old _
 prints_behind shown front old (Give site number) new is = ap (behind front) is ∙ shifts front old _
 prints_behind shown front old (GiveAll site) new is = ap (behind front) is ∙ shifts front old _
@@ -371,11 +420,12 @@ prints_behind shown front old Settle new is = (is.0, is.1, ap (behind front) is.
 prints_behind shown front old (Show site) new is = ap (behind front) is ∙ line_shifts front _ old
 prints_behind shown front old (Tree site) new is = ap (behind front) is ∙ line_shifts front _ old
 prints_behind shown front old (Count site) new is = ap (behind front) is ∙ line_shifts front _ old
+prints_behind shown front old (Mark site add name index count) new is =
+    ap (behind front) is ∙ marking_shifts front old _
+prints_behind shown front old (Meet site other) new is = ap (behind front) is ∙ marking_shifts front old _
+prints_behind shown front old (Marks site) new is = ap (behind front) is ∙ line_shifts front _ old
 
 -- ---- a script
-
-abbrev pub start_of : ℕ → Printed
-start_of n = only_line (new_world n) []
 
 -- what comes of a script is its output
 pub output_is : (script : Script) (end : Printed) → PrintsAll own_text (start_of script.sites) script.commands end

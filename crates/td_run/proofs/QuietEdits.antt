@@ -26,7 +26,7 @@ use Rattle.td_report.specs.Replies.{body_event, event_line}
 use Rattle.td_world.specs.World.{WorldValue, machine_of, moved, reply_to, sent_by}
 use Rattle.td_world.specs.Calls.{ask}
 use Rattle.td_run.specs.Asking.{Asked, Edit, ask_all, deletes, done_before, inserts, is_made, pastes}
-use Rattle.td_run.specs.Printing.{Printed, and_then, events, line_and_events, with_line}
+use Rattle.td_run.specs.Printing.{Printed, and_then, events, line_and_events, with_line, with_world}
 use Rattle.td_text.specs.Runs.{runs_of}
 
 -- ---- one request at a machine
@@ -145,8 +145,8 @@ no_events_of_deletes site index count w =
 
 -- where no event is told, the line is all that is printed
 pub told_quietly : (p q : Printed) (world : WorldValue) (line : List ℕ) → events p.world world ≡ []
-    → q ≡ with_line line (record { world = world; text = p.text }) → q ≡ and_then p (line_and_events p.world world line)
-told_quietly p q world line quiet e = e ∙ (λ i. record { world = world; text = p.text ++ sym whole i })
+    → q ≡ with_line line (with_world world p) → q ≡ and_then p (line_and_events p.world world line)
+told_quietly p q world line quiet e = e ∙ (λ i. record { world = world; marks = p.marks; text = p.text ++ sym whole i })
   where
     whole : line ++ events p.world world ≡ line
     whole = ap (λ (told : List ℕ). line ++ told) quiet ∙ append-nil line

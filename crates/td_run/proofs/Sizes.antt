@@ -1,16 +1,21 @@
--- A command leaves as many sites as there are.
-use Rattle.std.proofs.Common.{◌≡◌, ℕ, suc, List, [], ◌∷◌, Bool, true, false, Some, refl, ap, ◌∙◌, if◌then◌else◌}
+-- A command leaves as many sites as there are, and each its marks.
+use Rattle.std.proofs.Common.{◌≡◌, ◌-◌, ℕ, suc, List, [], ◌∷◌, Bool, true, false, Option, Some, None, length, refl, ap}
+use Rattle.std.proofs.Common.{◌∙◌, if◌then◌else◌}
+use Rattle.td_idle.specs.Best.{best_slot}
+use Rattle.std.proofs.lemmas.List.{length-set}
 use Rattle.td_op.specs.declared.message.Message.{Message}
 use Rattle.td_op.specs.declared.reply.Reply.{Reply}
+use Rattle.td_path.specs.declared.slot.Slot.{Slot}
 use Rattle.td_script.specs.declared.command.Command.{Command}
-use Rattle.td_script.specs.declared.command.Command.TheVariants.{Sites, Ins, Paste, Del, Flat, Cancel, Give}
-use Rattle.td_script.specs.declared.command.Command.TheVariants.{GiveAll, Settle, Show, Tree, Count}
-use Rattle.td_op.specs.declared.request.Request.TheVariants.{Cancel as GiveUp}
-use Rattle.td_world.specs.World.{WorldValue, moved, moved_all, reply_to, size}
+use Rattle.td_script.specs.declared.command.Command.TheVariants.{Sites, Ins, Paste, Del, Flat, FlatAuto, Cancel}
+use Rattle.td_script.specs.declared.command.Command.TheVariants.{Give, GiveAll, Settle, Show, Tree, Count}
+use Rattle.td_script.specs.declared.command.Command.TheVariants.{Mark, Meet, Marks}
+use Rattle.td_op.specs.declared.request.Request.TheVariants.{Cancel as GiveUp, Propose}
+use Rattle.td_world.specs.World.{WorldValue, machine_of, moved, moved_all, reply_to, size}
 use Rattle.td_world.specs.Calls.{ask, numbered_moves, passes, wanted_moves}
 use Rattle.td_world.proofs.Moves.{size_after}
 use Rattle.td_run.specs.Asking.{Asked, Edit, ask_all, deletes, done_before, goes_on, inserts, is_made, pastes}
-use Rattle.td_run.specs.Printing.{Printed, Prints, Shown, give_each, proposal}
+use Rattle.td_run.specs.Printing.{Printed, Prints, Shown, flat_slot, give_each, proposal}
 use Rattle.td_text.specs.Runs.{runs_of}
 
 one_move : (site : ℕ) (w : WorldValue) (edit : Edit) → size (moved (ask site edit.request) w) ≡ size w
@@ -40,6 +45,10 @@ after_given site number [] w = refl
 after_given site number (m ∷ messages) w =
     after_given site (suc number) messages (moved_all (wanted_moves site m w) w) ∙ size_after (wanted_moves site m w) w
 
+after_slot : (site : ℕ) (slot : Option Slot) (w : WorldValue) → size (flat_slot site slot w).world ≡ size w
+after_slot site None w = refl
+after_slot site (Some slot) w = size_after (ask site (Propose slot) ∷ []) w
+
 pub size_stays : (shown : Shown) (old : Printed) (command : Command) (new : Printed) → Prints shown old command new
     → size new.world ≡ size old.world
 size_stays shown old (Sites n) new is = ap (λ (p : Printed). size p.world) is
@@ -51,6 +60,8 @@ size_stays shown old (Del site index count) new is =
     ap (λ (p : Printed). size p.world) is ∙ after_edits site (deletes index count) old.world
 size_stays shown old (Flat site place) new is =
     ap (λ (p : Printed). size p.world) is ∙ size_after (ask site (proposal place) ∷ []) old.world
+size_stays shown old (FlatAuto site) new is =
+    ap (λ (p : Printed). size p.world) is ∙ after_slot site (best_slot (machine_of old.world site)) old.world
 size_stays shown old (Cancel site p) new is =
     ap (λ (q : Printed). size q.world) is ∙ size_after (ask site (GiveUp p) ∷ []) old.world
 size_stays shown old (Give site number) new is =
@@ -63,3 +74,28 @@ size_stays shown old Settle new settles =
 size_stays shown old (Show site) new is = ap (λ (p : Printed). size p.world) is
 size_stays shown old (Tree site) new is = ap (λ (p : Printed). size p.world) is
 size_stays shown old (Count site) new is = ap (λ (p : Printed). size p.world) is
+size_stays shown old (Mark site add name index count) new is = ap (λ (p : Printed). size p.world) is
+size_stays shown old (Meet site other) new is = ap (λ (p : Printed). size p.world) is
+size_stays shown old (Marks site) new is = ap (λ (p : Printed). size p.world) is
+
+-- and each its marks
+pub marks_stay : (shown : Shown) (old : Printed) (command : Command) (new : Printed) → Prints shown old command new
+    → length new.marks ≡ length old.marks
+marks_stay shown old (Sites n) new is = ap (λ (p : Printed). length p.marks) is
+marks_stay shown old (Ins site index atoms) new is = ap (λ (p : Printed). length p.marks) is
+marks_stay shown old (Paste site index atoms) new is = ap (λ (p : Printed). length p.marks) is
+marks_stay shown old (Del site index count) new is = ap (λ (p : Printed). length p.marks) is
+marks_stay shown old (Flat site place) new is = ap (λ (p : Printed). length p.marks) is
+marks_stay shown old (FlatAuto site) new is = ap (λ (p : Printed). length p.marks) is
+marks_stay shown old (Cancel site p) new is = ap (λ (q : Printed). length q.marks) is
+marks_stay shown old (Give site number) new is = ap (λ (p : Printed). length p.marks) is
+marks_stay shown old (GiveAll site) new is = ap (λ (p : Printed). length p.marks) is
+marks_stay shown old Settle new settles = ap (λ (p : Printed). length p.marks) settles.2
+marks_stay shown old (Show site) new is = ap (λ (p : Printed). length p.marks) is
+marks_stay shown old (Tree site) new is = ap (λ (p : Printed). length p.marks) is
+marks_stay shown old (Count site) new is = ap (λ (p : Printed). length p.marks) is
+marks_stay shown old (Mark site add name index count) new is =
+    ap (λ (p : Printed). length p.marks) is ∙ length-set old.marks (site - 1) _
+marks_stay shown old (Meet site other) new is =
+    ap (λ (p : Printed). length p.marks) is ∙ length-set old.marks (site - 1) _
+marks_stay shown old (Marks site) new is = ap (λ (p : Printed). length p.marks) is

@@ -14,11 +14,11 @@ use Rattle.td_script.specs.declared.script.Script.{Script}
 use Rattle.td_world.specs.World.{IsWorld, size}
 use Rattle.td_run.specs.Answer.{PutsFront}
 use Rattle.td_run.specs.Outputs.{IsOutputOf, PutsOut}
-use Rattle.td_run.specs.Printing.{Printed, Prints, PrintsAll, behind, only_line, own_text, taken_text}
+use Rattle.td_run.specs.Printing.{Printed, Prints, PrintsAll, behind, own_text, start_of, taken_text, with_text}
 use Rattle.td_run.proofs.Onward.{GoOn, MayCome, all_grow, commands_come, comes_on, go_on}
-use Rattle.td_run.proofs.Onward.{has_output, output_is, prints_behind, start_of}
+use Rattle.td_run.proofs.Onward.{has_output, output_is, prints_behind}
 use Rattle.td_run.proofs.Played.{Leads, leads_on, leads_to}
-use Rattle.td_run.proofs.Sizes.{size_stays}
+use Rattle.td_run.proofs.Sizes.{marks_stay, size_stays}
 use Rattle.td_run.proofs.Unique.{same_step}
 
 -- all that a script has printed, where a front of it was put
@@ -28,19 +28,21 @@ pub record IsUnderWay (n : ℕ) (all left : List Command) (before now : Option (
   pub own : Leads own_text (behind front held) left (start_of n) all
   pub taken : Leads taken_text (behind front held) left (start_of n) all
   pub same : size held.world ≡ n
+  pub marks : length held.marks ≡ n
   pub world : AreCommands n all → IsWorld held.world
   pub come : AreCommands n all → All (MayCome n) left
 
 pub begins : (n : ℕ) (all : List Command) (before : Option (List ℕ)) (held : Printed) → held ≡ start_of n
-    → size (start_of n).world ≡ n → (AreCommands n all → IsWorld (start_of n).world)
+    → size (start_of n).world ≡ n → length (start_of n).marks ≡ n → (AreCommands n all → IsWorld (start_of n).world)
     → IsUnderWay n all all before before held
-begins n all before held e same world =
+begins n all before held e same marks world =
     subst (IsUnderWay n all all before before) (sym e) (record {
       front = [];
       put = Appends-nil before;
       own = λ p h. h;
       taken = λ p h. h;
       same = same;
+      marks = marks;
       world = world;
       come = commands_come n all;
     })
@@ -68,6 +70,7 @@ one_more n all before now after held next rest k command less is own taken out u
           (leads_on taken_text (behind u.front held) (behind u.front next) (start_of n) all k command less is
           (prints_behind taken_text u.front held command next taken) u.taken);
       same = ap (λ (p : Printed). size p.world) (sym out.2) ∙ (size_stays own_text held command next own ∙ u.same);
+      marks = ap (λ (p : Printed). length p.marks) (sym out.2) ∙ (marks_stay own_text held command next own ∙ u.marks);
       world = λ are. subst (λ (p : Printed). IsWorld p.world) out.2
           (stays_world n held next command u.same (u.world are)
           (All-head (MayCome n) command (drop (k + 1) all) (parts are)) own);
@@ -75,7 +78,9 @@ one_more n all before now after held next rest k command less is own taken out u
     }
   where
     there : behind u.front next ≡ behind (u.front ++ out.0) rest
-    there = ap (behind u.front) out.2 ∙ ap (only_line rest.world) (sym (append_assoc u.front out.0 rest.text))
+    there =
+        ap (behind u.front) out.2
+        ∙ ap (λ (t : List ℕ). with_text t rest) (sym (append_assoc u.front out.0 rest.text))
 
     first : drop k all ≡ command ∷ drop (k + 1) all
     first = drop_more all k command less ∙ ap (λ (c : Command). c ∷ drop (k + 1) all) (sym is)

@@ -1,4 +1,5 @@
 pub mod Asking
+pub mod Marking
 pub mod Printing
 pub mod Outputs
 pub mod Words

@@ -3,7 +3,7 @@
 //! Begin at `specs/Printing.antt`, what each command of a script does and prints; at `program`, the call on top; and at
 //! `specs/Answered.antt`, what it promises. `reading` has what comes of an input by its language: of a script for
 //! `play`, of a live script for `live`, of a trace for `check`. A `Player` is a world in which a script is played, with
-//! what was printed so far; `edits`, `flattens`, `giving` and `showing` are its commands.
+//! what was printed so far; `edits`, `flattens`, `giving`, `marking` and `showing` are its commands.
 #![tactic(auto)]
 
 mod answer;
@@ -16,6 +16,7 @@ mod giving;
 mod judging;
 mod laws;
 mod limits;
+mod marking;
 mod outcome;
 mod play;
 mod player;

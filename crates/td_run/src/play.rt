@@ -1,4 +1,4 @@
-ghost use Rattle.std.specs.Prelude.{◌≡◌, ◌≤◌, ℕ, List, All, IfOk, IsErrOf, OnErr, OnOk};
+ghost use Rattle.std.specs.Prelude.{◌≡◌, ◌≤◌, ℕ, List, All, length, IfOk, IsErrOf, OnErr, OnOk};
 ghost use Rattle.std.specs.Io.KnownBytes.{Appends};
 ghost use Rattle.td_base.specs.declared.site.TheConstants.{MAX_SITE};
 ghost use Rattle.td_io.specs.Count.{Rose};
@@ -117,7 +117,8 @@ fn keeps_promises<D: Doc>(player: &Player<D>)
 
 // Does one command, and prints what it prints.
 fn perform<D: Doc>(player: &mut Player<D>, command: &Command) -> Result<(), Memory>
-    requires { MayStand (size player.old.world) command.now }
+    requires stands { MayStand (size player.old.world) command.now }
+    requires marks { length player.old.marks ≡ size player.old.world }
     ensures own { OnOk result (Prints own_text player.old command.now player.new) }
     ensures taken { OnOk result (Prints taken_text player.old command.now player.new) }
 {
@@ -127,6 +128,7 @@ fn perform<D: Doc>(player: &mut Player<D>, command: &Command) -> Result<(), Memo
         Command::Paste { site, index, atoms } => player.paste(*site, *index, atoms),
         Command::Del { site, index, count } => player.delete(*site, *index, *count),
         Command::Flat { site, place } => player.propose(*site, *place),
+        Command::FlatAuto { site } => player.propose_best(*site),
         Command::Cancel { site, proposal } => player.cancel(*site, *proposal),
         Command::Give { site, number } => player.give(*site, *number),
         Command::GiveAll { site } => player.give_all(*site),
@@ -134,5 +136,14 @@ fn perform<D: Doc>(player: &mut Player<D>, command: &Command) -> Result<(), Memo
         Command::Show { site } => player.show(*site),
         Command::Tree { site } => player.tree(*site),
         Command::Count { site } => player.count(*site),
+        Command::Mark {
+            site,
+            add,
+            name,
+            index,
+            count,
+        } => player.mark(*site, *add, *name, *index, *count),
+        Command::Meet { site, other } => player.meet(*site, *other),
+        Command::Marks { site } => player.marks(*site),
     }
 }

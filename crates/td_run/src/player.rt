@@ -4,26 +4,29 @@ ghost use Rattle.std.specs.List.{flat_map};
 ghost use Rattle.td_base.specs.declared.site.TheConstants.{MAX_SITE};
 ghost use Rattle.td_io.specs.Count.{Rose};
 ghost use Rattle.td_report.specs.Replies.{event_line};
-ghost use Rattle.td_world.specs.World.{new_world, size};
 ghost use Rattle.td_run.specs.Answer.{PutsFront};
 ghost use Rattle.td_run.specs.Outputs.{PutsOut};
-ghost use Rattle.td_run.specs.Printing.{event_at, only_line, with_line};
+ghost use Rattle.td_run.specs.Printing.{event_at, start_of, with_line, with_text};
 
+use crate::marking::new_marks;
 use std::alloc::Global;
 use std::marker::Model;
 use td_base::{Bytes, Memory};
 use td_doc::Doc;
 use td_io::{Failed, Sink, put_all};
+use td_marks::Marks;
 use td_report::event_line;
 use td_world::World;
 
 // So many bytes are gathered before they are put.
 const PIECE: usize = 65_536;
 
-/// A world in which a script is played, and what was printed and not yet put.
+/// A world in which a script is played, the marks of its sites, and what was printed and not yet put.
 #[derive(Drop)]
 pub(crate) struct Player<D: Doc> {
     pub(crate) world: World<D>,
+    // of site s at place s - 1
+    pub(crate) marks: Vec<Marks>,
     pub(crate) text: Bytes,
     pub(crate) alloc: Global,
 }
@@ -33,7 +36,7 @@ impl<D: Doc> Model for Player<D> {
 
     ghost Value = { Printed };
 
-    ghost view = { λ p. record { world = p.world; text = p.text } };
+    ghost view = { λ p. record { world = p.world; marks = p.marks.items; text = p.text } };
 }
 
 impl<D: Doc> Player<D> {
@@ -41,10 +44,11 @@ impl<D: Doc> Player<D> {
     pub(crate) fn new(alloc: Global, sites: u8) -> Result<Player<D>, Memory>
         requires some { 1 ≤ sites }
         requires few { sites ≤ MAX_SITE }
-        ensures { IfOk result (λ p. p ≡ only_line (new_world sites) []) }
+        ensures { IfOk result (λ p. p ≡ start_of sites) }
     {
         Ok(Player {
             world: World::new(alloc, sites)?,
+            marks: new_marks(alloc, sites)?,
             text: Bytes::new(alloc),
             alloc,
         })
@@ -94,7 +98,7 @@ impl<D: Doc> Player<D> {
     /// Puts what was printed and not yet put.
     pub(crate) fn put_rest<K: Sink>(&mut self, sink: &mut K) -> Result<(), Failed>
         ensures ok { OnOk result (Appends (K.held sink.old) (K.held sink.new) self.old.text) }
-        ensures new { OnOk result (self.new ≡ only_line self.old.world []) }
+        ensures new { OnOk result (self.new ≡ with_text [] self.old) }
         ensures part { OnErr result (PutsFront (K.held sink.old) (K.held sink.new) self.old.text) }
         ensures failed { OnErr result (Rose (K.faults sink.old) (K.faults sink.new)) }
         ensures count { K.faults sink.old ≤ K.faults sink.new }

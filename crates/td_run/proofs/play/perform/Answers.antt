@@ -6,4 +6,4 @@ use Rattle.td_run.proofs.play.perform.Goals as goal
 
 pub paste-requires-clause-each : goal.paste-requires-clause-each
 paste-requires-clause-each g c =
-    (subst (λ (command : Command). MayStand (size c.args.player.now.world) command) c.in-Paste.is c.requires).1
+    (subst (λ (command : Command). MayStand (size c.args.player.now.world) command) c.in-Paste.is c.requires.stands).1

@@ -1,15 +1,15 @@
 use Rattle.std.proofs.Common.{◌≡◌, ◌≤◌, ◌+◌, ℕ, List, [], length, drop, get_or, ap, sym, subst, ◌∙◌, arith}
 use Rattle.std.specs.Prelude.{All}
 use Rattle.std.proofs.Math.ListN.{drop_of_length-le}
+use Rattle.std.proofs.lemmas.List.FromFn.{length-map-range_with_len}
 use Rattle.std.proofs.lemmas.List.Elements.{All-get_or}
 use Rattle.td_script.specs.declared.command.Command.{Command}
 use Rattle.td_world.specs.Promises.{IsPromised}
 use Rattle.td_world.proofs.Beginnings.{new_is_world}
 use Rattle.td_world.proofs.Replicas.{new_length}
-use Rattle.td_run.specs.Printing.{Printed, PrintsAll, own_text, taken_text}
+use Rattle.td_run.specs.Printing.{Printed, PrintsAll, own_text, start_of, taken_text}
 use Rattle.td_run.specs.Sites.{MayStand}
 use Rattle.td_world.proofs.Cuts.{err_always}
-use Rattle.td_run.proofs.Onward.{start_of}
 use Rattle.td_run.proofs.UnderWay.{IsUnderWay, begins, ends, halts, none_halts, none_out, none_put, one_more}
 use Rattle.td_run.proofs.play.play.Goals as goal
 
@@ -18,12 +18,16 @@ loop-command-init g c =
     let n : ℕ = c.args.script.now.sites in
     record {
       way = begins n c.as_slice-commands.result.now (g.K.Sink.held c.args.sink.now) c.in_ok-player.player
-          c.in_ok-player.ensures (new_length n n 1) (λ are. new_is_world n c.requires.some c.requires.few);
+          c.in_ok-player.ensures (new_length n n 1) (length-map-range_with_len _ 1 n) (λ are. new_is_world n c.requires.some c.requires.few);
       count = omega arith;
     }
 
-pub perform-requires : goal.perform-requires
-perform-requires g c =
+pub perform-requires-clause-marks : goal.perform-requires-clause-marks
+perform-requires-clause-marks g c =
+    c.loop-command.invariant.way.marks ∙ sym c.loop-command.invariant.way.same
+
+pub perform-requires-clause-stands : goal.perform-requires-clause-stands
+perform-requires-clause-stands g c =
     let n : ℕ = c.args.script.now.sites in
     let commands : List Command = c.as_slice-commands.result.now in
     let command : Command = c.command-item.result in

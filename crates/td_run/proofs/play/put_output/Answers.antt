@@ -1,8 +1,7 @@
 use Rattle.std.proofs.Common.{◌≡◌, ℕ, List, [], sym, subst, refl, arith}
 use Rattle.std.proofs.KnownBytes.{Appends-nil}
 use Rattle.td_script.specs.declared.command.Command.{Command}
-use Rattle.td_world.specs.World.{new_world}
-use Rattle.td_run.specs.Printing.{Printed, PrintsAll, only_line, own_text, taken_text}
+use Rattle.td_run.specs.Printing.{Printed, PrintsAll, own_text, start_of, taken_text}
 use Rattle.td_run.proofs.Commands.{no_command}
 use Rattle.td_world.proofs.Cuts.{err_always}
 use Rattle.td_run.proofs.Onward.{output_is}
@@ -11,7 +10,7 @@ use Rattle.td_run.proofs.play.put_output.Goals as goal
 pub returns-then-script-eq0-clause-put : goal.returns-then-script-eq0-clause-put
 returns-then-script-eq0-clause-put g c =
     let n : ℕ = c.args.script.now.sites in
-    let start : Printed = only_line (new_world n) [] in
+    let start : Printed = start_of n in
     let none : c.args.script.now.commands ≡ [] =
     no_command n c.args.script.now.commands c.requires c.if-script-eq0.true in (
       [],

@@ -1,7 +1,7 @@
 use Rattle.std.proofs.Common.{◌≡◌, ◌∙◌, length}
 use Rattle.td_report.specs.Replies.{paste_line}
 use Rattle.td_run.specs.Asking.{Asked, asked, ask_all, pastes}
-use Rattle.td_run.specs.Printing.{Printed, with_line}
+use Rattle.td_run.specs.Printing.{Printed, with_line, with_world}
 use Rattle.td_text.specs.Runs.{runs_of}
 use Rattle.td_run.proofs.QuietEdits.{no_events_of_pastes, told_quietly}
 use Rattle.td_run.proofs.player.Player.paste.Goals as goal
@@ -18,4 +18,4 @@ returns g c =
     c.in_ok-line.ensures ∙ (λ i. paste_line c.args.site (asked_is i).done (c.len-all.ensures i) (asked_is i).refused) in
     told_quietly p c.print.new.self a.world (paste_line c.args.site a.done (length c.args.atoms.now) a.refused)
     (no_events_of_pastes c.args.site c.args.index c.args.atoms.now p.world)
-    (c.in_ok-print.ensures ∙ (λ i. with_line (line i) (record { world = (asked_is i).world; text = (view i).text })))
+    (c.in_ok-print.ensures ∙ (λ i. with_line (line i) (with_world (asked_is i).world (view i))))

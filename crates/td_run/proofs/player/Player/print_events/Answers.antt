@@ -7,6 +7,7 @@ loop-number-preserved g c =
     let less : c.loop-number.number < length c.args.self.now.world.sent = search rules in
     record {
       same = search rules;
+      marks = search rules;
       text = one_more c.args.self.now.world.sent c.args.before c.loop-number.number c.args.self.now.text
           c.loop-number.self.text c.print_event.new.self.text c.loop-number.invariant.behind less
           c.loop-number.invariant.text

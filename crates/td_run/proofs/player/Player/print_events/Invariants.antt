@@ -6,6 +6,7 @@ use Rattle.td_run.proofs.player.Player.print_events.Given as goal
 abbrev pub invariant-loop-number : goal.invariant-loop-number
 invariant-loop-number g l = record {
   same : l.self.world ≡ l.fn.self.world;
+  marks : l.self.marks ≡ l.fn.self.marks;
   text : l.self.text ≡ l.fn.self.text
       ++ flat_map event_line (take (l.number - l.before) (drop l.before l.fn.self.world.sent));
   behind : l.before ≤ l.number;
