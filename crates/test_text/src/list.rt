@@ -3,7 +3,7 @@ ghost use Rattle.std.specs.Prelude.{◌≡◌, ◌<◌, ◌^◌, ◌∷◌, [], 
 use std::alloc::Global;
 use std::process::Abort;
 use td_base::Memory;
-use td_list::{Chunked, Deferred, Item, Line, Sequence, Share};
+use td_list::{Chunked, Deferred, Item, Line, Sequence, Share, reserve_by_quarter};
 
 #[test]
 fn a_list_in_a_line_answers(rt: HostRuntime) -> Result<(), Memory> {
@@ -20,6 +20,17 @@ fn a_list_in_chunks_answers(rt: HostRuntime) -> Result<(), Memory> {
 #[test]
 fn a_list_in_chunks_in_chunks_answers(rt: HostRuntime) -> Result<(), Memory> {
     in_chunks_answers::<Deferred<Chunked<Chunked<Line>>>>(&rt, rt.alloc())
+}
+
+#[test]
+fn a_long_list_gets_room_for_a_quarter_more(rt: HostRuntime) -> Result<(), Memory> {
+    let mut items: Vec<u32> = Vec::new(rt.alloc());
+    reserve_by_quarter(&mut items, 8)?;
+    let first = items.capacity();
+    items.extend_from_slice(&[7; 8])?;
+    reserve_by_quarter(&mut items, 1)?;
+    assert_eq!(rt; (first, items.capacity()), (8, 10));
+    Ok(())
 }
 
 fn answers<S: Sequence>(rt: &impl Abort, alloc: Global) -> Result<(), Memory> {
