@@ -17,7 +17,6 @@ ghost use Rattle.td_tree.specs.Places.{IsNewPlace, IsPut, IsRunPut, put_at, run_
 use crate::flatten::push_array;
 use crate::item_of::{atom_item, close_item, open_item};
 use crate::kept_atom::KeptAtom;
-use crate::kept_id::KeptId;
 use crate::kept_rows::KeptRows;
 use crate::kept_state::{KeptState, MOST_ARRAYS};
 use crate::tokens::Tokens;
@@ -135,8 +134,7 @@ fn push_row(rows: &mut Vec<TreeRow>, id: AtomId, atom: KeptAtom)
     ensures room { vec_capacity rows.old ≤ vec_capacity rows.new }
     ensures long { vec_len rows.new ≡ vec_len rows.old + 1 }
 {
-    let id = KeptId::of(id);
-    rows.push(TreeRow { id, atom }).unwrap();
+    rows.push(TreeRow::new(id, atom)).unwrap();
 }
 
 // Adds the states of the rows of an array, in the room that there is.

@@ -1,40 +1,44 @@
 // The rows of a tree by number, in little room.
-ghost use Rattle.std.specs.Prelude.{◌≡◌, ◌<◌, ◌≤◌, ◌+◌, ◌^◌, ◌++◌, ◌∷◌, [], ℕ, length, set, get_or, OnOk, OnErr};
+ghost use Rattle.std.specs.Prelude.{◌≡◌, ◌<◌, ◌≤◌, ◌+◌, ◌++◌, ◌∷◌, [], ℕ, length, set, get_or, slice_get, OnOk, OnErr, Some, None};
+ghost use Rattle.std.specs.List.{list_all};
+ghost use Rattle.td_clock.specs.Vector.{vector_has};
 ghost use Rattle.td_doc.specs.Deletion.{add_dot};
-ghost use Rattle.td_tree.specs.KeptRows.{deletes_at, new_entries};
+ghost use Rattle.td_tree.specs.Deletes.{first_dots};
+ghost use Rattle.td_tree.specs.KeptRows.{several_at, deletes_of, new_entries};
 ghost use Rattle.td_tree.specs.Parts.{nobody};
 
 use crate::deletes::Deletes;
+use crate::first_delete::FirstDelete;
 use crate::kept_atom::KeptAtom;
-use crate::kept_id::KeptId;
 use crate::tree_row::TreeRow;
 use std::alloc::Global;
 use std::collections::BTreeMap;
 use std::marker::Model;
 use td_base::{AtomId, Dot, Memory};
+use td_clock::Vector;
 use td_list::reserve_by_quarter;
 
-/// Rows by number, in 24 bytes each: most were never deleted, and the deletes of the others are kept beside them.
+/// Rows by number, in 24 bytes each: most are deleted once at most, and the deletes of the others are kept beside them.
 /// Contracts see each row with its deletes, and for how many more there is room.
 #[derive(Drop)]
 pub struct KeptRows {
     rows: Vec<TreeRow>,
-    // by the number of the row
-    deletes: BTreeMap<u32, Deletes>,
+    // all deletes of the rows that more than one named, by the number of the row
+    several: BTreeMap<u32, Deletes>,
 }
 
 impl Model for KeptRows {
     ghost use Rattle.std.specs.Prelude.{◌-◌, length, vec_capacity};
-    ghost use Rattle.td_tree.specs.KeptRows.{Column, deletes_at, entries_from, AreNoneFrom};
+    ghost use Rattle.td_tree.specs.KeptRows.{Column, several_at, entries_from, AreNoneFrom};
 
     ghost Value = { Column };
 
     ghost view = { λ k. record {
-      entries = entries_from (deletes_at k.deletes) 0 k.rows.items;
+      entries = entries_from (several_at k.several) 0 k.rows.items;
       room = vec_capacity k.rows - length k.rows.items;
     } };
 
-    ghost invariant = { λ k. AreNoneFrom (length k.rows.items) (deletes_at k.deletes) };
+    ghost invariant = { λ k. AreNoneFrom (length k.rows.items) (several_at k.several) };
 }
 
 impl KeptRows {
@@ -44,7 +48,7 @@ impl KeptRows {
     {
         KeptRows {
             rows: Vec::new(alloc),
-            deletes: BTreeMap::new(alloc),
+            several: BTreeMap::new(alloc),
         }
     }
 
@@ -71,16 +75,34 @@ impl KeptRows {
         &self.rows[row as usize].atom
     }
 
-    /// The dots of the deletes that named a row; fewer than 2^32.
-    pub fn deletes(&self, row: u32) -> &[Dot]
+    /// How many deletes named a row.
+    pub fn delete_count(&self, row: u32) -> u32
         requires { row < length self.now.entries }
-        ensures dots { result.now ≡ (get_or self.now.entries row nobody.entry).deletes }
-        ensures few { length result.now < 2 ^ 32 }
+        ensures { result ≡ length (get_or self.now.entries row nobody.entry).deletes }
     {
-        dots_of(&self.deletes, row)
+        let first = &self.rows[row as usize].deleted;
+        count_of(&self.several, first, row)
     }
 
-    /// Adds the dot of a delete to a row, unless it is there.
+    /// The k-th dot of the deletes that named a row, from 0.
+    pub fn delete_dot(&self, row: u32, k: u32) -> Option<Dot>
+        requires { row < length self.now.entries }
+        ensures { result ≡ slice_get (get_or self.now.entries row nobody.entry).deletes k }
+    {
+        let first = &self.rows[row as usize].deleted;
+        dot_of(&self.several, first, row, k)
+    }
+
+    /// Whether the vector has the dots of all deletes that named a row.
+    pub fn are_deletes_known(&self, row: u32, v: &Vector) -> bool
+        requires { row < length self.now.entries }
+        ensures { result ≡ list_all (vector_has v.now) (get_or self.now.entries row nobody.entry).deletes }
+    {
+        let first = &self.rows[row as usize].deleted;
+        are_dots_known(&self.several, first, row, v)
+    }
+
+    /// Adds the dot of a delete to a row, unless it is there. Only a second one takes memory.
     pub fn add_delete(&mut self, alloc: Global, row: u32, by: Dot) -> Result<(), Memory>
         requires { row < length self.old.entries }
         ensures ok { OnOk result (self.new.entries ≡ set self.old.entries row
@@ -89,7 +111,8 @@ impl KeptRows {
             })) }
         ensures err { OnErr result (self.new.entries ≡ self.old.entries) }
     {
-        add_dot_of(alloc, &mut self.deletes, row, by)
+        let first = &mut self.rows[row as usize].deleted;
+        add_dot_of(alloc, &mut self.several, first, row, by)
     }
 
     /// Makes room for so many more.
@@ -107,8 +130,7 @@ impl KeptRows {
             ≡ self.old.entries ++ record { id = id; atom = atom; deletes = [] } ∷ [] }
         ensures long { length self.new.entries ≡ length self.old.entries + 1 }
     {
-        let id = KeptId::of(id);
-        self.rows.push(TreeRow { id, atom }).unwrap();
+        self.rows.push(TreeRow::new(id, atom)).unwrap();
     }
 
     /// Adds live rows, in the room that there is.
@@ -120,33 +142,101 @@ impl KeptRows {
     }
 }
 
-// The dots of the deletes of a row.
-fn dots_of(deletes: &BTreeMap<u32, Deletes>, row: u32) -> &[Dot]
-    ensures dots { result.now ≡ deletes_at deletes.now row }
-    ensures few { length result.now < 2 ^ 32 }
+// How many deletes a row has, of which this is the first.
+fn count_of(several: &BTreeMap<u32, Deletes>, first: &FirstDelete, row: u32) -> u32
+    ensures { result ≡ length (deletes_of (several_at several.now row) first.now) }
 {
-    match deletes.get(&row) {
-        Some(named) => named.as_slice(),
-        None => &[],
+    match several.get(&row) {
+        Some(deletes) => deletes.len(),
+        None => first.len(),
     }
 }
 
-// Adds a dot to those of a row, unless it is there. The first takes memory for the row's place among the deletes.
+// The k-th of them.
+fn dot_of(several: &BTreeMap<u32, Deletes>, first: &FirstDelete, row: u32, k: u32) -> Option<Dot>
+    ensures { result ≡ slice_get (deletes_of (several_at several.now row) first.now) k }
+{
+    match several.get(&row) {
+        Some(deletes) => deletes.get(k),
+        None => first.get(k),
+    }
+}
+
+// Whether the vector has all of them.
+fn are_dots_known(
+    several: &BTreeMap<u32, Deletes>,
+    first: &FirstDelete,
+    row: u32,
+    v: &Vector,
+) -> bool
+    ensures { result ≡ list_all (vector_has v.now) (deletes_of (several_at several.now row) first.now) }
+{
+    match several.get(&row) {
+        Some(deletes) => deletes.are_known(v),
+        None => first.is_known(v),
+    }
+}
+
+// Adds a dot to those of a row, unless it is there.
 fn add_dot_of(
     alloc: Global,
-    deletes: &mut BTreeMap<u32, Deletes>,
+    several: &mut BTreeMap<u32, Deletes>,
+    first: &mut FirstDelete,
     row: u32,
     by: Dot,
 ) -> Result<(), Memory>
-    ensures row { OnOk result (deletes_at deletes.new row ≡ add_dot by (deletes_at deletes.old row)) }
-    ensures others { (r : ℕ) → (r ≡ row → ⊥) → deletes_at deletes.new r ≡ deletes_at deletes.old r }
-    ensures err { OnErr result ((r : ℕ) → deletes_at deletes.new r ≡ deletes_at deletes.old r) }
+    ensures row { OnOk result (deletes_of (several_at several.new row) first.new
+        ≡ add_dot by (deletes_of (several_at several.old row) first.old)) }
+    ensures others { (r : ℕ) → (r ≡ row → ⊥) → several_at several.new r ≡ several_at several.old r }
+    ensures err { OnErr result (deletes_of (several_at several.new row) first.new
+        ≡ deletes_of (several_at several.old row) first.old) }
 {
-    match deletes.get_mut(&row) {
-        Some(named) => named.add(alloc, by),
+    match several.get_mut(&row) {
+        Some(deletes) => deletes.add(by),
+        None => add_to_first(alloc, several, first, row, by),
+    }
+}
+
+// The same of a row that has nothing beside it.
+fn add_to_first(
+    alloc: Global,
+    several: &mut BTreeMap<u32, Deletes>,
+    first: &mut FirstDelete,
+    row: u32,
+    by: Dot,
+) -> Result<(), Memory>
+    requires { several_at several.old row ≡ None }
+    ensures row { OnOk result (deletes_of (several_at several.new row) first.new
+        ≡ add_dot by (first_dots first.old)) }
+    ensures others { (r : ℕ) → (r ≡ row → ⊥) → several_at several.new r ≡ several_at several.old r }
+    ensures err { OnErr result (deletes_of (several_at several.new row) first.new ≡ first_dots first.old) }
+{
+    match first.dot() {
         None => {
-            deletes.insert(row, Deletes::one(by))?;
+            *first = FirstDelete::of(by);
             Ok(())
         }
+        Some(dot) => add_second(alloc, several, dot, row, by),
     }
+}
+
+// The same of a row that one dot named.
+fn add_second(
+    alloc: Global,
+    several: &mut BTreeMap<u32, Deletes>,
+    dot: Dot,
+    row: u32,
+    by: Dot,
+) -> Result<(), Memory>
+    requires { several_at several.old row ≡ None }
+    ensures row { OnOk result (deletes_of (several_at several.new row) (Some dot) ≡ add_dot by (dot ∷ [])) }
+    ensures others { (r : ℕ) → (r ≡ row → ⊥) → several_at several.new r ≡ several_at several.old r }
+    ensures err { OnErr result (several_at several.new row ≡ None) }
+{
+    if dot == by {
+        return Ok(());
+    }
+    let deletes = Deletes::two(alloc, dot, by)?;
+    several.insert(row, deletes)?;
+    Ok(())
 }

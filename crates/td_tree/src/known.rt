@@ -2,7 +2,6 @@
 ghost use Rattle.std.specs.Prelude.{◌≡◌, ◌≢◌, ◌<◌, ◌≤◌, ◌+◌, ℕ, length};
 ghost use Rattle.std.specs.List.{list_all};
 ghost use Rattle.td_base.specs.Lists.{In};
-ghost use Rattle.td_clock.specs.Vector.{vector_has};
 ghost use Rattle.td_path.specs.declared.slot.Slot.TheVariants.{Root, At};
 ghost use Rattle.td_doc.specs.Slots.{is_known};
 ghost use Rattle.td_list.specs.Items.{Item};
@@ -17,7 +16,7 @@ use crate::side::{side_end, side_start};
 use crate::stretch::Stretch;
 use crate::tokens::Tokens;
 use crate::tree_row::RowState;
-use td_base::{Bit, Dot};
+use td_base::Bit;
 use td_clock::Vector;
 use td_list::Item;
 
@@ -123,12 +122,6 @@ impl Tokens {
         requires { row < length self.now.rows }
         ensures { result ≡ is_known_entry v.now (table self.now row) }
     {
-        v.has(self.id(row).dot) && has_all(v, self.deletes(row))
+        v.has(self.id(row).dot) && self.are_deletes_known(row, v)
     }
-}
-
-fn has_all(v: &Vector, dots: &[Dot]) -> bool
-    ensures { result ≡ list_all (vector_has v.now) dots.now }
-{
-    dots.iter().all(|dot| v.has(*dot))
 }

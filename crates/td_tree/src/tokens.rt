@@ -1,5 +1,7 @@
 // The tokens of a document, with the rows and arrays that they stand for.
 ghost use Rattle.std.specs.Prelude.{◌≡◌, ◌<◌, ◌≤◌, ◌^◌, [], length, slice_get, IfOk};
+ghost use Rattle.std.specs.List.{list_all};
+ghost use Rattle.td_clock.specs.Vector.{vector_has};
 ghost use Rattle.td_list.specs.Items.{IsItem, items_after, first_name};
 ghost use Rattle.td_tree.specs.Parts.{state_at, table, doc_rows, nodes_of, tokens, IsTree};
 
@@ -10,6 +12,7 @@ use crate::tree_row::{Array, RowState};
 use std::alloc::Global;
 use std::marker::Model;
 use td_base::{AtomId, Dot, Memory};
+use td_clock::Vector;
 use td_list::{List, Sequence};
 
 /// The parts of a tree.
@@ -89,13 +92,28 @@ impl Tokens {
         self.rows.atom(row)
     }
 
-    /// The dots of the deletes that named a row; fewer than 2^32.
-    pub fn deletes(&self, row: u32) -> &[Dot]
+    /// How many deletes named a row.
+    pub fn delete_count(&self, row: u32) -> u32
         requires { row < length self.now.rows }
-        ensures dots { result.now ≡ (table self.now row).deletes }
-        ensures few { length result.now < 2 ^ 32 }
+        ensures { result ≡ length (table self.now row).deletes }
     {
-        self.rows.deletes(row)
+        self.rows.delete_count(row)
+    }
+
+    /// The k-th dot of the deletes that named a row, from 0.
+    pub fn delete_dot(&self, row: u32, k: u32) -> Option<Dot>
+        requires { row < length self.now.rows }
+        ensures { result ≡ slice_get (table self.now row).deletes k }
+    {
+        self.rows.delete_dot(row, k)
+    }
+
+    /// Whether the vector has the dots of all deletes that named a row.
+    pub fn are_deletes_known(&self, row: u32, v: &Vector) -> bool
+        requires { row < length self.now.rows }
+        ensures { result ≡ list_all (vector_has v.now) (table self.now row).deletes }
+    {
+        self.rows.are_deletes_known(row, v)
     }
 
     /// The first token.
@@ -111,14 +129,6 @@ impl Tokens {
         ensures { result ≡ first_name (items_after name self.now.items) }
     {
         self.list.next(name)
-    }
-
-    /// The k-th dot of the deletes that named a row.
-    pub fn delete_dot(&self, row: u32, k: u32) -> Option<Dot>
-        requires { row < length self.now.rows }
-        ensures { result ≡ slice_get (table self.now row).deletes k }
-    {
-        self.deletes(row).get(k as usize).copied()
     }
 
     /// The number of rows.

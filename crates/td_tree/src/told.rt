@@ -45,13 +45,6 @@ impl Tokens {
         self.kept_atom(row).atom()
     }
 
-    fn delete_count(&self, row: u32) -> u32
-        requires { row < length self.now.rows }
-        ensures { result ≡ length (table self.now row).deletes }
-    {
-        self.deletes(row).len() as u32
-    }
-
     /// The number of live rows before a row.
     pub fn index(&self, row: u32) -> u32
         requires tree { IsTree self.now }

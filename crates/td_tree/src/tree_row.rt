@@ -1,11 +1,13 @@
 // The rows of a tree by number, where they are, and the arrays of its leaves.
-ghost use Rattle.std.specs.Prelude.{◌≡◌, ◌<◌, length, set};
+ghost use Rattle.std.specs.Prelude.{◌≡◌, ◌<◌, length, set, None};
 ghost use Rattle.td_tree.specs.KeptState.{FitsKept};
 
+use crate::first_delete::FirstDelete;
 use crate::kept_atom::KeptAtom;
-use crate::kept_id::KeptId;
 use crate::kept_state::KeptState;
 use std::marker::Model;
+use td_base::AtomId;
+use td_store::CompactId;
 
 /// Where a row is: in brackets of its own, at an index of an array that leaves share, or in the document no longer.
 #[derive(Clone, Copy, Debug, PartialEq, Eq)]
@@ -15,11 +17,25 @@ pub enum RowState {
     Gone,
 }
 
-/// A row as it came, without its place among the others, where it is, and the deletes that named it since.
+/// A row without its place among the others and where it is, with the first delete that named it.
 #[derive(Debug, Drop)]
 pub struct TreeRow {
-    pub id: KeptId,
+    pub id: CompactId,
+    pub deleted: FirstDelete,
     pub atom: KeptAtom,
+}
+
+impl TreeRow {
+    /// A row that no delete named.
+    pub fn new(id: AtomId, atom: KeptAtom) -> TreeRow
+        ensures { result ≡ record { id = id; deleted = None; atom = atom } }
+    {
+        TreeRow {
+            id: CompactId::of(id),
+            deleted: FirstDelete::none(),
+            atom,
+        }
+    }
 }
 
 /// The numbers of rows that were once made an array. Leaves are stretches of it.

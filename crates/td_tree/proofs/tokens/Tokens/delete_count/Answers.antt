@@ -1,0 +1,18 @@
+use Rattle.std.proofs.Common.{◌∙◌, length, ap, sym, arith}
+use Rattle.td_brackets.specs.Brackets.{Entry}
+use Rattle.td_tree.specs.Parts.{Parts, table}
+use Rattle.td_tree.proofs.Columns.{rows_long, entry_in}
+use Rattle.td_tree.proofs.tokens.Tokens.delete_count.Goals as goal
+
+pub delete_count-requires : goal.delete_count-requires
+delete_count-requires c =
+    let was = ap (λ (p : Parts). length p.rows) c.self.view_is in
+    let long = rows_long c.self.inside.rows.entries c.self.inside.states.items c.self.invariant in
+    omega (arith, c.requires)
+
+pub returns : goal.returns
+returns c =
+    c.delete_count.ensures
+    ∙ ap (λ (e : Entry). length (e.deletes))
+    (sym (entry_in c.self.inside.rows.entries c.self.inside.states.items c.self.invariant c.args.row))
+    ∙ ap (λ (p : Parts). length ((table p c.args.row).deletes)) c.self.view_is
