@@ -41,7 +41,7 @@ impl Tokens {
     {
         let mut count = 0;
         let mut at = first;
-        'walk: while at != end {
+        while at != end {
             let Some(name) = at else {
                 return count;
             };

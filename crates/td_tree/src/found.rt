@@ -34,7 +34,7 @@ impl Tokens {
             dead: 0,
         };
         let mut at = first;
-        'walk: while at != end {
+        while at != end {
             let Some(name) = at else {
                 return Ok(found);
             };

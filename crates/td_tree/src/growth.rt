@@ -25,6 +25,9 @@ use std::alloc::Global;
 use td_base::{Atom, AtomId, Dot, Memory, Run};
 use td_list::{Item, List, Sequence, reserve_by_quarter};
 
+// So many rows have numbers.
+const MOST_ROWS: usize = 1 << 30;
+
 impl Tokens {
     /// Puts a new row in brackets of its own before a token, or at the end.
     pub fn put_row(&mut self, at: Option<u32>, id: AtomId, atom: &Atom) -> Result<(), Memory>
@@ -173,6 +176,3 @@ fn put(list: &mut List, at: Option<u32>, piece: &[Item]) -> Result<(), Memory>
         None => list.push(piece),
     }
 }
-
-// So many rows have numbers.
-const MOST_ROWS: usize = 1 << 30;

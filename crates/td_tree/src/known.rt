@@ -56,7 +56,7 @@ impl Tokens {
             → result ≡ list_all (λ (r : ℕ). is_known_entry v.now (table self.now r)) (shown self.now s.inner) }
     {
         let mut at = first;
-        'walk: while at != end {
+        while at != end {
             let Some(name) = at else {
                 return true;
             };

@@ -46,7 +46,7 @@ impl Tokens {
     {
         let mut from = 0;
         let mut len = self.arrays[array as usize].rows.len() as u32;
-        'down: loop {
+        loop {
             let middle = from + len / 2;
             if self.stands(array, middle) {
                 return Stretch { array, from, len };

@@ -39,7 +39,7 @@ impl Tokens {
     {
         let mut rows = leaf;
         let mut slot = None;
-        'down: while rows.middle() != index {
+        while rows.middle() != index {
             let atom = self.id_in(rows);
             if index < rows.middle() {
                 rows = rows.before();

@@ -33,7 +33,7 @@ impl Tokens {
         ensures front { (more : List ℕ) × (text.new ≡ text.old ++ more) }
     {
         let mut at = self.first();
-        'walk: while let Some(name) = at {
+        while let Some(name) = at {
             let (items, behind) = self.list.lend_from(name);
             self.push_items(items, text)?;
             at = behind;

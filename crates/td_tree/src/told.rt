@@ -106,7 +106,7 @@ impl Tokens {
             → result ≡ slot_round (table self.now) (move_all [] (tokens_of self.now (front ++ i ∷ []))) }
     {
         let mut at = self.next(name);
-        'over: while let Some(name) = at {
+        while let Some(name) = at {
             match self.step_over(name) {
                 Some(last) => at = self.next(last),
                 None => {

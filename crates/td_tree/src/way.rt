@@ -7,6 +7,9 @@ use std::alloc::Global;
 use td_base::Memory;
 use td_list::{Item, put_each};
 
+// So many tokens come in place of a leaf of some 100,000 rows at most.
+const ROOM: usize = 80;
+
 /// The tokens that come in place of a leaf, and the rows that are nodes from then on, in the order in which the leaf
 /// is opened.
 #[derive(Debug, Drop)]
@@ -68,6 +71,3 @@ fn put_over(items: &mut Vec<Item>, place: usize, first: Item, others: &[Item]) -
     items[place] = first;
     Ok(())
 }
-
-// So many tokens come in place of a leaf of some 100,000 rows at most.
-const ROOM: usize = 80;

@@ -8,14 +8,14 @@ use Rattle.td_tree.specs.Reading.{slot_or}
 use Rattle.td_tree.proofs.LeafParts.{into_left, into_right, left_part, right_part}
 use Rattle.td_tree.proofs.tokens.Tokens.part_of.Goals as goal
 
-pub down-preserved-then-index-middle : goal.down-preserved-then-index-middle
-down-preserved-then-index-middle c =
+pub loop-slot-preserved-then-index-middle : goal.loop-slot-preserved-then-index-middle
+loop-slot-preserved-then-index-middle c =
     let p = c.args.self.now in
     let a = c.args.leaf.array in
-    let from = c.down.rows.from in
-    let n = c.down.rows.len in
-    let i = c.down.invariant in
-    let below : c.args.index < from + n / 2 = omega (arith, c.if-index-middle.true, c.middle-in-down.ensures) in
+    let from = c.loop-slot.rows.from in
+    let n = c.loop-slot.rows.len in
+    let i = c.loop-slot.invariant in
+    let below : c.args.index < from + n / 2 = omega (arith, c.if-index-middle.true, c.middle-in-loop-slot.ensures) in
     let low = i.low in
     let some : 0 < n / 2 = omega arith in
     let top : c.id_in-atom.result ≡ (table p (row_of_array p a (from + n / 2))).id = c.id_in-atom.ensures
@@ -27,18 +27,19 @@ down-preserved-then-index-middle c =
       low = low;
       high = below;
       there = λ round l. subst (λ (x : AtomIdValue). LeafIn (table p) (doc_rows p) (part (array_at p a) from (n / 2))
-          (At x Left)) (sym top) (into_left p a from n i.is_part (slot_or round c.down.slot) (i.there round l) some);
+          (At x Left)) (sym top) (into_left p a from n i.is_part (slot_or round c.loop-slot.slot)
+          (i.there round l) some);
     })
 
-pub down-preserved : goal.down-preserved
-down-preserved c =
+pub loop-slot-preserved : goal.loop-slot-preserved
+loop-slot-preserved c =
     let p = c.args.self.now in
     let a = c.args.leaf.array in
-    let from = c.down.rows.from in
-    let n = c.down.rows.len in
-    let i = c.down.invariant in
-    let other : from + n / 2 ≢ c.args.index = λ e. c.down-test.true (c.middle.ensures ∙ e) in
-    let above : from + n / 2 ≤ c.args.index = omega (arith, c.if-index-middle.false, c.middle-in-down.ensures) in
+    let from = c.loop-slot.rows.from in
+    let n = c.loop-slot.rows.len in
+    let i = c.loop-slot.invariant in
+    let other : from + n / 2 ≢ c.args.index = λ e. c.loop-slot-test.true (c.middle.ensures ∙ e) in
+    let above : from + n / 2 ≤ c.args.index = omega (arith, c.if-index-middle.false, c.middle-in-loop-slot.ensures) in
     let past : from + n / 2 < c.args.index = omega arith in
     let high = i.high in
     let some : 0 < n - n / 2 - 1 = omega arith in
@@ -52,5 +53,5 @@ down-preserved c =
       high = omega arith;
       there = λ round l. subst (λ (x : AtomIdValue). LeafIn (table p) (doc_rows p)
           (part (array_at p a) (from + n / 2 + 1) (n - n / 2 - 1)) (At x Right)) (sym top)
-          (into_right p a from n i.is_part (slot_or round c.down.slot) (i.there round l) some);
+          (into_right p a from n i.is_part (slot_or round c.loop-slot.slot) (i.there round l) some);
     })

@@ -5,8 +5,8 @@ use Rattle.td_tree.specs.Parts.{table, array_at, part, doc_rows, IsPart}
 use Rattle.td_tree.specs.Reading.{slot_or}
 use Rattle.td_tree.proofs.tokens.Tokens.part_of.Given as goal
 
-abbrev pub invariant-down : goal.invariant-down
-invariant-down l = record {
+abbrev pub invariant-loop-slot : goal.invariant-loop-slot
+invariant-loop-slot l = record {
   array : l.rows.array ≡ l.fn.leaf.array;
   is_part : IsPart l.self l.fn.leaf.array l.rows.from l.rows.len;
   low : l.rows.from ≤ l.index;
@@ -17,5 +17,5 @@ invariant-down l = record {
       (slot_or round l.slot);
 }
 
-abbrev pub decreases-down : goal.decreases-down
-decreases-down l = l.rows.len
+abbrev pub decreases-loop-slot : goal.decreases-loop-slot
+decreases-loop-slot l = l.rows.len
