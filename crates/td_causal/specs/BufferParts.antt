@@ -1,12 +1,13 @@
 -- How a `Buffer` keeps what waits: in a map by dots.
-use Rattle.std.specs.Prelude.{◌≡◌, ◌<◌, ◌^◌, List, length}
+use Rattle.std.specs.Prelude.{◌≡◌, ◌<◌, ◌^◌, ℕ, length, true}
 use Rattle.std.specs.List.{AllByRecursion}
-use Rattle.std.specs.Map.{values_of}
-use Rattle.td_base.specs.Value.{DotValue}
-use Rattle.td_causal.specs.declared.waiting.Waiting.{Waiting}
-use Rattle.td_causal.specs.Waiting.{AreWaiting}
+use Rattle.td_base.specs.Value.{DotValue, IsDot}
+use Rattle.td_base.specs.Order.{dot_lt}
+use Rattle.td_base.specs.Lists.{Successive}
+use Rattle.td_causal.specs.Waiting.{Numbers}
 
-pub record AreEntries (entries : List (DotValue × Waiting)) : Type 0 where
-  pub keyed : AllByRecursion (λ (e : DotValue × Waiting). e.0 ≡ e.1.op.dot) entries
-  pub waiting : AreWaiting (values_of entries)
-  pub few : length entries < 2 ^ 32
+-- the dots are in range, and rise
+pub record AreEntries (waiting : Numbers) : Type 0 where
+  pub dots : AllByRecursion (λ (w : DotValue × ℕ). IsDot w.0) waiting
+  pub rising : Successive (λ (w v : DotValue × ℕ). dot_lt w.0 v.0 ≡ true) waiting
+  pub few : length waiting < 2 ^ 32

@@ -1,13 +1,14 @@
-ghost use Rattle.std.specs.Prelude.{◌≡◌, ◌≤◌, ℕ, [], length, ◌==◌, find, option_map, is_some, Option, None, IfSome, IfNone, IsSome, IfOk, OnOk, OnErr, false};
-ghost use Rattle.td_base.specs.Lists.{In};
+ghost use Rattle.std.specs.Prelude.{◌≡◌, ◌<◌, ◌≤◌, ◌+◌, ℕ, [], length, ◌==◌, find, option_map, is_some, slice_get, Option, None, Some, IfSome, IfOk, OnOk, OnErr, false};
+ghost use Rattle.std.specs.Option.{option_and_then};
 ghost use Rattle.td_base.specs.Value.{IsDot};
 ghost use Rattle.td_op.specs.Op.{IsOp};
-ghost use Rattle.td_machine.specs.Ready.{next_ready, waits};
-ghost use Rattle.td_causal.specs.Waiting.{ops_waiting, others_than, has_dot, put_in_order};
-ghost use Rattle.td_causal.specs.Waiting.{is_ready_of, AreOfSize, AreWaiting};
+ghost use Rattle.td_machine.specs.Ready.{next_ready};
+ghost use Rattle.td_causal.specs.declared.waiting.Waiting.{Waiting};
+ghost use Rattle.td_causal.specs.Waiting.{ops_waiting, number_of, is_kept, put_in_order, others_than};
+ghost use Rattle.td_causal.specs.Waiting.{is_ready_of, AreStored};
+ghost use Rattle.td_causal.specs.BufferParts.{AreEntries};
 ghost use Rattle.td_causal.specs.Offering.{offer_answer, kept_after};
 
-use crate::kept_waiting::KeptWaiting;
 use crate::offer::Offer;
 use crate::waiting::Waiting;
 use std::alloc::Global;
@@ -16,24 +17,23 @@ use std::marker::Model;
 use td_base::{Dot, Memory, Site};
 use td_clock::Vector;
 use td_op::Op;
+use td_store::Ops;
 
-/// The operations that wait at a site, in the order of their dots. The vectors that its calls are given have the size
-/// of those of all that waits. Only `offer` takes memory.
+/// What waits at a site, in the order of the dots. The operations themselves are stored elsewhere: here a dot and a
+/// number are kept of each. The vectors that its calls are given have the size of those of all that waits. Only
+/// `offer` takes memory.
 #[derive(Debug, Drop)]
 pub struct Buffer {
-    waiting: BTreeMap<Dot, KeptWaiting>,
-    alloc: Global,
+    waiting: BTreeMap<Dot, u32>,
 }
 
 impl Model for Buffer {
-    ghost use Rattle.std.specs.Prelude.{List};
-    ghost use Rattle.std.specs.BTreeMap.{values};
-    ghost use Rattle.td_causal.specs.declared.waiting.Waiting.{Waiting};
+    ghost use Rattle.td_causal.specs.Waiting.{Numbers};
     ghost use Rattle.td_causal.specs.BufferParts.{AreEntries};
 
-    ghost Value = { List Waiting };
+    ghost Value = { Numbers };
 
-    ghost view = { λ b. values b.waiting };
+    ghost view = { λ b. b.waiting.entries };
 
     ghost invariant = { λ b. AreEntries b.waiting.entries };
 }
@@ -45,20 +45,18 @@ impl Buffer {
     {
         Buffer {
             waiting: BTreeMap::new(alloc),
-            alloc,
         }
     }
 
-    /// What becomes of an operation that is offered to a site with this vector. Where it is to come later, it waits
-    /// with the number. `Memory` comes also where `u32::MAX` operations wait already.
+    /// What becomes of an operation that is offered to a site with this vector. Where it is to come later, it waits,
+    /// and its keeper stores it by the number. `Memory` comes also where `u32::MAX` operations wait already.
     pub fn offer(&mut self, have: &Vector, op: &Op, number: u32) -> Result<Offer, Memory>
-        requires sized { length have.now ≡ length op.now.deps }
-        requires alike { AreOfSize (length have.now) self.old }
-        ensures answer { IfOk result (λ answer. answer ≡ offer_answer have.now op.now (ops_waiting self.old)) }
-        ensures kept { IfOk result (λ answer.
-            self.new ≡ kept_after answer (record { op = op.now; number = number }) self.old) }
+        requires { length have.now ≡ length op.now.deps }
+        ensures answer { IfOk result (λ answer.
+            answer ≡ offer_answer have.now op.now (is_kept op.now.dot self.old)) }
+        ensures kept { IfOk result (λ answer. self.new ≡ kept_after answer (op.now.dot, number) self.old) }
         ensures err { OnErr result (self.new ≡ self.old) }
-        ensures alike { AreOfSize (length have.now) self.new }
+        ensures op { IsOp op.now }
     {
         if have.has(op.dot()) || self.waits(op.dot()) {
             return Ok(Offer::Repeat);
@@ -66,57 +64,55 @@ impl Buffer {
         if have.covers(op.deps()) {
             return Ok(Offer::Ready);
         }
-        self.keep(Waiting { op: *op, number })?;
+        self.keep(op.dot(), number)?;
         Ok(Offer::Later)
     }
 
-    /// The ready operation with the least dot, of those that wait; None exactly where none is ready.
-    pub fn next_ready(&self, have: &Vector) -> Option<Waiting>
-        requires alike { AreOfSize (length have.now) self.now }
-        ensures least { option_map (λ (w : Waiting). w.op) result ≡ next_ready have.now (ops_waiting self.now) }
-        ensures waits { IfSome result (λ w. In w self.now) }
+    /// The ready operation with the least dot, of those that wait and are stored here; None exactly where none is
+    /// ready.
+    pub fn next_ready(&self, have: &Vector, ops: &Ops) -> Option<Waiting>
+        requires { AreStored (length have.now) ops.now.ops self.now }
+        ensures least { option_map (λ (w : Waiting). w.op) result
+            ≡ next_ready have.now (ops_waiting ops.now.ops self.now) }
+        ensures stored { IfSome result (λ w. slice_get ops.now.ops w.number ≡ Some w.op) }
     {
-        let site = self.ready_site(have)?;
-        self.next_of(site, have)
+        let number = self.least_ready(have, ops)?;
+        let op = ops.at(number);
+        Some(Waiting { op, number })
     }
 
     /// Whether one of those that wait is ready.
-    pub fn has_ready(&self, have: &Vector) -> bool
-        requires alike { AreOfSize (length have.now) self.now }
-        ensures { result ≡ is_some (next_ready have.now (ops_waiting self.now)) }
+    pub fn has_ready(&self, have: &Vector, ops: &Ops) -> bool
+        requires { AreStored (length have.now) ops.now.ops self.now }
+        ensures { result ≡ is_some (next_ready have.now (ops_waiting ops.now.ops self.now)) }
     {
-        self.ready_site(have).is_some()
+        self.least_ready(have, ops).is_some()
     }
 
     /// Takes away the operation with the dot, where it waits.
     pub fn remove(&mut self, dot: Dot)
-        ensures others { self.new ≡ others_than dot self.old }
-        ensures alike { (n : ℕ) → AreOfSize n self.old → AreOfSize n self.new }
+        ensures { self.new ≡ others_than dot self.old }
     {
         self.waiting.remove(&dot);
     }
 
-    /// The operation with the dot, where it waits.
-    pub fn find(&self, dot: Dot) -> Option<Waiting>
-        ensures { result ≡ find (has_dot dot) self.now }
+    /// The number of the operation with the dot, where it waits.
+    pub fn number_of(&self, dot: Dot) -> Option<u32>
+        ensures { result ≡ number_of dot self.now }
     {
-        match self.waiting.get(&dot) {
-            Some(kept) => Some(*kept.waiting()),
-            None => None,
-        }
+        self.waiting.get(&dot).copied()
     }
 
     /// Whether an operation with the dot waits.
     pub fn waits(&self, dot: Dot) -> bool
-        ensures { result ≡ waits dot (ops_waiting self.now) }
+        ensures { result ≡ is_kept dot self.now }
     {
         self.waiting.contains_key(&dot)
     }
 
     /// How many operations wait.
     pub fn len(&self) -> u32
-        ensures len { result ≡ length self.now }
-        ensures waiting { AreWaiting self.now }
+        ensures { result ≡ length self.now }
     {
         self.waiting.len() as u32
     }
@@ -128,80 +124,62 @@ impl Buffer {
         self.waiting.is_empty()
     }
 
-    // Keeps one of a dot that does not wait.
-    fn keep(&mut self, waiting: Waiting) -> Result<(), Memory>
-        requires { waits waiting.op.dot (ops_waiting self.old) ≡ false }
-        ensures ok { OnOk result (self.new ≡ put_in_order waiting self.old) }
+    // Keeps a dot that does not wait.
+    fn keep(&mut self, dot: Dot, number: u32) -> Result<(), Memory>
+        requires { is_kept dot self.old ≡ false }
+        ensures ok { OnOk result (self.new ≡ put_in_order (dot, number) self.old) }
         ensures err { OnErr result (self.new ≡ self.old) }
     {
         if self.waiting.len() >= u32::MAX as usize {
             return Err(Memory);
         }
-        let dot = dot_of(&waiting.op);
-        let kept = KeptWaiting::of(self.alloc, waiting)?;
-        self.waiting.insert(dot, kept)?;
+        is_in_range(dot);
+        self.waiting.insert(dot, number)?;
         Ok(())
     }
 
-    // The least site of which an operation is ready.
-    fn ready_site(&self, have: &Vector) -> Option<Site>
-        requires alike { AreOfSize (length have.now) self.now }
-        ensures least { IfSome result (λ n. option_map (λ (w : Waiting). w.op) (find (is_ready_of n have.now) self.now)
-            ≡ next_ready have.now (ops_waiting self.now)) }
-        ensures some { IfSome result (λ n. IsSome (find (is_ready_of n have.now) self.now)) }
-        ensures site { IfSome result (λ n. n ≤ length have.now) }
-        ensures waiting { AreWaiting self.now }
-        ensures none { IfNone result (next_ready have.now (ops_waiting self.now) ≡ None) }
+    // The number of the least that is ready: the ready one of the least site.
+    fn least_ready(&self, have: &Vector, ops: &Ops) -> Option<u32>
+        requires { AreStored (length have.now) ops.now.ops self.now }
+        ensures least { option_and_then (slice_get ops.now.ops) result
+            ≡ next_ready have.now (ops_waiting ops.now.ops self.now) }
+        ensures within { IfSome result (λ number. number < length ops.now.ops) }
     {
         if self.waiting.is_empty() {
             return None;
         }
         for n in 1..=have.size() {
             let site = Site::new(n)?;
-            if self.is_next_ready(site, have) {
-                return Some(site);
+            let number = self.ready_of(site, have, ops);
+            if number.is_some() {
+                return number;
             }
         }
         None
     }
 
-    // Whether the operation of the site that follows those that are had waits, and depends on no other.
-    fn is_next_ready(&self, site: Site, have: &Vector) -> bool
+    // The number of the operation of the site that follows those that are had, where it waits and depends on no other.
+    fn ready_of(&self, site: Site, have: &Vector, ops: &Ops) -> Option<u32>
         requires site { site ≤ length have.now }
-        requires waiting { AreWaiting self.now }
-        requires alike { AreOfSize (length have.now) self.now }
-        ensures { result ≡ is_some (find (is_ready_of site have.now) self.now) }
+        requires entries { AreEntries self.now }
+        requires stored { AreStored (length have.now) ops.now.ops self.now }
+        ensures ready { option_and_then (slice_get ops.now.ops) result
+            ≡ find (is_ready_of site have.now) (ops_waiting ops.now.ops self.now) }
+        ensures within { IfSome result (λ number. number < length ops.now.ops) }
     {
-        let Some(dot) = Dot::new(site, have.get(site) + 1) else {
-            return false;
-        };
-        match self.waiting.get(&dot) {
-            Some(next) => have.covers(next.waiting().op.deps()),
-            None => false,
+        let dot = Dot::new(site, have.get(site) + 1)?;
+        let number = self.number_of(dot)?;
+        if have.covers(&ops.deps(number)) {
+            Some(number)
+        } else {
+            None
         }
-    }
-
-    // That operation, where it is ready.
-    fn next_of(&self, site: Site, have: &Vector) -> Option<Waiting>
-        requires site { site ≤ length have.now }
-        requires waiting { AreWaiting self.now }
-        requires alike { AreOfSize (length have.now) self.now }
-        ensures { result ≡ find (is_ready_of site have.now) self.now }
-    {
-        if !self.is_next_ready(site, have) {
-            return None;
-        }
-        self.find(Dot::new(site, have.get(site) + 1)?)
     }
 }
 
-// The dot of the operation. Its parts are read, so that their ranges are known.
-fn dot_of(op: &Op) -> Dot
-    ensures dot { result ≡ op.now.dot }
-    ensures range { IsDot result }
-    ensures op { IsOp op.now }
+// The parts of the dot are read, so that their ranges are known.
+fn is_in_range(dot: Dot)
+    ensures { IsDot dot }
 {
-    let dot = op.dot();
     let _ = (dot.site.number(), dot.seq);
-    dot
 }

@@ -1,6 +1,6 @@
 use td_op::Op;
 
-/// An operation that waits, with the number by which its keeper knows it.
+/// An operation that waits, with the number by which it is stored.
 #[derive(Clone, Copy, Debug, PartialEq, Eq)]
 pub struct Waiting {
     pub op: Op,

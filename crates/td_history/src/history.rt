@@ -19,6 +19,7 @@ use std::marker::Model;
 use td_base::{Dot, Memory, Site};
 use td_op::{Entry, Input, Message, Op, Reply};
 use td_path::Slot;
+use td_store::Ops;
 
 // For so many things a step needs room.
 const STEP: u32 = 8;
@@ -165,6 +166,13 @@ impl History {
         ensures { result ≡ length self.now.ops }
     {
         self.log.len()
+    }
+
+    /// The operations that are kept, by their numbers.
+    pub fn ops(&self) -> &Ops
+        ensures { result.now.ops ≡ self.now.ops }
+    {
+        self.log.ops()
     }
 
     /// The operation of a number.

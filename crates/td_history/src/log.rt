@@ -142,6 +142,13 @@ impl Log {
         self.ops.len()
     }
 
+    /// The operations that are kept.
+    pub fn ops(&self) -> &Ops
+        ensures { result.now.ops ≡ self.now.ops }
+    {
+        &self.ops
+    }
+
     /// The operation of a number.
     pub fn op(&self, number: u32) -> Option<Op>
         ensures { result ≡ slice_get self.now.ops number }

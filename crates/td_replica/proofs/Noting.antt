@@ -1,9 +1,9 @@
 -- What an operation that comes into the log leaves of the parts.
 use Rattle.std.proofs.Common.{◌≡◌, ◌≢◌, ◌≤◌, ◌+◌, ◌-◌, ◌++◌, ℕ, List, [], ◌∷◌, Bool, true, length, if◌then◌else◌}
-use Rattle.std.proofs.Common.{Option, Some, None, refl, sym, ap, ◌∙◌, subst, inl, inr, arith}
+use Rattle.std.proofs.Common.{Option, Some, None, suc, refl, sym, ap, ◌∙◌, subst, inl, inr, arith}
 use Rattle.std.proofs.lemmas.Bool.{leb-true}
 use Rattle.std.specs.Prelude.{IsTrue, IfSome, IsSome, slice_get}
-use Rattle.std.specs.List.{AllByRecursion, filter_map, cons_option}
+use Rattle.std.specs.List.{filter_map, cons_option}
 use Rattle.std.proofs.lemmas.List.{length-set}
 use Rattle.std.specs.Option.{option_map, option_and_then, is_some}
 use Rattle.td_base.specs.Value.{DotValue}
@@ -13,19 +13,18 @@ use Rattle.td_clock.specs.Vector.{vector_get, vector_has, vector_bump}
 use Rattle.td_path.specs.declared.slot.Slot.{Slot}
 use Rattle.td_op.specs.declared.body.Body.{Body}
 use Rattle.td_op.specs.declared.body.Body.TheVariants.{Insert, Delete, Propose, Commit, Abort}
-use Rattle.td_op.specs.Op.{OpValue}
+use Rattle.td_op.specs.Op.{OpValue, IsOp}
 use Rattle.td_machine.specs.Counts.{counts, IsNext, IsInTurn}
 use Rattle.td_machine.specs.Machine.{Machine}
+use Rattle.td_machine.specs.Making.{holds_after}
 use Rattle.td_machine.specs.Log.{Committed, commit_at, commit_in, commits, committed, proposed, proposed_slot}
 use Rattle.td_machine.proofs.Counting.{numbered}
 use Rattle.td_machine.proofs.OwnProposals.{had_counts, proposal_in}
-use Rattle.td_causal.specs.declared.waiting.Waiting.{Waiting}
-use Rattle.td_causal.specs.Waiting.{ops_waiting, others_than, put_in_order, AreOfSize}
+use Rattle.td_causal.specs.Waiting.{Numbers, ops_waiting, others_than, put_in_order, IsStored, AreStored}
 use Rattle.td_causal.proofs.Kept.{All-others_than, All-put_in_order, ops-others_than, ops-put_in_order}
-use Rattle.td_machine.specs.Ready.{without}
+use Rattle.td_causal.proofs.Kept.{seen, ops-more, stored-more}
+use Rattle.td_machine.specs.Ready.{put_waiting, without}
 use Rattle.td_doc.specs.Document.{DocRow}
-use Rattle.td_base.proofs.Lists.{all_in}
-use Rattle.td_base.proofs.Places.{get_more}
 use Rattle.td_vote.specs.Commits.{in_order}
 use Rattle.td_vote.specs.Holds.{HoldsValue}
 use Rattle.td_coord.specs.Tally.{TallyValue}
@@ -142,17 +141,9 @@ module _ (log : List OpValue) (x : OpValue) (new : IsNewIn log x) where
       (still_named (committed x.body) (own_named x.body u))
   named_more named u y (inr i) = still_named (committed y.body) (named y i)
 
--- ---- what waits stays stored
-
-pub stored_more : (ops more : List OpValue) (waiting : List Waiting)
-    → AllByRecursion (λ (w : Waiting). slice_get ops w.number ≡ Some w.op) waiting
-    → AllByRecursion (λ (w : Waiting). slice_get (ops ++ more) w.number ≡ Some w.op) waiting
-stored_more ops more [] h = tt
-stored_more ops more (w ∷ waiting) h = (get_more ops more w.number w.op h.0, stored_more ops more waiting h.1)
-
 -- ---- the state
 
-pub noted : (site : ℕ) (have : List ℕ) (waiting : List Waiting) (holds holds2 : HoldsValue) (tally : TallyValue)
+pub noted : (site : ℕ) (have : List ℕ) (waiting : Numbers) (holds holds2 : HoldsValue) (tally : TallyValue)
     (past : Past) (origin : Origin) (x : OpValue) → IsState site have waiting holds tally past → IsNext have x
     → IfSome (decided_by x.body) (IsUndecided past.log) → holds2.commits ≡ commits_after x past.log holds.commits
     → IsState site (vector_bump have x.dot.site) waiting holds2 tally (logged origin x past)
@@ -172,8 +163,7 @@ noted site have waiting holds holds2 tally past origin x s next u cs = at origin
 
     -- whatever else the past is, where it has this log and these operations
     with_past : (after : Past) → after.site ≡ past.site → after.size ≡ past.size → after.log ≡ x ∷ past.log
-        → AllByRecursion (λ (w : Waiting). slice_get after.ops w.number ≡ Some w.op) waiting
-        → IsState site (vector_bump have x.dot.site) waiting holds2 tally after
+        → AreStored n after.ops waiting → IsState site (vector_bump have x.dot.site) waiting holds2 tally after
     with_past after a b c d =
         record {
           some = s.some;
@@ -190,16 +180,23 @@ noted site have waiting holds holds2 tally past origin x s next u cs = at origin
           commits = cs ∙ ap (commits_after x past.log) s.commits ∙ sym (commits_noted past.log x fresh s.named u)
               ∙ ap (λ (log : List OpValue). in_order (commits log)) (sym c);
           named = subst CommitsNamed (sym c) (named_more past.log x fresh s.named u);
-          alike = subst (λ (k : ℕ). AreOfSize k waiting) (sym long) s.alike;
-          stored = d;
+          stored = subst (λ (k : ℕ). AreStored k after.ops waiting) (sym long) d;
         }
 
     at : (from : Origin) → IsState site (vector_bump have x.dot.site) waiting holds2 tally (logged from x past)
-    at Here = with_past (with_made x past) refl refl refl (stored_more past.ops (x ∷ []) waiting s.stored)
-    at There = with_past (with_taken x past) refl refl refl (stored_more past.ops (x ∷ []) waiting s.stored)
+    at Here = with_past (with_made x past) refl refl refl (stored-more n past.ops (x ∷ []) waiting s.stored)
+    at There = with_past (with_taken x past) refl refl refl (stored-more n past.ops (x ∷ []) waiting s.stored)
     at (Waited number) = with_past (resumed x past) refl refl refl s.stored
 
 -- ---- what waits
+
+-- as many numbers are kept as operations wait
+pub stored_length : (n : ℕ) (ops : List OpValue) (waiting : Numbers) → AreStored n ops waiting
+    → length waiting ≡ length (ops_waiting ops waiting)
+stored_length n ops [] stored = refl
+stored_length n ops (w ∷ waiting) stored =
+    ap suc (stored_length n ops waiting stored.1)
+    ∙ sym (ap length (seen n ops w waiting stored.0))
 
 pub number_of_new : (ops : List OpValue) (x : OpValue) → slice_get (ops ++ x ∷ []) (length ops) ≡ Some x
 number_of_new [] x = refl
@@ -212,7 +209,7 @@ found_from Here x site ops out comes = absurd out
 found_from There x site ops out comes = number_of_new ops x
 found_from (Waited number) x site ops out comes = comes
 
-module _ (site : ℕ) (have : List ℕ) (waiting : List Waiting) (holds : HoldsValue) (tally : TallyValue) (past : Past)
+module _ (site : ℕ) (have : List ℕ) (waiting : Numbers) (holds : HoldsValue) (tally : TallyValue) (past : Past)
     (s : IsState site have waiting holds tally past) where
   pub forgotten : (d : DotValue) → IsState site have (others_than d waiting) holds tally past
   forgotten d =
@@ -227,14 +224,12 @@ module _ (site : ℕ) (have : List ℕ) (waiting : List Waiting) (holds : HoldsV
         in_turn = s.in_turn;
         commits = s.commits;
         named = s.named;
-        alike = All-others_than (λ (w : Waiting). length w.op.deps ≡ length have) d waiting s.alike;
-        stored = All-others_than (λ (w : Waiting). slice_get past.ops w.number ≡ Some w.op) d waiting s.stored;
+        stored = All-others_than (IsStored (length have) past.ops) d waiting s.stored;
       }
 
-  pub waits_too : (x : OpValue) → length x.deps ≡ length have
-      → IsState site have (put_in_order (record { op = x; number = length past.ops }) waiting)
-      holds tally (kept x past)
-  waits_too x sized =
+  pub waits_too : (x : OpValue) → IsOp x → length x.deps ≡ length have
+      → IsState site have (put_in_order (x.dot, length past.ops) waiting) holds tally (kept x past)
+  waits_too x is sized =
       record {
         some = s.some;
         within = s.within;
@@ -246,39 +241,68 @@ module _ (site : ℕ) (have : List ℕ) (waiting : List Waiting) (holds : HoldsV
         in_turn = s.in_turn;
         commits = s.commits;
         named = s.named;
-        alike = All-put_in_order (λ (w : Waiting). length w.op.deps ≡ length have)
-            (record { op = x; number = length past.ops }) waiting sized s.alike;
-        stored = All-put_in_order (λ (w : Waiting). slice_get (past.ops ++ x ∷ []) w.number ≡ Some w.op)
-            (record { op = x; number = length past.ops }) waiting (number_of_new past.ops x)
-            (stored_more past.ops (x ∷ []) waiting s.stored);
+        stored = All-put_in_order (IsStored (length have) (past.ops ++ x ∷ [])) (x.dot, length past.ops) waiting
+            (record { op = x; found = number_of_new past.ops x; dot = refl; is = is; size = sized })
+            (stored-more (length have) past.ops (x ∷ []) waiting s.stored);
       }
 
-  pub stored_of : (o : Option Waiting) → IfSome o (λ w. In w waiting)
-      → IfSome o (λ w. slice_get past.ops w.number ≡ Some w.op)
-  stored_of None h = tt
-  stored_of (Some w) h = all_in (λ (v : Waiting). slice_get past.ops v.number ≡ Some v.op) waiting s.stored w h
+  -- what waits is as it was where one more is stored
+  pub waits_on : (origin : Origin) (x : OpValue)
+      → ops_waiting (logged origin x past).ops waiting ≡ ops_waiting past.ops waiting
+  waits_on Here x = ops-more (length have) past.ops (x ∷ []) waiting s.stored
+  waits_on There x = ops-more (length have) past.ops (x ∷ []) waiting s.stored
+  waits_on (Waited number) x = refl
+
+  waits_behind : (x : OpValue)
+      → ops_waiting (past.ops ++ x ∷ []) (put_in_order (x.dot, length past.ops) waiting)
+      ≡ put_waiting x (ops_waiting past.ops waiting)
+  waits_behind x =
+      ops-put_in_order (length have) (past.ops ++ x ∷ []) (length past.ops) x waiting
+      (stored-more (length have) past.ops (x ∷ []) waiting s.stored) (number_of_new past.ops x)
+      ∙ ap (put_waiting x) (ops-more (length have) past.ops (x ∷ []) waiting s.stored)
 
   module _ (rows : List DocRow) where
+    pub note_machine : (origin : Origin) (x : OpValue) (holds2 : HoldsValue)
+        → holds2.holds ≡ holds_after x.body holds.holds
+        → machine_of site rows (vector_bump have x.dot.site) waiting holds2 tally (logged origin x past)
+        ≡ with_note origin x (machine_of site rows have waiting holds tally past)
+    note_machine origin x holds2 held = at origin
+      where
+        long : length (vector_bump have x.dot.site) ≡ length have
+        long = length-set have (x.dot.site - 1) (vector_get have x.dot.site + 1)
+
+        at : (from : Origin)
+            → machine_of site rows (vector_bump have x.dot.site) waiting holds2 tally (logged from x past)
+            ≡ with_note from x (machine_of site rows have waiting holds tally past)
+        at Here = λ i.
+            record (machine_of site rows (vector_bump have x.dot.site) waiting holds2 tally (with_made x past))
+            { size = long i; waiting = waits_on Here x i; holds = held i }
+        at There = λ i.
+            record (machine_of site rows (vector_bump have x.dot.site) waiting holds2 tally (with_taken x past))
+            { size = long i; waiting = waits_on There x i; holds = held i }
+        at (Waited number) = λ i.
+            record (machine_of site rows (vector_bump have x.dot.site) waiting holds2 tally (resumed x past))
+            { size = long i; holds = held i }
+
     pub forget_state : (d : DotValue)
         → state_of site rows have (others_than d waiting) holds tally past
         ≡ record (state_of site rows have waiting holds tally past) {
           machine = record (machine_of site rows have waiting holds tally past)
-              { waiting = without d (ops_waiting waiting) };
+              { waiting = without d (ops_waiting past.ops waiting) };
           waiting = others_than d waiting;
         }
     forget_state d = λ i.
         record (state_of site rows have (others_than d waiting) holds tally past) {
           machine = record (machine_of site rows have waiting holds tally past)
-              { waiting = ops-others_than d waiting i };
+              { waiting = ops-others_than (length have) past.ops d waiting s.stored i };
         }
 
-    pub wait_state : (x : OpValue) (number : ℕ)
-        → state_of site rows have (put_in_order (record { op = x; number = number }) waiting) holds tally (kept x past)
-        ≡ waiting_too x number (state_of site rows have waiting holds tally past)
-    wait_state x number = λ i.
-        record (waiting_too x number (state_of site rows have waiting holds tally past)) {
-          machine = record (machine_of site rows have waiting holds tally past)
-              { waiting = ops-put_in_order (record { op = x; number = number }) waiting i };
+    pub wait_state : (x : OpValue)
+        → state_of site rows have (put_in_order (x.dot, length past.ops) waiting) holds tally (kept x past)
+        ≡ waiting_too x (length past.ops) (state_of site rows have waiting holds tally past)
+    wait_state x = λ i.
+        record (waiting_too x (length past.ops) (state_of site rows have waiting holds tally past)) {
+          machine = record (machine_of site rows have waiting holds tally past) { waiting = waits_behind x i };
         }
 
 -- ---- the document is as before

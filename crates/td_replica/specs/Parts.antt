@@ -1,7 +1,6 @@
 -- The parts of a replica, as contracts see them: its machine, and what is kept beside it.
 use Rattle.std.specs.Prelude.{◌≡◌, ◌<◌, ◌≤◌, ◌++◌, ◌∷◌, ◌-◌, ℕ, List, [], length}
 use Rattle.std.specs.Prelude.{slice_get, Option, Some, None, IfSome, IsSome}
-use Rattle.std.specs.List.{AllByRecursion}
 use Rattle.td_base.specs.Value.{DotValue}
 use Rattle.td_base.specs.Lists.{In}
 use Rattle.td_path.specs.declared.slot.Slot.{Slot}
@@ -17,8 +16,7 @@ use Rattle.td_machine.specs.Log.{Committed, commit_at, commits, committed, propo
 use Rattle.td_machine.specs.Machine.{Machine}
 use Rattle.td_machine.specs.Making.{effect, holds_after, send}
 use Rattle.td_machine.specs.Decision.{Ballot}
-use Rattle.td_causal.specs.declared.waiting.Waiting.{Waiting}
-use Rattle.td_causal.specs.Waiting.{ops_waiting, put_in_order, AreOfSize}
+use Rattle.td_causal.specs.Waiting.{Numbers, ops_waiting, put_in_order, AreStored}
 use Rattle.td_machine.specs.Taking.{keep_waiting}
 use Rattle.td_vote.specs.Commits.{in_order, put_commit}
 use Rattle.td_vote.specs.Holds.{HoldsValue}
@@ -41,11 +39,11 @@ pub record StateValue : Type 0 where
   pub entries : List Entry
   -- the operations by their numbers
   pub ops : List OpValue
-  -- what waits, with its numbers
-  pub waiting : List Waiting
+  -- what waits, by the numbers of its operations
+  pub waiting : Numbers
   pub room : Room
 
-abbrev pub machine_of : ℕ → List DocRow → List ℕ → List Waiting → HoldsValue → TallyValue → Past → Machine
+abbrev pub machine_of : ℕ → List DocRow → List ℕ → Numbers → HoldsValue → TallyValue → Past → Machine
 machine_of site rows have waiting holds tally past =
     record {
       site = site;
@@ -53,7 +51,7 @@ machine_of site rows have waiting holds tally past =
       doc = rows;
       have = have;
       log = past.log;
-      waiting = ops_waiting waiting;
+      waiting = ops_waiting past.ops waiting;
       holds = holds.holds;
       ballots = tally.ballots;
       sent = past.sent;
@@ -69,7 +67,7 @@ room_of holds tally past =
       ballots = tally.places;
     }
 
-abbrev pub state_of : ℕ → List DocRow → List ℕ → List Waiting → HoldsValue → TallyValue → Past → StateValue
+abbrev pub state_of : ℕ → List DocRow → List ℕ → Numbers → HoldsValue → TallyValue → Past → StateValue
 state_of site rows have waiting holds tally past =
     record {
       machine = machine_of site rows have waiting holds tally past;
@@ -84,7 +82,7 @@ abbrev pub CommitsNamed : List OpValue → Type 0
 CommitsNamed log =
     (x : OpValue) → (In x log) → IfSome (committed x.body) (λ p. IsSome (proposed_slot p log))
 
-pub record IsState (site : ℕ) (have : List ℕ) (waiting : List Waiting) (holds : HoldsValue) (tally : TallyValue)
+pub record IsState (site : ℕ) (have : List ℕ) (waiting : Numbers) (holds : HoldsValue) (tally : TallyValue)
     (past : Past) : Type 0 where
   pub some : 0 < site
   pub within : site ≤ length have
@@ -98,9 +96,8 @@ pub record IsState (site : ℕ) (have : List ℕ) (waiting : List Waiting) (hold
   -- the commits are those of the log
   pub commits : holds.commits ≡ in_order (commits past.log)
   pub named : CommitsNamed past.log
-  pub alike : AreOfSize (length have) waiting
   -- what waits is stored by its number
-  pub stored : AllByRecursion (λ (w : Waiting). slice_get past.ops w.number ≡ Some w.op) waiting
+  pub stored : AreStored (length have) past.ops waiting
 
 -- the commits with one more, where its slot is told
 abbrev pub commits_with : DotValue → Option Slot → List Committed → List Committed
@@ -191,6 +188,6 @@ waiting_too x number s =
     record s {
       machine = keep_waiting x s.machine;
       ops = s.ops ++ x ∷ [];
-      waiting = put_in_order (record { op = x; number = number }) s.waiting;
+      waiting = put_in_order (x.dot, number) s.waiting;
       room = record s.room { things = s.room.things - 1 };
     }

@@ -55,7 +55,7 @@ impl<D: Doc> State<D> {
         match message {
             Message::Op(op) => {
                 op.deps().size() == self.have.size()
-                    && (self.have.has(op.dot()) || self.waiting.waits(op.dot()))
+                    && (self.have.has(op.dot()) || self.waits(op.dot()))
             }
             Message::Vote(vote) => {
                 self.vote_misfit(vote).is_none() && self.tally.foresee(*vote) == Counted::Repeat

@@ -94,7 +94,7 @@ impl<D: Doc> State<D> {
         if op.deps().size() != self.have.size() {
             return Judged::Refuse(Reply::Unfit { why: Why::Size });
         }
-        if self.have.has(dot) || self.waiting.waits(dot) {
+        if self.have.has(dot) || self.waits(dot) {
             return Judged::Refuse(Reply::Repeat);
         }
         if dot.site == self.site || op.deps().get(self.site) > self.made() {
@@ -194,7 +194,7 @@ impl<D: Doc> State<D> {
     {
         let number = match self.past.find(op.dot()) {
             Some(number) => number,
-            None => self.waiting.find(op.dot())?.number,
+            None => self.waiting.number_of(op.dot())?,
         };
         let stored = self.past.op(number)?;
         if same_op(&stored, op) {

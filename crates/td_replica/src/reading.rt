@@ -58,7 +58,7 @@ impl<D: Doc> Replica<D> {
     pub fn waiting(&self) -> u32
         ensures { result ≡ length self.now.machine.waiting }
     {
-        self.state.waiting.len()
+        self.state.count_waiting()
     }
 
     /// How many proposals are held.

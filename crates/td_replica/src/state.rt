@@ -14,7 +14,7 @@ ghost use Rattle.td_machine.specs.Making.{effect};
 ghost use Rattle.td_machine.specs.Shown.{change_by, put_at_index};
 ghost use Rattle.td_machine.specs.Making.{holds_after};
 ghost use Rattle.td_machine.specs.Making.{hold, send};
-ghost use Rattle.td_machine.specs.Ready.{without, next_ready};
+ghost use Rattle.td_machine.specs.Ready.{waits, without, next_ready};
 ghost use Rattle.td_machine.specs.Decision.{is_on, revise, close};
 ghost use Rattle.td_coord.specs.Tally.{put_ballot, started, voted, is_open_found};
 ghost use Rattle.td_causal.specs.Offering.{offer_answer};
@@ -237,26 +237,40 @@ impl<D: Doc> State<D> {
         self.past.vote(proposal, yes);
     }
 
+    // Whether an operation with the dot waits.
+    pub(crate) fn waits(&self, dot: Dot) -> bool
+        ensures { result ≡ waits dot self.now.machine.waiting }
+    {
+        self.waiting.waits(dot)
+    }
+
+    // How many operations wait.
+    pub(crate) fn count_waiting(&self) -> u32
+        ensures { result ≡ length self.now.machine.waiting }
+    {
+        self.waiting.len()
+    }
+
     // The least ready operation of those that wait, with the number by which it is stored.
     pub(crate) fn next_waiting(&self) -> Option<Waiting>
         ensures least { option_map (λ (w : WaitingOp). w.op) result
             ≡ next_ready self.now.machine.have self.now.machine.waiting }
         ensures stored { IfSome result (λ w. slice_get self.now.ops w.number ≡ Some w.op) }
     {
-        self.waiting.next_ready(&self.have)
+        self.waiting.next_ready(&self.have, self.past.ops())
     }
 
     // Whether one of those that wait is ready.
     pub(crate) fn has_ready(&self) -> bool
         ensures { result ≡ is_some (next_ready self.now.machine.have self.now.machine.waiting) }
     {
-        self.waiting.has_ready(&self.have)
+        self.waiting.has_ready(&self.have, self.past.ops())
     }
 
     // The operation waits until those come that it depends on. Its number is answered.
     pub(crate) fn wait(&mut self, op: &Op) -> Result<u32, Memory>
         requires sized { length op.now.deps ≡ self.old.machine.size }
-        requires late { offer_answer self.old.machine.have op.now self.old.machine.waiting ≡ Later }
+        requires late { offer_answer self.old.machine.have op.now (waits op.now.dot self.old.machine.waiting) ≡ Later }
         requires room { 1 ≤ self.old.room.things }
         ensures ok { IfOk result (λ number. self.new ≡ waiting_too op.now number self.old) }
         ensures number { IfOk result (λ number. number ≡ length self.old.ops) }

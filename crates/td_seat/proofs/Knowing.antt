@@ -1,6 +1,6 @@
 -- What becomes of an operation that is offered, case by case.
-use Rattle.std.proofs.Common.{◌≡◌, ◌||◌, ◌≢◌, ℕ, List, Bool, true, false, not, if◌then◌else◌, nat_eq}
-use Rattle.std.proofs.Common.{nat_lt, length, Option, Some, None, refl, sym, ap, ◌∙◌, true≢false}
+use Rattle.std.proofs.Common.{◌≡◌, ◌||◌, ◌++◌, ◌∷◌, [], ℕ, List, Bool, true, false, if◌then◌else◌, nat_eq}
+use Rattle.std.proofs.Common.{nat_lt, length, Option, Some, None, refl, sym, ap, ◌∙◌, subst, true≢false}
 use Rattle.std.proofs.lemmas.Bool.{eq-eqb}
 use Rattle.td_clock.specs.Vector.{vector_get, vector_has}
 use Rattle.td_path.specs.declared.slot.Slot.TheVariants.{Root}
@@ -11,17 +11,18 @@ use Rattle.td_op.specs.declared.message.Message.TheVariants.{Op as AnOp}
 use Rattle.td_op.specs.declared.reply.Reply.TheVariants.{New, Later, Repeat, Unfit}
 use Rattle.td_op.specs.declared.reply.Why.{Why}
 use Rattle.td_op.specs.declared.reply.Why.TheVariants.{Own}
-use Rattle.td_op.specs.Op.{OpValue}
+use Rattle.td_op.specs.Op.{OpValue, IsOp}
 use Rattle.td_machine.specs.Machine.{Machine, made}
-use Rattle.td_machine.specs.Ready.{is_had, is_ready, waits}
+use Rattle.td_machine.specs.Ready.{is_had, is_ready, waits, put_waiting}
 use Rattle.td_machine.specs.Taking.{Stepped, stepped, misfit, body_misfit, keep_waiting}
 use Rattle.td_machine.specs.Step.{step}
-use Rattle.td_causal.specs.declared.waiting.Waiting.{Waiting}
 use Rattle.td_causal.specs.declared.offer.Offer.{Offer}
 use Rattle.td_causal.specs.declared.offer.Offer.TheVariants.{Repeat as Again, Later as Late, Ready}
-use Rattle.td_causal.specs.Offering.{offer_answer, kept_after}
-use Rattle.td_causal.specs.Waiting.{ops_waiting}
-use Rattle.td_causal.proofs.Kept.{ops-put_in_order, All-put_in_order}
+use Rattle.td_causal.specs.Offering.{offer_answer}
+use Rattle.td_causal.specs.Waiting.{Numbers, ops_waiting, is_kept, put_in_order, IsStored, AreStored}
+use Rattle.td_causal.proofs.Kept.{ops-put_in_order, All-put_in_order, kept_waits, ops-more, stored-more}
+use Rattle.td_store.specs.Lists.{OpsValue}
+use Rattle.td_base.proofs.Places.{get_behind}
 use Rattle.td_replica.specs.Replica.{ReplicaValue}
 use Rattle.td_law_replay.proofs.Outlined.{offered_to}
 use Rattle.td_seat.specs.Seat.{IsSeat}
@@ -86,51 +87,80 @@ module _ (x : OpValue) (m : Machine) (sized : length x.deps ≡ m.size) where
 
 -- ---- in a seat
 
-pub kept_seat : (r : ReplicaValue) (w : List Waiting) (x : OpValue) (number : ℕ) (answer : Offer) → IsSeat r w
-    → length x.deps ≡ r.machine.size
-    → IsSeat r (kept_after answer (record { op = x; number = number }) w)
-kept_seat r w x number Again seat sized = seat
-kept_seat r w x number Ready seat sized = seat
-kept_seat r w x number Late seat sized =
+-- room for more outlines makes no difference
+pub room_seat : (r : ReplicaValue) (o p : OpsValue) (w : Numbers) → IsSeat r o w → p ≡ record o { room = p.room }
+    → IsSeat r p w
+room_seat r o p w seat is =
     record {
       bare = seat.bare;
-      sized = All-put_in_order (λ (v : Waiting). length v.op.deps ≡ r.machine.size) kept w sized seat.sized;
+      sized = ap (λ (v : OpsValue). v.size) is ∙ seat.sized;
+      stored = subst (λ (ops : List OpValue). AreStored r.machine.size ops w)
+          (sym (ap (λ (v : OpsValue). v.ops) is)) seat.stored;
     }
-  where
-    kept : Waiting
-    kept = record { op = x; number = number }
 
--- what is answered, and is not new, leaves what the step leaves
-pub known_machine : (m : Machine) (w : List Waiting) (x : OpValue) (number : ℕ) (answer : Offer)
-    → length x.deps ≡ m.size
-    → vector_has m.have x.dot ≡ false → waits x.dot (ops_waiting w) ≡ false
-    → nat_eq x.dot.site m.site ≡ false → nat_lt (made m) (vector_get x.deps m.site) ≡ false
-    → answer ≡ offer_answer m.have x (ops_waiting w) → answer ≢ Ready
-    → record m { waiting = ops_waiting (kept_after answer (record { op = x; number = number }) w) }
-    ≡ (step (record m { waiting = ops_waiting w }) (Take (AnOp x))).machine
-known_machine m w x number answer sized had waiting apart low is not_ready =
-    found answer (is_ready m.have x) refl
-    (is ∙ ap (λ (b : Bool). if b || waits x.dot (ops_waiting w) then Again else if is_ready m.have x then Ready else
-    Late)
-    had
-    ∙ ap (λ (b : Bool). if b then Again else if is_ready m.have x then Ready else Late) waiting) not_ready
-  where
-    mm : Machine
-    mm = record m { waiting = ops_waiting w }
+-- one more outline, that waits
+pub kept_seat : (r : ReplicaValue) (o p : OpsValue) (w v : Numbers) (x : OpValue) → IsSeat r o w → IsOp x
+    → length x.deps ≡ r.machine.size → p.size ≡ o.size → p.ops ≡ o.ops ++ x ∷ []
+    → v ≡ put_in_order (x.dot, length o.ops) w → IsSeat r p v
+kept_seat r o p w v x seat is sized size ops put =
+    subst (IsSeat r p) (sym put)
+    (record {
+      bare = seat.bare;
+      sized = size ∙ seat.sized;
+      stored = subst (λ (xs : List OpValue). AreStored r.machine.size xs (put_in_order (x.dot, length o.ops) w))
+          (sym ops)
+          (All-put_in_order (IsStored r.machine.size (o.ops ++ x ∷ [])) (x.dot, length o.ops) w
+          (record { op = x; found = get_behind o.ops x []; dot = refl; is = is; size = sized })
+          (stored-more r.machine.size o.ops (x ∷ []) w seat.stored));
+    })
 
-    known : is_known_of x mm ≡ false
-    known = ap (λ (b : Bool). b || waits x.dot (ops_waiting w)) had ∙ waiting
+-- what is offered and not known is late, or ready
+module _ (m : Machine) (ops : List OpValue) (w : Numbers) (x : OpValue) (answer : Offer) (n : ℕ)
+    (stored : AreStored n ops w) (sized : length x.deps ≡ m.size)
+    (had : vector_has m.have x.dot ≡ false) (quiet : waits x.dot (ops_waiting ops w) ≡ false)
+    (apart : nat_eq x.dot.site m.site ≡ false) (low : nat_lt (made m) (vector_get x.deps m.site) ≡ false)
+    (is : answer ≡ offer_answer m.have x (is_kept x.dot w)) where
+  abbrev pub outlined : Machine
+  outlined = record m { waiting = ops_waiting ops w }
 
-    here : is_own_of x mm ≡ false
-    here = ap (λ (b : Bool). b || nat_lt (made m) (vector_get x.deps m.site)) apart ∙ low
+  known : is_known_of x outlined ≡ false
+  known = ap (λ (b : Bool). b || waits x.dot (ops_waiting ops w)) had ∙ quiet
 
-    found : (a : Offer) (b : Bool) → is_ready m.have x ≡ b → a ≡ (if b then Ready else Late) → a ≢ Ready
-        → record m { waiting = ops_waiting (kept_after a (record { op = x; number = number }) w) }
-        ≡ (step mm (Take (AnOp x))).machine
-    found a true r e not = absurd (not e)
-    found Late false r e not =
-        ap (λ (ops : List OpValue). record m { waiting = ops }) (ops-put_in_order
-        (record { op = x; number = number }) w)
-        ∙ sym (ap (λ (s : Stepped). s.machine) (late x mm sized known here r))
-    found Again false r e not = absurd cc
-    found Ready false r e not = absurd cc
+  here : is_own_of x outlined ≡ false
+  here = ap (λ (b : Bool). b || nat_lt (made m) (vector_get x.deps m.site)) apart ∙ low
+
+  said : answer ≡ (if is_ready m.have x then Ready else Late)
+  said =
+      is ∙ ap (λ (b : Bool). if b || is_kept x.dot w then Again else if is_ready m.have x then Ready else Late) had
+      ∙ ap (λ (b : Bool). if b then Again else if is_ready m.have x then Ready else Late)
+      (kept_waits n ops x.dot w stored ∙ quiet)
+
+  pub not_again : answer ≡ Again → ⊥
+  not_again e = at (is_ready m.have x) (sym e ∙ said)
+    where
+      at : (b : Bool) → Again ≡ (if b then Ready else Late) → ⊥
+      at true h = cc h
+      at false h = cc h
+
+  not_ready : answer ≡ Late → is_ready m.have x ≡ false
+  not_ready e = at (is_ready m.have x) (sym e ∙ said)
+    where
+      at : (b : Bool) → Late ≡ (if b then Ready else Late) → b ≡ false
+      at true h = absurd (cc h)
+      at false h = refl
+
+  late_step : answer ≡ Late → step outlined (Take (AnOp x)) ≡ stepped Later (keep_waiting x outlined)
+  late_step e = late x outlined sized known here (not_ready e)
+
+  -- the machine then, with the outline behind the others
+  pub late_machine : answer ≡ Late → (more : List OpValue) (v : Numbers) → more ≡ ops ++ x ∷ []
+      → v ≡ put_in_order (x.dot, length ops) w
+      → record m { waiting = ops_waiting more v } ≡ (step outlined (Take (AnOp x))).machine
+  late_machine e more v stands put =
+      ap (λ (xs : List OpValue). record m { waiting = xs })
+      (ap (λ (xs : List OpValue). ops_waiting xs v) stands
+      ∙ ap (ops_waiting (ops ++ x ∷ [])) put
+      ∙ ops-put_in_order n (ops ++ x ∷ []) (length ops) x w (stored-more n ops (x ∷ []) w stored)
+      (get_behind ops x [])
+      ∙ ap (put_waiting x) (ops-more n ops (x ∷ []) w stored))
+      ∙ sym (ap (λ (s : Stepped). s.machine) (late_step e))

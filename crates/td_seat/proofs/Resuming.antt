@@ -13,8 +13,8 @@ use Rattle.td_op.specs.declared.message.Message.TheVariants.{Op as AnOp}
 use Rattle.td_op.specs.declared.reply.Reply.TheVariants.{New, Taken, Idle, Unfit}
 use Rattle.td_op.specs.declared.reply.Why.{Why}
 use Rattle.td_op.specs.Op.{OpValue}
-use Rattle.td_causal.specs.declared.waiting.Waiting.{Waiting}
-use Rattle.td_causal.specs.Waiting.{ops_waiting, others_than}
+use Rattle.td_store.specs.Lists.{OpsValue}
+use Rattle.td_causal.specs.Waiting.{Numbers, IsStored, AreStored, ops_waiting, others_than}
 use Rattle.td_causal.proofs.Kept.{ops-others_than, All-others_than}
 use Rattle.td_machine.specs.Ready.{is_had, is_ready, next_ready, waits, without}
 use Rattle.td_machine.specs.Machine.{Machine, made}
@@ -63,16 +63,16 @@ covers_at [] (n ∷ w) k covers = absurd cc
 covers_at (a ∷ v) (n ∷ w) zero covers = leb-true n a (and_parts (nat_le n a) (vector_covers v w) covers).0
 covers_at (a ∷ v) (n ∷ w) (suc k) covers = covers_at v w k (and_parts (nat_le n a) (vector_covers v w) covers).1
 
-module _ (m : Machine) (w : List Waiting) (x : OpValue) (bare : m.waiting ≡ [])
-    (outlined : IsOutlined x (record m { waiting = ops_waiting w }))
+module _ (m : Machine) (o : OpsValue) (w : Numbers) (stored : AreStored m.size o.ops w) (x : OpValue)
+    (bare : m.waiting ≡ []) (outlined : IsOutlined x (record m { waiting = ops_waiting o.ops w }))
     (sized : length x.deps ≡ m.size) (apart : x.dot.site ≢ m.site) where
   abbrev pub beside : Machine
-  beside = record m { waiting = ops_waiting w }
+  beside = record m { waiting = ops_waiting o.ops w }
 
   abbrev y : OpValue
   y = outlined.outline_is
 
-  abbrev least : next_ready m.have (ops_waiting w) ≡ Some y
+  abbrev least : next_ready m.have (ops_waiting o.ops w) ≡ Some y
   least = outlined.least
 
   abbrev same : y.dot ≡ x.dot
@@ -85,8 +85,8 @@ module _ (m : Machine) (w : List Waiting) (x : OpValue) (bare : m.waiting ≡ []
   ready =
       ap (λ (d : DotValue). not (vector_has m.have d) && vector_covers m.have x.deps) (sym same)
       ∙ ap (λ (v : List ℕ). not (vector_has m.have y.dot) && vector_covers m.have v) (sym deps)
-      ∙ (In-filter (is_ready m.have) y (ops_waiting w)
-      (least_in (filter (is_ready m.have) (ops_waiting w)) y least)).1
+      ∙ (In-filter (is_ready m.have) y (ops_waiting o.ops w)
+      (least_in (filter (is_ready m.have) (ops_waiting o.ops w)) y least)).1
 
   low : vector_get x.deps m.site ≤ made m
   low = covers_at m.have x.deps (m.site - 1) (and_parts (not (is_had m.have x)) (vector_covers m.have x.deps) ready).1
@@ -99,7 +99,7 @@ module _ (m : Machine) (w : List Waiting) (x : OpValue) (bare : m.waiting ≡ []
       ap (λ (o : Option OpValue). take_waiting_as o x beside) least
       ∙ ap (λ (b : Bool). if b then waited (misfit x beside) x (forget x beside) else stepped (Taken y.dot) beside)
       (ap (λ (d : DotValue). same_dot d x.dot) same ∙ same_dot_refl x.dot)
-      ∙ ap (λ (why : Option Why). waited why x (forget x beside)) (misfit_with x (ops_waiting w) m)
+      ∙ ap (λ (why : Option Why). waited why x (forget x beside)) (misfit_with x (ops_waiting o.ops w) m)
 
   pub up_reply : (take_waiting x beside).reply ≡ up_of x.dot (step m (Take (AnOp x))).reply
   up_reply =
@@ -112,18 +112,18 @@ module _ (m : Machine) (w : List Waiting) (x : OpValue) (bare : m.waiting ≡ []
       at None = refl
 
   pub up_machine : (take_waiting x beside).machine
-      ≡ record (step m (Take (AnOp x))).machine { waiting = ops_waiting (others_than x.dot w) }
+      ≡ record (step m (Take (AnOp x))).machine { waiting = ops_waiting o.ops (others_than x.dot w) }
   up_machine =
       ap (λ (s : Stepped). s.machine) resumed ∙ at (misfit x m)
-      ∙ sym (ap (λ (s : Stepped). record s.machine { waiting = ops_waiting (others_than x.dot w) }) alone)
+      ∙ sym (ap (λ (s : Stepped). record s.machine { waiting = ops_waiting o.ops (others_than x.dot w) }) alone)
     where
       at : (why : Option Why) → (waited why x (forget x beside)).machine
-          ≡ record (if_fits why x m).machine { waiting = ops_waiting (others_than x.dot w) }
+          ≡ record (if_fits why x m).machine { waiting = ops_waiting o.ops (others_than x.dot w) }
       at (Some why) =
-          ap (λ (ops : List OpValue). record m { waiting = ops }) (sym (ops-others_than x.dot w))
+          ap (λ (ops : List OpValue). record m { waiting = ops }) (sym (ops-others_than m.size o.ops x.dot w stored))
       at None =
-          take_with x (without x.dot (ops_waiting w)) m
-          ∙ ap (λ (ops : List OpValue). record (take x m) { waiting = ops }) (sym (ops-others_than x.dot w))
+          take_with x (without x.dot (ops_waiting o.ops w)) m
+          ∙ ap (λ (ops : List OpValue). record (take x m) { waiting = ops }) (sym (ops-others_than m.size o.ops x.dot w stored))
 
   pub up_bare : (step m (Take (AnOp x))).machine.waiting ≡ []
   up_bare = ap (λ (s : Stepped). s.machine.waiting) alone ∙ at (misfit x m)
@@ -133,13 +133,14 @@ module _ (m : Machine) (w : List Waiting) (x : OpValue) (bare : m.waiting ≡ []
       at None = take_keeps x m ∙ bare
 
 -- the seat of a site which took up an operation
-pub up_seat : (r q : ReplicaValue) (w : List Waiting) (d : DotValue) → IsSeat r w → q.machine.waiting ≡ []
-    → q.machine.size ≡ r.machine.size → IsSeat q (others_than d w)
-up_seat r q w d seat bare size =
-    seat_stays r q (others_than d w)
+pub up_seat : (r q : ReplicaValue) (o : OpsValue) (w : Numbers) (d : DotValue) → IsSeat r o w
+    → q.machine.waiting ≡ [] → q.machine.size ≡ r.machine.size → IsSeat q o (others_than d w)
+up_seat r q o w d seat bare size =
+    seat_stays r q o (others_than d w)
     (record {
       bare = seat.bare;
-      sized = All-others_than (λ (v : Waiting). length v.op.deps ≡ r.machine.size) d w seat.sized;
+      sized = seat.sized;
+      stored = All-others_than (IsStored r.machine.size o.ops) d w seat.stored;
     })
     bare size
 

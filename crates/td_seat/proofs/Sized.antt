@@ -1,13 +1,16 @@
 -- What holds of a replica's machine at every moment.
-use Rattle.std.proofs.Common.{◌≡◌, ℕ, List, [], length, sym, subst}
+use Rattle.std.proofs.Common.{◌≡◌, ◌∙◌, ℕ, [], length, sym, subst}
 use Rattle.td_op.specs.declared.input.Input.{Input}
 use Rattle.td_op.specs.Input.{IsInput}
 use Rattle.td_machine.specs.History.{IsReached}
 use Rattle.td_machine.specs.Step.{step}
 use Rattle.td_machine.proofs.Induction.{built_of}
 use Rattle.td_machine.proofs.Turns.{length_have}
-use Rattle.td_causal.specs.declared.waiting.Waiting.{Waiting}
-use Rattle.td_causal.specs.Waiting.{AreOfSize}
+use Rattle.td_store.specs.Lists.{OpsValue}
+use Rattle.td_machine.specs.Ready.{waits}
+use Rattle.td_base.specs.Value.{DotValue}
+use Rattle.td_causal.specs.Waiting.{Numbers, ops_waiting, is_kept, AreStored}
+use Rattle.td_causal.proofs.Kept.{kept_waits}
 use Rattle.td_replica.specs.Replica.{ReplicaValue, IsReplica}
 use Rattle.td_law_replay.proofs.Telling.{same_site}
 use Rattle.td_seat.specs.Seat.{IsSeat}
@@ -37,10 +40,16 @@ pub step_size : (r : ReplicaValue) (input : Input) → IsReplica r → IsInput i
 step_size r input is valid = (same_site r.machine input (reached r is) valid).1
 
 -- what stands beside a replica stands beside it later on
-pub seat_stays : (r q : ReplicaValue) (w : List Waiting) → IsSeat r w → q.machine.waiting ≡ []
-    → q.machine.size ≡ r.machine.size → IsSeat q w
-seat_stays r q w seat bare size =
+pub seat_stays : (r q : ReplicaValue) (o : OpsValue) (w : Numbers) → IsSeat r o w → q.machine.waiting ≡ []
+    → q.machine.size ≡ r.machine.size → IsSeat q o w
+seat_stays r q o w seat bare size =
     record {
       bare = bare;
-      sized = subst (λ (n : ℕ). AreOfSize n w) (sym size) seat.sized;
+      sized = seat.sized ∙ sym size;
+      stored = subst (λ (n : ℕ). AreStored n o.ops w) (sym size) seat.stored;
     }
+
+-- what is kept waits
+pub seat_waits : (r : ReplicaValue) (o : OpsValue) (w : Numbers) (d : DotValue) → IsSeat r o w
+    → is_kept d w ≡ waits d (ops_waiting o.ops w)
+seat_waits r o w d seat = kept_waits r.machine.size o.ops d w seat.stored

@@ -1,5 +1,5 @@
 -- How a site in the replay is kept: a replica in which nothing waits, and outlines beside it.
-use Rattle.std.specs.Prelude.{◌≡◌, List, [], Some}
+use Rattle.std.specs.Prelude.{◌≡◌, [], Some}
 use Rattle.td_base.specs.Value.{DotValue}
 use Rattle.td_op.specs.declared.reply.Reply.{Reply}
 use Rattle.td_op.specs.declared.reply.Reply.TheVariants.{Unfit, Taken, Dropped}
@@ -7,15 +7,16 @@ use Rattle.td_op.specs.Op.{OpValue}
 use Rattle.td_machine.specs.Machine.{Machine}
 use Rattle.td_machine.specs.Ready.{next_ready}
 use Rattle.td_replica.specs.Replica.{ReplicaValue}
-use Rattle.td_causal.specs.declared.waiting.Waiting.{Waiting}
-use Rattle.td_causal.specs.Waiting.{ops_waiting, AreOfSize}
+use Rattle.td_store.specs.Lists.{OpsValue}
+use Rattle.td_causal.specs.Waiting.{Numbers, ops_waiting, AreStored}
 
-abbrev pub seat_machine : ReplicaValue → List Waiting → Machine
-seat_machine r waiting = record r.machine { waiting = ops_waiting waiting }
+abbrev pub seat_machine : ReplicaValue → OpsValue → Numbers → Machine
+seat_machine r outlines waiting = record r.machine { waiting = ops_waiting outlines.ops waiting }
 
-pub record IsSeat (r : ReplicaValue) (waiting : List Waiting) : Type 0 where
+pub record IsSeat (r : ReplicaValue) (outlines : OpsValue) (waiting : Numbers) : Type 0 where
   pub bare : r.machine.waiting ≡ []
-  pub sized : AreOfSize r.machine.size waiting
+  pub sized : outlines.size ≡ r.machine.size
+  pub stored : AreStored r.machine.size outlines.ops waiting
 
 -- the reply to what waited, where this one is the reply to it without the waiting
 abbrev pub up_of : DotValue → Reply → Reply

@@ -7,7 +7,7 @@ ghost use Rattle.td_op.specs.declared.input.Input.TheVariants.{Local, Take, Next
 ghost use Rattle.td_op.specs.declared.message.Message.TheVariants.{Vote as AVote, Op as AnOp};
 ghost use Rattle.td_op.specs.Op.{OpValue};
 ghost use Rattle.td_machine.specs.Machine.{Machine, start};
-ghost use Rattle.td_machine.specs.Ready.{next_ready};
+ghost use Rattle.td_machine.specs.Ready.{next_ready, waits};
 ghost use Rattle.td_machine.specs.Step.{step};
 ghost use Rattle.td_seat.specs.Seat.{up_of, IsOutlined};
 ghost use Rattle.td_replica.specs.Replica.{after_step, is_idle};
@@ -21,6 +21,7 @@ use td_causal::{Buffer, Offer};
 use td_doc::Doc;
 use td_op::{Input, Message, Op, Reply, Request, Vote, Why};
 use td_replica::Replica;
+use td_store::Ops;
 
 /// A site in the replay of a trace, seen as its machine, in which an operation that waits is known by its dot and its
 /// dependencies alone.
@@ -28,7 +29,8 @@ use td_replica::Replica;
 pub struct Seat<D: Doc> {
     // nothing waits in it
     pub(crate) replica: Replica<D>,
-    // outlines of what waits
+    // outlines of what waits, and of what waited
+    pub(crate) outlines: Ops,
     pub(crate) waiting: Buffer,
 }
 
@@ -38,9 +40,9 @@ impl<D: Doc> Model for Seat<D> {
 
     ghost Value = { Machine };
 
-    ghost view = { λ s. seat_machine s.replica s.waiting };
+    ghost view = { λ s. seat_machine s.replica s.outlines s.waiting };
 
-    ghost invariant = { λ s. IsSeat s.replica s.waiting };
+    ghost invariant = { λ s. IsSeat s.replica s.outlines s.waiting };
 }
 
 impl<D: Doc> Seat<D> {
@@ -52,6 +54,7 @@ impl<D: Doc> Seat<D> {
     {
         Ok(Seat {
             replica: Replica::new(alloc, site, n)?,
+            outlines: Ops::new(alloc, n),
             waiting: Buffer::new(alloc),
         })
     }
@@ -86,7 +89,7 @@ impl<D: Doc> Seat<D> {
         ensures err { OnErr result (self.new ≡ self.old) }
     {
         self.is_sized();
-        if self.waiting.waits(op.dot()) || !self.replica.have().covers(op.deps()) {
+        if self.waits(op.dot()) || !self.replica.have().covers(op.deps()) {
             return Ok(false);
         }
         let reply = step_of(&mut self.replica, &Input::Take(Message::Op(*op)))?;
@@ -95,7 +98,7 @@ impl<D: Doc> Seat<D> {
 
     /// An operation that an entry says to wait, or to be known: its outline is offered. Where it is ready, or of this
     /// site, nothing is done.
-    #[tactic(auto, using(crate::proofs::Knowing::kept_seat, crate::proofs::Knowing::known_machine))]
+    #[tactic(auto, using(crate::proofs::Knowing::room_seat))]
     pub fn know(&mut self, outline: &Op) -> Result<Reply, Memory>
         requires sized { length outline.now.deps ≡ self.old.size }
         requires outline { outline.now.body ≡ Propose Root }
@@ -106,16 +109,21 @@ impl<D: Doc> Seat<D> {
     {
         self.is_sized();
         let dot = outline.dot();
-        if self.replica.have().has(dot) || self.waiting.waits(dot) {
+        if self.replica.have().has(dot) || self.waits(dot) {
             return Ok(Reply::Repeat);
         }
         let site = self.replica.site();
         if dot.site == site || outline.deps().get(site) > self.replica.made() {
             return Ok(Reply::Unfit { why: Why::Own });
         }
-        match self.waiting.offer(self.replica.have(), outline, 0)? {
+        self.outlines.reserve(1)?;
+        let number = self.outlines.len();
+        match self.waiting.offer(self.replica.have(), outline, number)? {
             Offer::Repeat => Ok(Reply::Repeat),
-            Offer::Later => Ok(Reply::Later),
+            Offer::Later => {
+                self.outlines.push(outline);
+                Ok(Reply::Later)
+            }
             Offer::Ready => Ok(Reply::New),
         }
     }
@@ -132,7 +140,7 @@ impl<D: Doc> Seat<D> {
         ensures err { OnErr result (self.new ≡ self.old) }
     {
         self.is_sized();
-        let Some(least) = self.waiting.next_ready(self.replica.have()) else {
+        let Some(least) = self.waiting.next_ready(self.replica.have(), &self.outlines) else {
             return Ok(Reply::Idle);
         };
         if !is_same(least.op.dot(), op.dot()) {
@@ -162,7 +170,15 @@ impl<D: Doc> Seat<D> {
         ensures { result ≡ is_idle (step self.now Next).reply }
     {
         self.is_sized();
-        !self.waiting.has_ready(self.replica.have())
+        !self.waiting.has_ready(self.replica.have(), &self.outlines)
+    }
+
+    // Whether an operation with the dot waits.
+    #[tactic(auto, using(crate::proofs::Sized::seat_waits))]
+    fn waits(&self, dot: Dot) -> bool
+        ensures { result ≡ waits dot self.now.waiting }
+    {
+        self.waiting.waits(dot)
     }
 
     // What holds of its machine at every moment.

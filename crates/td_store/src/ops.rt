@@ -128,6 +128,15 @@ impl Ops {
         Op::of(dot, &deps, &op.body.body(&self.runs))
     }
 
+    /// What the operation at a place that there is depends on.
+    pub fn deps(&self, k: u32) -> Vector
+        requires { k < length self.now.ops }
+        ensures { option_map (λ (op : OpValue). op.deps) (slice_get self.now.ops k) ≡ Some result }
+    {
+        let op = &self.ops[k as usize];
+        deps_at(&self.rows, op.row, op.dot.dot())
+    }
+
     /// The dot of the operation at a place.
     pub fn dot(&self, k: u32) -> Option<Dot>
         ensures { result ≡ option_map (λ (op : OpValue). op.dot) (slice_get self.now.ops k) }

@@ -21,17 +21,6 @@ fn two(first: u16, second: u16) -> Result<Vector, Fail>
     Ok(v)
 }
 
-// Of three sites.
-fn three(first: u16, second: u16, third: u16) -> Result<Vector, Fail>
-    ensures { IfOk result (λ v. length v ≡ 3) }
-{
-    let mut v = Vector::new(3);
-    v.set(Site::new(1).ok_or("site 1")?, u32::from(first));
-    v.set(Site::new(2).ok_or("site 2")?, u32::from(second));
-    v.set(Site::new(3).ok_or("site 3")?, u32::from(third));
-    Ok(v)
-}
-
 // Some operation with this dot, of a site that had these.
 fn op(dot: Dot, deps: Vector) -> Result<Op, Fail>
     ensures { IfOk result (λ x. x.deps ≡ deps) }
@@ -49,41 +38,12 @@ fn an_operation_waits_for_the_one_before_it(rt: HostRuntime) -> Result<(), Fail>
     assert!(rt; buffer.is_empty());
     assert_eq!(rt; buffer.offer(&before, &second, 7), Ok(Offer::Later));
     assert_eq!(rt; buffer.offer(&before, &second, 8), Ok(Offer::Repeat));
-    assert_eq!(rt; buffer.next_ready(&before), None);
-    let waiting = Waiting {
-        op: second,
-        number: 7,
-    };
-    assert_eq!(rt; buffer.next_ready(&after), Some(waiting));
-    assert_eq!(rt; buffer.find(second.dot()), Some(waiting));
+    assert_eq!(rt; buffer.number_of(second.dot()), Some(7));
     assert!(rt; buffer.waits(second.dot()) && buffer.len() == 1);
     buffer.remove(second.dot());
     assert!(rt; !buffer.waits(second.dot()) && buffer.is_empty());
     assert_eq!(rt; buffer.offer(&after, &second, 9), Ok(Offer::Ready));
     assert_eq!(rt; buffer.offer(&two(2, 0)?, &second, 9), Ok(Offer::Repeat));
     assert_eq!(rt; buffer.len(), 0);
-    Ok(())
-}
-
-#[test]
-fn the_least_ready_dot_is_not_the_first_that_came(rt: HostRuntime) -> Result<(), Fail> {
-    let mut buffer = Buffer::new(rt.alloc());
-    let start = three(0, 0, 0)?;
-    let third = op(dot(3, 1)?, three(1, 0, 0)?)?;
-    let second = op(dot(2, 1)?, three(1, 0, 0)?)?;
-    let first = op(dot(1, 2)?, three(1, 0, 1)?)?;
-    assert_eq!(rt; buffer.offer(&start, &third, 1), Ok(Offer::Later));
-    assert_eq!(rt; buffer.offer(&start, &second, 2), Ok(Offer::Later));
-    assert_eq!(rt; buffer.offer(&start, &first, 3), Ok(Offer::Later));
-    for (have, next) in [
-        (start, None),
-        (three(1, 0, 0)?, Some((second, 2))),
-        (three(1, 1, 0)?, Some((third, 1))),
-        (three(1, 0, 1)?, Some((first, 3))),
-        (three(2, 1, 1)?, None),
-    ] {
-        let next = next.map(|(op, number)| Waiting { op, number });
-        assert_eq!(rt; buffer.next_ready(&have), next, "at {have:?}");
-    }
     Ok(())
 }

@@ -2,11 +2,12 @@ use Rattle.std.proofs.Common.{◌≡◌, ◌∙◌, ℕ, List, length, sym, ap, 
 use Rattle.std.specs.Prelude.{IfSome}
 use Rattle.td_base.specs.Value.{DotValue}
 use Rattle.td_clock.specs.Vector.{vector_bump}
+use Rattle.td_doc.specs.Document.{DocRow}
 use Rattle.td_op.specs.Op.{OpValue}
 use Rattle.td_machine.specs.Counts.{IsNext}
 use Rattle.td_history.specs.Past.{Past, IsNextIn, IsUndecided, decided_by}
-use Rattle.td_replica.specs.Parts.{StateValue, IsState, logged}
-use Rattle.td_replica.proofs.Noting.{next_in, noted}
+use Rattle.td_replica.specs.Parts.{StateValue, IsState, logged, machine_of, with_note}
+use Rattle.td_replica.proofs.Noting.{next_in, noted, note_machine}
 use Rattle.td_replica.proofs.state.State.note.Goals as goal
 
 pub log-requires-clause-next : goal.log-requires-clause-next
@@ -49,3 +50,18 @@ invariant_of-self g c =
     (sym (c.bump-2.ensures ∙ ap (λ (k : ℕ). vector_bump have k) site))
     (noted c.self.inside.site have c.self.inside.waiting c.self.inside.holds c.end_hold.new.holds c.self.inside.tally
     c.self.inside.past c.args.origin x c.self.invariant next decides c.end_hold.ensures.commits))
+
+pub returns-clause-machine : goal.returns-clause-machine
+returns-clause-machine g c =
+    let x : OpValue = c.args.op.now in
+    let s = c.self.inside in
+    let past : Past = logged c.args.origin x s.past in
+    let rows : List DocRow = g.D.Doc.rows s.doc in
+    let site : c.bump.inside.site ≡ x.dot.site =
+    ap (λ (d : DotValue). d.site) c.bump.view_is ∙ ap (λ (d : DotValue). d.site) c.dot.ensures.dot in
+    ap (λ (p : Past). machine_of s.site rows c.bump-2.new.self s.waiting c.end_hold.new.holds s.tally p) c.log.ensures
+    ∙ ap (λ (v : List ℕ). machine_of s.site rows v s.waiting c.end_hold.new.holds s.tally past)
+    (c.bump-2.ensures ∙ ap (λ (k : ℕ). vector_bump s.have k) site)
+    ∙ note_machine s.site s.have s.waiting s.holds s.tally s.past c.self.invariant rows c.args.origin x
+    c.end_hold.new.holds c.end_hold.ensures.holds
+    ∙ ap (λ (v : StateValue). with_note c.args.origin x v.machine) c.self.view_is

@@ -8,6 +8,7 @@ use Rattle.td_seat.proofs.seat.Seat.resume.Goals as goal
 pub invariant_of-self-2 : goal.invariant_of-self-2
 invariant_of-self-2 g c =
     let r = c.self.inside.replica in
+    let o = c.self.inside.outlines in
     let w = c.self.inside.waiting in
     let q = c.step_of.new.replica in
     let x = c.args.op.now in
@@ -17,6 +18,6 @@ invariant_of-self-2 g c =
     λ e. c.requires.apart (e ∙ ap (λ (m : Machine). m.site) c.self.view_is) in
     let bare : q.machine.waiting ≡ [] =
     ap (λ (s : ReplicaValue). s.machine.waiting) c.in_ok-reply.ensures.ok
-    ∙ up_bare r.machine w x c.self.invariant.bare outlined sized apart in
-    subst (λ ws. IsSeat q ws) (sym c.remove.ensures.others)
-    (up_seat r q w c.dot.result c.self.invariant bare c.step_of.ensures.size)
+    ∙ up_bare r.machine o w c.self.invariant.stored x c.self.invariant.bare outlined sized apart in
+    subst (λ ws. IsSeat q o ws) (sym c.remove.ensures)
+    (up_seat r q o w c.dot.result c.self.invariant bare c.step_of.ensures.size)
