@@ -1,16 +1,20 @@
--- The rows on a side of a row stand right beside it, so all is known of them where the nearest unknown row before it,
--- or behind it, is not among them.
+-- The rows on a side of a row stand right beside it: so many are next to it, and all is known of them where the nearest
+-- unknown row before it, or behind it, is not among them.
 use Rattle.std.proofs.Common.{◌≡◌, ◌⊎◌, ℕ, List, [], ◌∷◌, ◌++◌, Bool, true, false, not, Option, Some, None, refl}
-use Rattle.std.proofs.Common.{sym, ap, ◌∙◌, subst, inl, inr, ⊎_elim, true≢false, append_assoc}
-use Rattle.std.specs.Prelude.{is_some}
+use Rattle.std.proofs.Common.{sym, ap, ◌∙◌, subst, inl, inr, ⊎_elim, true≢false, append_assoc, filter, length, take}
+use Rattle.std.proofs.lemmas.List.{append-nil, length-reverse, reverse-reverse}
+use Rattle.std.proofs.lemmas.List.Elements.{filter-append}
+use Rattle.std.specs.Prelude.{is_some, reverse}
 use Rattle.std.specs.Option.{option_map}
 use Rattle.td_base.specs.declared.bit.Bit.{Bit}
 use Rattle.td_base.specs.declared.bit.Bit.TheVariants.{Left, Right}
 use Rattle.td_base.specs.Lists.{In, Successive}
 use Rattle.td_base.specs.Value.{AtomIdValue}
 use Rattle.td_base.proofs.Lists.{In-append, In-front, In-back, In-filter, filter_In}
-use Rattle.td_base.proofs.Lists.{across, successive_front, successive_back}
-use Rattle.td_base.proofs.Searches.{all_pass, each_passes}
+use Rattle.td_base.proofs.Lists.{across, successive_front, successive_back, successive_imp}
+use Rattle.td_base.proofs.Elements.{successive_among}
+use Rattle.td_base.proofs.Reversed.{filter_reverse}
+use Rattle.td_base.proofs.Searches.{all_pass, each_passes, filter_none, In-take}
 use Rattle.td_path.specs.Infix.{Pairs, path_cmp}
 use Rattle.td_path.specs.SlotPaths.{goes_on, slot_contains}
 use Rattle.td_path.specs.declared.slot.Slot.{Slot}
@@ -21,15 +25,17 @@ use Rattle.td_path.proofs.InfixOrder.{left_before, right_after, between_left, be
 use Rattle.td_doc.specs.Document.{DocRow, row_id, find_row, IsDocument}
 use Rattle.td_doc.specs.Slots.{rows_below, rows_in_slot, is_within, is_known, is_known_row}
 use Rattle.td_doc.proofs.Flattened.{not_in_own_slots}
-use Rattle.td_doc.proofs.PutRows.{Before, not_both_before}
+use Rattle.td_doc.proofs.PutRows.{Before, Differ, not_both_before}
 use Rattle.td_doc.proofs.SubtreeRows.{within_is, find_in}
-use Rattle.td_idle.specs.Walk.{is_one_within}
+use Rattle.td_idle.specs.Best.{row_count}
+use Rattle.td_idle.specs.Walk.{is_one_within, along}
+use Rattle.td_idle.proofs.Lists.{first_pass, from_turned, in_turned, successive_turned, turned_back, turned_round}
 
 abbrev pub AllKnown : List ℕ → List DocRow → Type 0
 AllKnown v xs = (q : DocRow) → In q xs → is_known_row v q ≡ true
 
 -- the last unknown row of these, or none is unknown
-abbrev pub LastUnknown : List ℕ → List DocRow → Option AtomIdValue → Type 0
+abbrev LastUnknown : List ℕ → List DocRow → Option AtomIdValue → Type 0
 LastUnknown v xs None = AllKnown v xs
 LastUnknown v xs (Some x) =
     (front : List DocRow) × (u : DocRow) × (back : List DocRow) × (xs ≡ front ++ u ∷ back) × (row_id u ≡ x)
@@ -122,6 +128,78 @@ module _ (v : List ℕ) (rows : List DocRow) (d : IsDocument rows) (front : List
       let g = goes_on_parts r.path Right q.path h in
       between_right r.path u.path g.id g.rest first (subst (λ (p : Pairs). path_cmp u.path p ≡ Less) g.is second)
 
+  -- ---- so many are next to it
+
+  abbrev on : Bit → DocRow → Bool
+  on bit q = goes_on r.path bit q.path
+
+  not_on : (bit : Bit) (q : DocRow) → (On bit q → ⊥) → on bit q ≡ false
+  not_on bit q none = at (on bit q) refl
+    where
+      at : (b : Bool) → on bit q ≡ b → b ≡ false
+      at false e = refl
+      at true e = absurd (none e)
+
+  not_here : (bit : Bit) (q : DocRow) → q ≡ r → On bit q → ⊥
+  not_here bit q e h = not_in_own_slots r.path bit (subst (λ (z : DocRow). On bit z) e h)
+
+  behind_split : rows ≡ (front ++ r ∷ []) ++ back
+  behind_split = is ∙ sym (append_assoc front (r ∷ []) back)
+
+  right_rows : filter (on Right) rows ≡ filter (on Right) back
+  right_rows =
+      ap (filter (on Right)) behind_split
+      ∙ (filter-append (on Right) (front ++ r ∷ []) back
+      ∙ ap (λ (xs : List DocRow). xs ++ filter (on Right) back)
+      (filter_none (on Right) (front ++ r ∷ []) (λ q i. not_on Right q (none q i))))
+    where
+      none : (q : DocRow) → In q (front ++ r ∷ []) → On Right q → ⊥
+      none q i h =
+          ⊎_elim (λ (j : In q front). not_both_before r.path q.path (right_stands_behind q h) (before_here q j))
+          (λ (j : In q (r ∷ [])). ⊎_elim (λ (e : q ≡ r). not_here Right q e h) (λ (k : ⊥). k) j)
+          (In-append q front (r ∷ []) i)
+
+  left_rows : filter (on Left) rows ≡ filter (on Left) front
+  left_rows =
+      ap (filter (on Left)) is
+      ∙ (filter-append (on Left) front (r ∷ back)
+      ∙ (ap (λ (xs : List DocRow). filter (on Left) front ++ xs)
+      (filter_none (on Left) (r ∷ back) (λ q i. not_on Left q (none q i)))
+      ∙ append-nil (filter (on Left) front)))
+    where
+      none : (q : DocRow) → In q (r ∷ back) → On Left q → ⊥
+      none q (inl e) h = not_here Left q e h
+      none q (inr j) h = not_both_before q.path r.path (left_stands_before q h) (behind_here q j)
+
+  right_next : (q : DocRow) → In q (take (row_count rows (At (row_id r) Right)) back)
+      → is_within rows (row_id q) (At (row_id r) Right) ≡ true
+  right_next q i =
+      let many : row_count rows (At (row_id r) Right) ≡ length (filter (on Right) back) =
+      ap length (side_at Right) ∙ ap length right_rows in
+      let rises : Successive Before back =
+      successive_back Before (front ++ r ∷ []) back (subst (Successive Before) behind_split d.ascending) in
+      let first : Successive (λ (y z : DocRow). on Right z ≡ true → on Right y ≡ true) back =
+      successive_among Before (λ (y z : DocRow). on Right z ≡ true → on Right y ≡ true) back
+      (λ y z j k b h. right_between z y h (behind_here y j) b) rises in
+      within_side Right q (in_back q (In-take q (row_count rows (At (row_id r) Right)) back i))
+      ∙ first_pass (on Right) back first q (subst (λ (n : ℕ). In q (take n back)) many i)
+
+  left_next : (q : DocRow) → In q (take (row_count rows (At (row_id r) Left)) (reverse front))
+      → is_within rows (row_id q) (At (row_id r) Left) ≡ true
+  left_next q i =
+      let many : row_count rows (At (row_id r) Left) ≡ length (filter (on Left) (reverse front)) =
+      ap length (side_at Left)
+      ∙ (ap length left_rows
+      ∙ sym (ap length (filter_reverse (on Left) front) ∙ length-reverse (filter (on Left) front))) in
+      let last : Successive (λ (y z : DocRow). on Left y ≡ true → on Left z ≡ true) front =
+      successive_among Before (λ (y z : DocRow). on Left y ≡ true → on Left z ≡ true) front
+      (λ y z j k b h. left_between y z h b (before_here z k)) (successive_front Before front (r ∷ back) ascends) in
+      within_side Left q
+      (in_front q (from_turned q front (In-take q (row_count rows (At (row_id r) Left)) (reverse front) i)))
+      ∙ first_pass (on Left) (reverse front)
+      (successive_turned (λ (y z : DocRow). on Left y ≡ true → on Left z ≡ true) front last) q
+      (subst (λ (n : ℕ). In q (take n (reverse front))) many i)
+
   -- ---- the nearest unknown row
 
   outside : (bit : Bit) (u : DocRow) (x : AtomIdValue) → In u rows → row_id u ≡ x
@@ -212,7 +290,7 @@ module _ (v : List ℕ) (rows : List DocRow) (d : IsDocument rows) (front : List
       at true e = sym (one e)
       at false e = sym (none e)
 
-  pub left_beside : (before : Option AtomIdValue) → LastUnknown v front before
+  left_beside : (before : Option AtomIdValue) → LastUnknown v front before
       → not (is_one_within rows before (At (row_id r) Left)) ≡ is_known rows (At (row_id r) Left) v
   left_beside before h =
       by_neighbour (At (row_id r) Left) before (λ out. side_known Left (left_known before h out)) (one before h)
@@ -225,7 +303,7 @@ module _ (v : List ℕ) (rows : List DocRow) (d : IsDocument rows) (front : List
           (in_front h.1 (subst (λ (xs : List DocRow). In h.1 xs) (sym h.3) (In-back h.1 h.0 (h.1 ∷ h.2) (inl refl))))
           h.4 h.6 e
 
-  pub right_beside : (behind : Option AtomIdValue) → FirstUnknown v back behind
+  right_beside : (behind : Option AtomIdValue) → FirstUnknown v back behind
       → not (is_one_within rows behind (At (row_id r) Right)) ≡ is_known rows (At (row_id r) Right) v
   right_beside behind h =
       by_neighbour (At (row_id r) Right) behind (λ out. side_known Right (right_known behind h out)) (one behind h)
@@ -237,3 +315,50 @@ module _ (v : List ℕ) (rows : List DocRow) (d : IsDocument rows) (front : List
           side_unknown Right h.1 x
           (in_back h.1 (subst (λ (xs : List DocRow). In h.1 xs) (sym h.3) (In-back h.1 h.0 (h.1 ∷ h.2) (inl refl))))
           h.4 h.6 e
+
+-- ---- along the rows, those on the side of a row come right behind it
+
+-- the last unknown row is the first of the rows turned
+last_of : (v : List ℕ) (xs : List DocRow) (o : Option AtomIdValue) → FirstUnknown v xs o
+    → LastUnknown v (reverse xs) o
+last_of v xs None h = λ q i. h q (from_turned q xs i)
+last_of v xs (Some x) h = (
+  reverse h.2,
+  h.1,
+  reverse h.0,
+  ap reverse h.3 ∙ turned_round h.0 h.1 h.2,
+  h.4,
+  (λ q i. h.5 q (from_turned q h.0 i)),
+  h.6,
+)
+
+-- the row, and those behind it
+pub record IsAhead (v : List ℕ) (rows : List DocRow) (bit : Bit) (r : DocRow) (back : List DocRow) : Type 0 where
+  pub beside : (next : Option AtomIdValue) → FirstUnknown v back next
+      → not (is_one_within rows next (At (row_id r) bit)) ≡ is_known rows (At (row_id r) bit) v
+  pub next : (q : DocRow) → In q (take (row_count rows (At (row_id r) bit)) back)
+      → is_within rows (row_id q) (At (row_id r) bit) ≡ true
+
+pub ahead : (v : List ℕ) (rows : List DocRow) → IsDocument rows → (bit : Bit) (front : List DocRow) (r : DocRow)
+    (back : List DocRow) → along bit rows ≡ front ++ r ∷ back → IsAhead v rows bit r back
+ahead v rows d Right front r back is =
+    record { beside = right_beside v rows d front r back is; next = right_next v rows d front r back is }
+ahead v rows d Left front r back is =
+    let turned : rows ≡ reverse back ++ r ∷ reverse front = turned_back rows front r back is in
+    record {
+      beside = λ next h. left_beside v rows d (reverse back) r (reverse front) turned next (last_of v back next h);
+      next = λ q i.
+          left_next v rows d (reverse back) r (reverse front) turned q
+          (subst (λ (z : List DocRow). In q (take (row_count rows (At (row_id r) Left)) z))
+          (sym (reverse-reverse back)) i);
+    }
+
+pub in_along : (bit : Bit) (rows : List DocRow) (r : DocRow) → In r rows → In r (along bit rows)
+in_along Left rows r i = in_turned r rows i
+in_along Right rows r i = i
+
+pub apart_along : (bit : Bit) (rows : List DocRow) → Successive Differ rows → Successive Differ (along bit rows)
+apart_along Right rows s = s
+apart_along Left rows s =
+    successive_imp (λ (x y : DocRow). Differ y x) Differ (λ x y h e. h (sym e)) (reverse rows)
+    (successive_turned Differ rows s)

@@ -1,12 +1,11 @@
 -- The best candidate is the one that is left of all own slots, the better kept each time.
-use Rattle.std.proofs.Common.{◌≡◌, ◌∙◌, true≢false, ℕ, List, [], ◌∷◌, true, false, Option, Some, None, fold, filter}
+use Rattle.std.proofs.Common.{◌≡◌, ◌∙◌, true≢false, ℕ, List, [], true, false, Option, Some, None, fold, filter}
 use Rattle.std.proofs.Common.{map, refl, sym, ap, subst}
 use Rattle.std.specs.Option.{option_map}
-use Rattle.std.specs.Prelude.{IfSome, IsNone}
 use Rattle.td_base.specs.Lists.{In}
 use Rattle.td_base.proofs.Lists.{In-filter, In-map, filter_In}
 use Rattle.td_path.specs.declared.slot.Slot.{Slot}
-use Rattle.td_doc.specs.Document.{DocRow, IsDocument}
+use Rattle.td_doc.specs.Document.{IsDocument}
 use Rattle.td_doc.specs.Slots.{own_slot}
 use Rattle.td_machine.specs.Machine.{Machine}
 use Rattle.td_idle.specs.declared.idle.Counted.{Counted}
@@ -44,15 +43,6 @@ module _ (m : Machine) (d : IsDocument m.doc) where
 
   pub some_best : (slot : Slot) (rows : ℕ) → IsBest m slot rows → Some slot ≡ best_slot m
   some_best slot rows b = at_best slot b.candidate b.best left left_best
-
-  chosen : (o : Option Counted) → IsBestOf m.doc candidates o
-      → IfSome (option_map (λ (b : Counted). b.slot) o) (λ (slot : Slot). is_candidate m slot ≡ true)
-  chosen None is = tt
-  chosen (Some b) is = (In-filter (is_candidate m) b.slot (map own_slot m.doc) is.0).1
-
-  -- it is one of them
-  pub best_is_candidate : IfSome (best_slot m) (λ (slot : Slot). is_candidate m slot ≡ true)
-  best_is_candidate = chosen left left_best
 
   none_at : ((t : Slot) → is_candidate m t ≡ false) → (o : Option Counted) → IsBestOf m.doc candidates o
       → None ≡ option_map (λ (b : Counted). b.slot) o

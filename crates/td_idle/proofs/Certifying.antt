@@ -1,6 +1,6 @@
 -- The largest candidates, and the best of them, are a certificate.
 use Rattle.std.proofs.Common.{◌≡◌, ◌⊎◌, ℕ, List, [], ◌∷◌, Bool, true, false, ◌&&◌, ◌||◌, nat_eq, not, length, Option}
-use Rattle.std.proofs.Common.{Some, None, refl, sym, ap, ◌∙◌, subst, inl, inr, ⊎_elim, true≢false}
+use Rattle.std.proofs.Common.{Some, None, map, refl, sym, ap, ◌∙◌, subst, inl, inr, ⊎_elim, true≢false}
 use Rattle.std.proofs.lemmas.Bool.{and_from, or_left, or_right, eq-eqb}
 use Rattle.std.specs.List.{list_all, list_any}
 use Rattle.td_base.specs.Lists.{In}
@@ -23,7 +23,7 @@ use Rattle.td_idle.specs.Unknown.{is_known_id, unknown_ids}
 use Rattle.td_idle.specs.Candidate.{is_held_over, is_candidate}
 use Rattle.td_idle.specs.Best.{row_count, is_better}
 use Rattle.td_idle.specs.Certificate.{is_unknown_in, is_covered, is_top, is_certified}
-use Rattle.td_idle.specs.Walk.{HasTop, AreTops}
+use Rattle.td_idle.specs.Walk.{HasTop, AreTops, IsListed}
 use Rattle.td_idle.specs.Kept.{IsBestOf}
 use Rattle.td_idle.proofs.Better.{not_better, better_irrefl}
 use Rattle.td_idle.proofs.Inside.{not_empty, rows_within}
@@ -118,20 +118,24 @@ pub record Reasons (m : Machine) (tops : List Slot) (unknown : List AtomIdValue)
 
 -- as they tell it of what they were lent
 pub reasons : (m : Machine) → IsDocument m.doc → (v : List ℕ) → v ≡ stable m
-    → (rows : List DocRow) → rows ≡ m.doc → (unknown : List AtomIdValue)
-    → (IsDocument rows → unknown ≡ unknown_ids v rows)
-    → (ids : List AtomIdValue) → ids ≡ unknown → (tops : List Slot)
-    → (ids ≡ unknown_ids (stable m) m.doc → AreTops m tops)
-    → (again : List DocRow) → again ≡ m.doc → (slots : List Slot) → slots ≡ tops
-    → (b : Option Counted) → IsBestOf again slots b → Reasons m tops unknown b
-reasons m d v stable_is rows rows_are unknown found ids lent tops are again again_are slots slots_are b best =
-    let is : unknown ≡ unknown_ids (stable m) m.doc =
-    found (subst IsDocument (sym rows_are) d) ∙ (λ i. unknown_ids (stable_is i) (rows_are i)) in
+    → (rows : List DocRow) → rows ≡ m.doc → (ids : List AtomIdValue) → (IsDocument rows → ids ≡ map row_id rows)
+    → (again : List DocRow) → again ≡ m.doc → (lent : List AtomIdValue) → lent ≡ ids → (unknown : List AtomIdValue)
+    → (IsDocument again → lent ≡ map row_id again → unknown ≡ unknown_ids v again)
+    → (left : List AtomIdValue) → left ≡ unknown
+    → (tops : List Slot) → (IsListed (stable m) m.doc ids unknown → AreTops m tops)
+    → (last : List DocRow) → last ≡ m.doc → (slots : List Slot) → slots ≡ tops
+    → (b : Option Counted) → IsBestOf last slots b → Reasons m tops left b
+reasons m d v stable_is rows rows_are ids listed again again_are lent lent_is unknown found left left_is tops are last
+    last_is slots slots_are b best =
+    let all : ids ≡ map row_id m.doc = listed (subst IsDocument (sym rows_are) d) ∙ ap (map row_id) rows_are in
+    let some : unknown ≡ unknown_ids (stable m) m.doc =
+    found (subst IsDocument (sym again_are) d) (lent_is ∙ (all ∙ ap (map row_id) (sym again_are)))
+    ∙ (λ i. unknown_ids (stable_is i) (again_are i)) in
     record {
-      is = is;
-      are = are (lent ∙ is);
-      best = subst (λ (q : List DocRow). IsBestOf q tops b) again_are
-          (subst (λ (ts : List Slot). IsBestOf again ts b) slots_are best);
+      is = left_is ∙ some;
+      are = are (record { all = all; some = some });
+      best = subst (λ (q : List DocRow). IsBestOf q tops b) last_is
+          (subst (λ (ts : List Slot). IsBestOf last ts b) slots_are best);
     }
 
 module _ (m : Machine) (d : IsDocument m.doc) (root : is_candidate m Root ≡ false) where

@@ -1,7 +1,7 @@
 -- The better of two slots, and so the best of many.
-use Rattle.std.proofs.Common.{◌≡◌, ◌<◌, ◌+◌, ℕ, zero, suc, get_or, List, [], ◌∷◌, ◌++◌, Bool, true, false}
-use Rattle.std.proofs.Common.{if◌then◌else◌, take, length, Option, Some, None, refl, sym, ap, ◌∙◌, subst}
-use Rattle.std.proofs.Common.{inl, inr, ⊎_elim, true≢false, add-one, arith}
+use Rattle.std.proofs.Common.{◌≡◌, List, [], ◌∷◌, ◌++◌, Bool, true, false}
+use Rattle.std.proofs.Common.{if◌then◌else◌, Option, Some, None, refl, sym, ◌∙◌, subst}
+use Rattle.std.proofs.Common.{inl, inr, ⊎_elim, true≢false}
 use Rattle.std.proofs.Common.{append_assoc, fold}
 use Rattle.std.proofs.lemmas.List.{append-nil}
 use Rattle.td_base.specs.Lists.{In}
@@ -66,15 +66,6 @@ module _ (rows : List DocRow) where
   best_next slots front s old new is h k =
       subst (λ (z : List Slot). IsBestOf rows z new) (sym is)
       (subst (λ (o : Option Counted). IsBestOf rows (front ++ s ∷ []) o) (sym k) (kept_at front s old h))
-
-pub take_more : (k : ℕ) (xs : List Slot) (x : Slot) → k < length xs → x ≡ get_or xs k x → take (k + 1) xs ≡ take k xs
-    ++ x ∷ []
-take_more k xs x h e = ap (λ (n : ℕ). take n xs) (add-one k) ∙ more k xs h e
-  where
-    more : (k : ℕ) (xs : List Slot) → k < length xs → x ≡ get_or xs k x → take (suc k) xs ≡ take k xs ++ x ∷ []
-    more k [] h e = absurd (omega arith)
-    more zero (y ∷ xs) h e = λ i. sym e i ∷ []
-    more (suc k) (y ∷ xs) h e = ap (λ (z : List Slot). y ∷ z) (more k xs (omega arith) e)
 
 -- ---- all of them
 

@@ -11,7 +11,6 @@ mod UnknownRows
 mod Better
 mod Maximum
 mod Certifying
-mod Tops
 mod Walked
 mod Chosen
 mod BestSlot

@@ -1,25 +1,29 @@
--- The unknown rows of a document, those of a front and the nearest ones.
-use Rattle.std.proofs.Common.{◌≡◌, ◌+◌, ℕ, List, [], ◌∷◌, ◌++◌, Bool, true, false, ◌&&◌, not}
+-- The unknown rows of a document, those of a front and the nearest one.
+use Rattle.std.proofs.Common.{◌≡◌, ◌<◌, ◌+◌, ℕ, List, [], ◌∷◌, ◌++◌, Bool, true, false, ◌&&◌, not, get_or}
 use Rattle.std.proofs.Common.{if◌then◌else◌, map, filter, length, take, Option, Some, None, refl}
-use Rattle.std.proofs.Common.{sym, ap, ◌∙◌, subst, inl, inr, ⊎_elim, append_assoc}
+use Rattle.std.proofs.Common.{sym, ap, ◌∙◌, subst, inl, inr}
+use Rattle.std.proofs.lemmas.List.{map-append}
+use Rattle.std.proofs.lemmas.List.Elements.{filter-append}
 use Rattle.std.proofs.lemmas.Option.{none-some, same_Some}
-use Rattle.std.specs.Prelude.{slice_get}
+use Rattle.std.specs.Prelude.{reverse, slice_get}
 use Rattle.std.specs.List.{list_all}
 use Rattle.std.specs.Option.{option_map, option_and_then}
-use Rattle.td_base.specs.Lists.{In}
 use Rattle.td_base.specs.Value.{DotValue, AtomIdValue}
 use Rattle.td_base.proofs.Elements.{some_of}
-use Rattle.td_base.proofs.Lists.{In-append}
+use Rattle.td_base.proofs.Reversed.{filter_reverse, map-reverse}
+use Rattle.td_base.proofs.Searches.{filter_mapped, same_kept}
 use Rattle.td_clock.specs.Vector.{vector_has}
 use Rattle.td_doc.specs.Answers.{IsRow, row_told, live_before}
 use Rattle.td_doc.specs.declared.doc.Row.{Row}
 use Rattle.td_doc.specs.Deletion.{delete_at}
-use Rattle.td_doc.specs.Document.{DocRow, row_id, find_row}
+use Rattle.td_doc.specs.Document.{DocRow, row_id, find_row, IsDocument}
 use Rattle.td_doc.specs.Slots.{is_known_row, own_slot}
 use Rattle.td_doc.proofs.Rules.{found}
+use Rattle.td_doc.proofs.SubtreeRows.{find_in}
 use Rattle.td_idle.specs.Unknown.{deletes_of, is_known_id, unknown_ids}
-use Rattle.td_idle.proofs.Beside.{AllKnown, LastUnknown, FirstUnknown}
-use Rattle.td_idle.proofs.Lists.{cut}
+use Rattle.td_idle.specs.Walk.{IsListed}
+use Rattle.td_idle.proofs.Beside.{AllKnown, FirstUnknown}
+use Rattle.td_idle.proofs.Lists.{cut, take_next}
 
 -- ---- one row
 
@@ -110,26 +114,56 @@ ids_append v (x ∷ xs) ys =
     at true ih = ih
     at false ih = ap (λ (z : List AtomIdValue). row_id x ∷ z) ih
 
-pub unknown_next : (v : List ℕ) (rows : List DocRow) (k : ℕ) (x : AtomIdValue) (old new : List AtomIdValue)
-    → IsRow rows x → find_row x rows ≡ slice_get rows k
-    → old ≡ unknown_ids v (take k rows) → new ≡ old ++ (if is_known_id v rows x then [] else x ∷ []) → new
-    ≡ unknown_ids v (take (k + 1) rows)
-unknown_next v rows k x old new row place is step =
-    let s = some_of (find_row x rows) row in
-    let r : DocRow = s.0 in
-    step
-    ∙ ((λ i. is i ++ one r s.1 i)
-    ∙ (sym (ids_append v (take k rows) (r ∷ [])) ∙ ap (unknown_ids v) (sym (cut rows k r (sym place ∙ s.1)).front)))
+-- the identities of which something is not known are those of the unknown rows
+pub unknown_is : (v : List ℕ) (rows : List DocRow) → IsDocument rows → (ids : List AtomIdValue) → ids ≡ map row_id rows
+    → filter (λ (x : AtomIdValue). not (is_known_id v rows x)) ids ≡ unknown_ids v rows
+unknown_is v rows d ids is =
+    ap (filter unknown) is
+    ∙ (filter_mapped row_id unknown rows
+    ∙ same_kept row_id row_id (λ (r : DocRow). unknown (row_id r)) (λ (r : DocRow). not (is_known_row v r)) rows
+    (λ r i. refl)
+    (λ r i. ap not (known_is v rows (row_id r) r (find_in rows r d.apart i))))
   where
-    by : (b : Bool) (r : DocRow) → is_known_row v r ≡ b → row_id r ≡ x → (if b then [] else x ∷ [])
-        ≡ unknown_ids v (r ∷ [])
-    by true r e n = sym (ids_known v r [] e)
-    by false r e n = sym (ids_unknown v r [] e ∙ ap (λ (y : AtomIdValue). y ∷ []) n)
+    unknown : AtomIdValue → Bool
+    unknown x = not (is_known_id v rows x)
 
-    one : (r : DocRow) → find_row x rows ≡ Some r → (if is_known_id v rows x then [] else x ∷ [])
-        ≡ unknown_ids v (r ∷ [])
-    one r e = ap (λ (b : Bool). if b then [] else x ∷ []) (known_is v rows x r e)
-        ∙ by (is_known_row v r) r refl (found x r rows e).1
+pub unknown_next : (test : AtomIdValue → Bool) (ids : List AtomIdValue) (k : ℕ) (x : AtomIdValue)
+    (old new : List AtomIdValue) → k < length ids → x ≡ get_or ids k x
+    → old ≡ filter (λ (y : AtomIdValue). not (test y)) (take k ids) → new ≡ old ++ (if test x then [] else x ∷ [])
+    → new ≡ filter (λ (y : AtomIdValue). not (test y)) (take (k + 1) ids)
+unknown_next test ids k x old new l e is step =
+    step
+    ∙ ((λ i. is i ++ one (test x) i)
+    ∙ sym (ap (filter (λ (y : AtomIdValue). not (test y))) (take_next k ids x l e)
+    ∙ filter-append (λ (y : AtomIdValue). not (test y)) (take k ids) (x ∷ [])))
+  where
+    one : (b : Bool) → (if b then [] else x ∷ []) ≡ (if not b then x ∷ [] else [])
+    one true = refl
+    one false = refl
+
+-- ---- the rows so far
+
+pub ids_next : (rows : List DocRow) (k : ℕ) (x : AtomIdValue) (old new : List AtomIdValue) → IsRow rows x
+    → find_row x rows ≡ slice_get rows k → old ≡ map row_id (take k rows) → new ≡ old ++ x ∷ []
+    → new ≡ map row_id (take (k + 1) rows)
+ids_next rows k x old new row place is step =
+    let s = some_of (find_row x rows) row in
+    let named : row_id s.0 ≡ x = (found x s.0 rows s.1).1 in
+    step
+    ∙ ((λ i. is i ++ sym named i ∷ [])
+    ∙ sym (ap (map row_id) (cut rows k s.0 (sym place ∙ s.1)).front ∙ map-append row_id (take k rows) (s.0 ∷ [])))
+
+-- ---- turned
+
+pub listed_turned : (v : List ℕ) (rows : List DocRow) (ids unknown : List AtomIdValue) → IsListed v rows ids unknown
+    → IsListed v (reverse rows) (reverse ids) (reverse unknown)
+listed_turned v rows ids unknown l =
+    record {
+      all = ap reverse l.all ∙ sym (map-reverse row_id rows);
+      some = ap reverse l.some
+          ∙ sym (ap (map row_id) (filter_reverse (λ (r : DocRow). not (is_known_row v r)) rows)
+          ∙ map-reverse row_id (filter (λ (r : DocRow). not (is_known_row v r)) rows));
+    }
 
 -- ---- the nearest
 
@@ -154,32 +188,3 @@ first_of v (x ∷ xs) = at (is_known_row v x) refl (first_of v xs)
         more : (o : Option AtomIdValue) → FirstUnknown v xs o → FirstUnknown v (x ∷ xs) o
         more None h = known xs h
         more (Some y) h = (x ∷ h.0, h.1, h.2, ap (λ (z : List DocRow). x ∷ z) h.3, h.4, known h.0 h.5, h.6)
-
--- the last of them, where one more row comes
-pub last_known : (v : List ℕ) (xs : List DocRow) (r : DocRow) (o : Option AtomIdValue) → LastUnknown v xs o
-    → is_known_row v r ≡ true → LastUnknown v (xs ++ r ∷ []) o
-last_known v xs r o h e = at o h
-  where
-    known : (ys : List DocRow) → AllKnown v ys → AllKnown v (ys ++ r ∷ [])
-    known ys h q i = ⊎_elim (λ (j : In q ys). h q j) (λ (j : In q (r ∷ [])). one j) (In-append q ys (r ∷ []) i)
-      where
-        one : In q (r ∷ []) → is_known_row v q ≡ true
-        one (inl j) = ap (is_known_row v) j ∙ e
-        one (inr j) = absurd j
-
-    at : (o : Option AtomIdValue) → LastUnknown v xs o → LastUnknown v (xs ++ r ∷ []) o
-    at None h = known xs h
-    at (Some y) h = (
-      h.0,
-      h.1,
-      h.2 ++ r ∷ [],
-      ap (λ (z : List DocRow). z ++ r ∷ []) h.3
-          ∙ append_assoc h.0 (h.1 ∷ h.2) (r ∷ []),
-      h.4,
-      known h.2 h.5,
-      h.6,
-    )
-
-pub last_unknown : (v : List ℕ) (xs : List DocRow) (r : DocRow) → is_known_row v r ≡ false
-    → LastUnknown v (xs ++ r ∷ []) (Some (row_id r))
-last_unknown v xs r e = (xs, r, [], refl, refl, (λ q i. absurd i), e)

@@ -10,7 +10,7 @@ ghost use Rattle.td_idle.specs.Kept.{IsBestOf};
 use crate::candidate::is_candidate;
 use crate::stability::stable;
 use crate::top::tops;
-use crate::unknown::unknown_rows;
+use crate::unknown::{row_ids, unknown_rows};
 use std::alloc::Global;
 use td_base::{AtomId, Memory};
 use td_doc::Doc;
@@ -39,8 +39,9 @@ pub fn best<D: Doc>(alloc: Global, replica: &Replica<D>) -> Result<Option<Idle>,
     if is_candidate(replica, &v, &Slot::Root) {
         return Ok(Some(whole(alloc, replica)?));
     }
-    let unknown = unknown_rows(alloc, replica.doc(), &v)?;
-    let tops = tops(alloc, replica, &unknown)?;
+    let mut ids = row_ids(alloc, replica.doc())?;
+    let mut unknown = unknown_rows(alloc, replica.doc(), &ids, &v)?;
+    let tops = tops(alloc, replica, &mut ids, &mut unknown)?;
     match best_of(replica.doc(), &tops) {
         Some(best) => Ok(Some(Idle {
             slot: best.slot,

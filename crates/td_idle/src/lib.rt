@@ -2,9 +2,9 @@
 //!
 //! Begin at `specs/Stable.antt`, which says what every site is known to have, at `specs/Candidate.antt` and
 //! `specs/Best.antt`, and at `idle`, whose `best` finds the best candidate and `check` looks at the reason for it. The
-//! way is one pass over the rows for those to which something was done that is not stable (`unknown`), and one for the
-//! largest candidates (`top`). The laws say what a candidate is worth: who does not know all of it makes no edit in it
-//! any more.
+//! way is one pass over the rows for those to which something was done that is not stable (`unknown`), and two for the
+//! largest candidates, those on the left of a row and those on the right of one (`top`). The laws say what a candidate
+//! is worth: who does not know all of it makes no edit in it any more.
 #![tactic(auto)]
 
 mod candidate;

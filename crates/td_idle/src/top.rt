@@ -1,85 +1,101 @@
 // The largest candidates.
-ghost use Rattle.std.specs.Prelude.{◌≡◌, IfOk, IsTrue, OnOk};
-ghost use Rattle.td_base.specs.declared.bit.Bit.{Bit as BitValue};
+ghost use Rattle.std.specs.Prelude.{◌≡◌, ◌++◌, [], ◌∷◌, IfOk, OnOk, if◌then◌else◌};
 ghost use Rattle.td_path.specs.declared.slot.Slot.TheVariants.{At};
 ghost use Rattle.td_idle.specs.Stable.{stable};
-ghost use Rattle.td_idle.specs.Unknown.{unknown_ids};
-ghost use Rattle.td_idle.specs.Walk.{is_one_within, is_free_beside, HasTop, AreTops, IsLastWithin, IsDropped, IsPushed, IsAdded, IsPassed};
+ghost use Rattle.td_idle.specs.Best.{row_count};
+ghost use Rattle.td_idle.specs.Walk.{is_one_within, is_free_beside, along, IsListed};
+ghost use Rattle.td_idle.specs.Walk.{AreTops, AreTopsOn, IsPassed};
 
 use crate::candidate::is_held_over;
 use crate::walk::Walk;
 use std::alloc::Global;
 use td_base::{AtomId, Bit, Memory};
-use td_doc::{Doc, contains};
+use td_doc::Doc;
 use td_path::Slot;
 use td_replica::Replica;
 
-/// The largest candidates with an atom, in infix order; the rows given are those of which something is not stable.
+/// The largest candidates with an atom, those on the left of one first. The lists are of the rows, and of those of
+/// which something is not stable.
 pub fn tops<D: Doc>(
     alloc: Global,
     replica: &Replica<D>,
-    unknown: &[AtomId],
+    ids: &mut Vec<AtomId>,
+    unknown: &mut Vec<AtomId>,
 ) -> Result<Vec<Slot>, Memory>
-    ensures { unknown.now ≡ unknown_ids (stable replica.now.machine) replica.now.machine.doc
+    ensures unknown { OnOk result (unknown.new.items ≡ unknown.old.items) }
+    ensures tops { IsListed (stable replica.now.machine) replica.now.machine.doc ids.old.items unknown.old.items
         → IfOk result (λ tops. AreTops replica.now.machine tops.items) }
+{
+    ids.reverse();
+    unknown.reverse();
+    let mut tops = tops_on(alloc, replica, ids, unknown, Bit::Left)?;
+    ids.reverse();
+    unknown.reverse();
+    tops.append(&mut tops_on(alloc, replica, ids, unknown, Bit::Right)?)?;
+    Ok(tops)
+}
+
+// The largest candidates on one side of an atom. The rows are listed so that those on that side of a row come right
+// behind it.
+fn tops_on<D: Doc>(
+    alloc: Global,
+    replica: &Replica<D>,
+    ids: &[AtomId],
+    unknown: &[AtomId],
+    bit: Bit,
+) -> Result<Vec<Slot>, Memory>
+    ensures { IsListed (stable replica.now.machine) (along bit replica.now.machine.doc) ids.now unknown.now
+        → IfOk result (λ tops. AreTopsOn replica.now.machine bit tops.items) }
 {
     replica.entries();
     let mut tops = Vec::new(alloc);
     let mut walk = Walk::new();
-    for _ in 0..replica.doc().rows() {
-        let Some(id) = replica.doc().after(walk.last) else {
-            break
-        };
-        pass(&mut tops, &mut walk, replica, unknown, id)?;
+    for id in ids {
+        pass(&mut tops, &mut walk, replica, unknown, *id, bit)?;
     }
     Ok(tops)
 }
 
-// Passes one row. What stands before it on its left side, and behind it on its right side, stands next to it.
+// Passes one row. What stands on its side comes next, so only the next unknown row is looked for there, and of the
+// rows in a top only their number is of interest.
 fn pass<D: Doc>(
     tops: &mut Vec<Slot>,
     walk: &mut Walk,
     replica: &Replica<D>,
     unknown: &[AtomId],
     id: AtomId,
+    bit: Bit,
 ) -> Result<(), Memory>
-    ensures { OnOk result (IsPassed replica.now.machine unknown.now id walk.old walk.new
+    ensures { OnOk result (IsPassed replica.now.machine unknown.now id bit walk.old walk.new
         tops.old.items tops.new.items) }
 {
-    let before = walk.before;
+    let inside = walk.inside;
     walk.pass(unknown, id);
-    if is_in_last(tops, replica.doc(), id) {
+    if inside > 0 {
         return Ok(());
     }
-    add_side(tops, replica, id, Bit::Left, &before)?;
-    add_side(tops, replica, id, Bit::Right, &walk.behind(unknown))
+    let side = Slot::At { atom: id, bit };
+    walk.inside = add_side(tops, replica, &walk.next(unknown), &side)?;
+    Ok(())
 }
 
-// Whether the row is in the last of the slots.
-fn is_in_last<D: Doc>(tops: &[Slot], doc: &D, id: AtomId) -> bool
-    ensures { IsTrue result → (bit : BitValue) → HasTop (D.rows doc.now) tops.now (At id bit) }
-{
-    match tops.last() {
-        Some(top) => doc.within(id, *top),
-        None => false,
-    }
-}
-
-// Adds the side of a row, if it is free; the unknown row is the nearest there.
+// Adds the side of a row, if it is free, and tells how many rows come next in it.
 fn add_side<D: Doc>(
     tops: &mut Vec<Slot>,
     replica: &Replica<D>,
-    id: AtomId,
-    bit: Bit,
     unknown: &Option<AtomId>,
-) -> Result<(), Memory>
-    ensures { OnOk result (IsAdded replica.now.machine unknown.now (At id bit) tops.old.items tops.new.items) }
+    side: &Slot,
+) -> Result<u32, Memory>
+    ensures tops { OnOk result (tops.new.items ≡ tops.old.items
+        ++ (if is_free_beside replica.now.machine unknown.now side.now then side.now ∷ [] else [])) }
+    ensures rows { IfOk result (λ rows. rows ≡ (if is_free_beside replica.now.machine unknown.now side.now
+        then row_count replica.now.machine.doc side.now else 0)) }
 {
-    let side = Slot::At { atom: id, bit };
-    if is_free(replica, unknown, &side) {
-        push_top(tops, replica.doc(), &side)
+    if is_free(replica, unknown, side) {
+        tops.push(*side)?;
+        Ok(replica.doc().count(*side))
     } else {
-        Ok(())
+        Ok(0)
     }
 }
 
@@ -97,33 +113,6 @@ fn is_one_within<D: Doc>(doc: &D, id: &Option<AtomId>, slot: &Slot) -> bool
 {
     match id {
         Some(id) => doc.within(*id, *slot),
-        None => false,
-    }
-}
-
-// Puts the slot at the end, in place of those at the end that it contains.
-fn push_top<D: Doc>(tops: &mut Vec<Slot>, doc: &D, slot: &Slot) -> Result<(), Memory>
-    ensures { OnOk result (IsPushed (D.rows doc.now) slot.now tops.old.items tops.new.items) }
-{
-    drop_within(tops, doc, slot);
-    tops.push(*slot)?;
-    Ok(())
-}
-
-// Drops the slots at the end that the slot contains.
-fn drop_within<D: Doc>(tops: &mut Vec<Slot>, doc: &D, slot: &Slot)
-    ensures { IsDropped (D.rows doc.now) slot.now tops.old.items tops.new.items }
-{
-    while is_last_within(tops, doc, slot) {
-        tops.pop();
-    }
-}
-
-fn is_last_within<D: Doc>(tops: &[Slot], doc: &D, slot: &Slot) -> bool
-    ensures { IsTrue result → IsLastWithin (D.rows doc.now) slot.now tops.now }
-{
-    match tops.last() {
-        Some(top) => contains(doc, *slot, *top),
         None => false,
     }
 }

@@ -1,8 +1,8 @@
-// Which rows have something done to them that a vector does not have.
-ghost use Rattle.std.specs.Prelude.{◌≡◌, ◌++◌, IfOk, OnOk, IfSome, if◌then◌else◌, [], ◌∷◌, length, slice_get};
+// The rows, and which of them have something done to them that a vector does not have.
+ghost use Rattle.std.specs.Prelude.{◌≡◌, ◌++◌, IfOk, OnOk, IfSome, if◌then◌else◌, [], ◌∷◌, length, map, slice_get};
 ghost use Rattle.std.specs.List.{list_all};
 ghost use Rattle.td_clock.specs.Vector.{vector_has};
-ghost use Rattle.td_doc.specs.Document.{IsDocument, find_row};
+ghost use Rattle.td_doc.specs.Document.{IsDocument, row_id, find_row};
 ghost use Rattle.td_idle.specs.Unknown.{deletes_of, is_known_id, unknown_ids};
 
 use std::alloc::Global;
@@ -10,16 +10,33 @@ use td_base::{AtomId, Memory};
 use td_clock::Vector;
 use td_doc::Doc;
 
-/// The rows to which something was done that the vector does not have, in their order.
-pub fn unknown_rows<D: Doc>(alloc: Global, doc: &D, v: &Vector) -> Result<Vec<AtomId>, Memory>
-    ensures { IsDocument (D.rows doc.now) → IfOk result (λ ids. ids.items ≡ unknown_ids v.now (D.rows doc.now)) }
+/// The rows in their order.
+pub fn row_ids<D: Doc>(alloc: Global, doc: &D) -> Result<Vec<AtomId>, Memory>
+    ensures { IsDocument (D.rows doc.now) → IfOk result (λ ids. ids.items ≡ map row_id (D.rows doc.now)) }
 {
-    let mut unknown = Vec::new(alloc);
+    let mut ids = Vec::new(alloc);
     let mut last = None;
     for _ in 0..doc.rows() {
         let Some(id) = doc.after(last) else { break };
-        push_unknown(&mut unknown, doc, id, v)?;
+        ids.push(id)?;
         last = Some(id);
+    }
+    Ok(ids)
+}
+
+/// Those of the rows to which something was done that the vector does not have, in their order.
+pub fn unknown_rows<D: Doc>(
+    alloc: Global,
+    doc: &D,
+    ids: &[AtomId],
+    v: &Vector,
+) -> Result<Vec<AtomId>, Memory>
+    ensures { IsDocument (D.rows doc.now) → ids.now ≡ map row_id (D.rows doc.now)
+        → IfOk result (λ unknown. unknown.items ≡ unknown_ids v.now (D.rows doc.now)) }
+{
+    let mut unknown = Vec::new(alloc);
+    for id in ids {
+        push_unknown(&mut unknown, doc, *id, v)?;
     }
     Ok(unknown)
 }

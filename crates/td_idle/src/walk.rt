@@ -1,31 +1,29 @@
-ghost use Rattle.std.specs.Prelude.{◌≡◌, slice_get, None};
+ghost use Rattle.std.specs.Prelude.{◌≡◌, slice_get};
 ghost use Rattle.td_idle.specs.Walk.{is_id, walk_on};
 
 use td_base::AtomId;
 
-/// Where a walk over the rows is: the last row passed, the last of the unknown rows passed, and how many of those were
-/// passed.
+/// Where a walk over the rows is: how many of the unknown rows it passed, and how many of the rows that come next are
+/// in the last top.
 #[derive(Clone, Copy, Debug)]
 pub struct Walk {
-    pub last: Option<AtomId>,
-    pub before: Option<AtomId>,
     pub passed: usize,
+    pub inside: u32,
 }
 
 impl Walk {
     /// Before the first row.
     pub fn new() -> Walk
-        ensures { result ≡ record { last = None; before = None; passed = 0 } }
+        ensures { result ≡ record { passed = 0; inside = 0 } }
     {
         Walk {
-            last: None,
-            before: None,
             passed: 0,
+            inside: 0,
         }
     }
 
     /// The next unknown row.
-    pub fn behind(&self, unknown: &[AtomId]) -> Option<AtomId>
+    pub fn next(&self, unknown: &[AtomId]) -> Option<AtomId>
         ensures { result ≡ slice_get unknown.now self.now.passed }
     {
         unknown.get(self.passed).copied()
@@ -35,9 +33,8 @@ impl Walk {
     pub fn pass(&mut self, unknown: &[AtomId], id: AtomId)
         ensures { self.new ≡ walk_on unknown.now id self.old }
     {
-        self.last = Some(id);
+        self.inside = self.inside.saturating_sub(1);
         if self.is_at(unknown, id) {
-            self.before = Some(id);
             self.passed += 1;
         }
     }

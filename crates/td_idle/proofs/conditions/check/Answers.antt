@@ -1,4 +1,4 @@
-use Rattle.std.proofs.Common.{◌∙◌, List, nat_eq, ap, sym, subst}
+use Rattle.std.proofs.Common.{◌∙◌, List, nat_eq, ap, sym}
 use Rattle.std.specs.List.{list_all}
 use Rattle.td_path.specs.declared.slot.Slot.{Slot}
 use Rattle.td_doc.specs.Document.{DocRow}

@@ -17,14 +17,15 @@ returns-in-Some-clause-certified g c =
       slot = c.in-Some.best.slot;
       rows = c.in-Some.best.rows;
       tops = c.in_ok-tops.tops;
-      unknown = c.in_ok-unknown.unknown;
+      unknown = c.tops.new.unknown;
     } in
     let r : Reasons m i.tops.items i.unknown.items c.best_of.result =
-    reasons m d c.stable-v.result c.stable-v.ensures (g.D.Doc.rows c.doc.result.now) c.doc.ensures i.unknown.items
-    c.in_ok-unknown.ensures
-    c.deref.result.now c.deref.ensures.value i.tops.items c.in_ok-tops.ensures (g.D.Doc.rows c.doc-2.result.now)
-    c.doc-2.ensures
-    c.deref-2.result.now c.deref-2.ensures.value c.best_of.result c.best_of.ensures in
+    reasons m d c.stable-v.result c.stable-v.ensures (g.D.Doc.rows c.doc.result.now) c.doc.ensures
+    c.in_ok-ids.ids.items c.in_ok-ids.ensures (g.D.Doc.rows c.doc-2.result.now) c.doc-2.ensures c.deref.result.now
+    c.deref.ensures.value c.in_ok-unknown.unknown.items c.in_ok-unknown.ensures c.tops.new.unknown.items
+    c.in_ok-tops.ensures.unknown c.in_ok-tops.tops.items c.in_ok-tops.ensures.tops
+    (g.D.Doc.rows c.doc-3.result.now) c.doc-3.ensures c.deref-2.result.now c.deref-2.ensures.value c.best_of.result
+    c.best_of.ensures in
     certified m d (sym c.is_candidate.ensures ∙ c.if-is_candidate.false) i c.in-Some.best refl refl
     (subst (λ (o : Option Counted). Reasons m i.tops.items i.unknown.items o) c.in-Some.is r)
 
@@ -36,16 +37,17 @@ returns-in-Some-clause-best g c =
       slot = c.in-Some.best.slot;
       rows = c.in-Some.best.rows;
       tops = c.in_ok-tops.tops;
-      unknown = c.in_ok-unknown.unknown;
+      unknown = c.tops.new.unknown;
     } in
     let r : Reasons m i.tops.items i.unknown.items c.best_of.result =
-    reasons m d c.stable-v.result c.stable-v.ensures (g.D.Doc.rows c.doc.result.now) c.doc.ensures i.unknown.items
-    c.in_ok-unknown.ensures
-    c.deref.result.now c.deref.ensures.value i.tops.items c.in_ok-tops.ensures (g.D.Doc.rows c.doc-2.result.now)
-    c.doc-2.ensures
-    c.deref-2.result.now c.deref-2.ensures.value c.best_of.result c.best_of.ensures in
-    certified_is_best m d i (certified m d (sym c.is_candidate.ensures ∙ c.if-is_candidate.false) i c.in-Some.best
-    refl refl
+    reasons m d c.stable-v.result c.stable-v.ensures (g.D.Doc.rows c.doc.result.now) c.doc.ensures
+    c.in_ok-ids.ids.items c.in_ok-ids.ensures (g.D.Doc.rows c.doc-2.result.now) c.doc-2.ensures c.deref.result.now
+    c.deref.ensures.value c.in_ok-unknown.unknown.items c.in_ok-unknown.ensures c.tops.new.unknown.items
+    c.in_ok-tops.ensures.unknown c.in_ok-tops.tops.items c.in_ok-tops.ensures.tops
+    (g.D.Doc.rows c.doc-3.result.now) c.doc-3.ensures c.deref-2.result.now c.deref-2.ensures.value c.best_of.result
+    c.best_of.ensures in
+    certified_is_best m d i
+    (certified m d (sym c.is_candidate.ensures ∙ c.if-is_candidate.false) i c.in-Some.best refl refl
     (subst (λ (o : Option Counted). Reasons m i.tops.items i.unknown.items o) c.in-Some.is r))
 
 pub returns-then-is_candidate-clause-slot : goal.returns-then-is_candidate-clause-slot
@@ -60,22 +62,23 @@ returns-in-Some-clause-slot g c =
     let d : IsDocument m.doc = document c.args.replica.now c.entries.ensures.replica in
     some_best m d c.in-Some.best.slot c.in-Some.best.rows (returns-in-Some-clause-best g c)
 
-pub returns-in-None-clause-none : goal.returns-in-None-clause-none
-returns-in-None-clause-none g c = λ e t.
+pub returns-clause-none : goal.returns-clause-none
+returns-clause-none g c = λ e t.
     let m : Machine = c.args.replica.now.machine in
     let d : IsDocument m.doc = document c.args.replica.now c.entries.ensures.replica in
-    let r : Reasons m c.in_ok-tops.tops.items c.in_ok-unknown.unknown.items c.best_of.result =
+    let r : Reasons m c.in_ok-tops.tops.items c.tops.new.unknown.items c.best_of.result =
     reasons m d c.stable-v.result c.stable-v.ensures (g.D.Doc.rows c.doc.result.now) c.doc.ensures
-    c.in_ok-unknown.unknown.items c.in_ok-unknown.ensures
-    c.deref.result.now c.deref.ensures.value c.in_ok-tops.tops.items c.in_ok-tops.ensures
-    (g.D.Doc.rows c.doc-2.result.now) c.doc-2.ensures
-    c.deref-2.result.now c.deref-2.ensures.value c.best_of.result c.best_of.ensures in
-    let n : Reasons m c.in_ok-tops.tops.items c.in_ok-unknown.unknown.items None =
-    subst (λ (o : Option Counted). Reasons m c.in_ok-tops.tops.items c.in_ok-unknown.unknown.items o) c.in-None.is r in
+    c.in_ok-ids.ids.items c.in_ok-ids.ensures (g.D.Doc.rows c.doc-2.result.now) c.doc-2.ensures c.deref.result.now
+    c.deref.ensures.value c.in_ok-unknown.unknown.items c.in_ok-unknown.ensures c.tops.new.unknown.items
+    c.in_ok-tops.ensures.unknown c.in_ok-tops.tops.items c.in_ok-tops.ensures.tops
+    (g.D.Doc.rows c.doc-3.result.now) c.doc-3.ensures c.deref-2.result.now c.deref-2.ensures.value c.best_of.result
+    c.best_of.ensures in
+    let n : Reasons m c.in_ok-tops.tops.items c.tops.new.unknown.items None =
+    subst (λ (o : Option Counted). Reasons m c.in_ok-tops.tops.items c.tops.new.unknown.items o) c.in-None.is r in
     no_candidate m d (sym c.is_candidate.ensures ∙ c.if-is_candidate.false) c.in_ok-tops.tops.items n.are n.best t
 
-pub returns-in-None-clause-slot : goal.returns-in-None-clause-slot
-returns-in-None-clause-slot g c =
+pub returns-clause-slot : goal.returns-clause-slot
+returns-clause-slot g c =
     let m : Machine = c.args.replica.now.machine in
     let d : IsDocument m.doc = document c.args.replica.now c.entries.ensures.replica in
-    none_best m d (returns-in-None-clause-none g c refl)
+    none_best m d (returns-clause-none g c refl)

@@ -1,20 +1,23 @@
-use Rattle.std.proofs.Common.{List, refl, subst, inl}
-use Rattle.td_path.specs.declared.slot.Slot.{Slot}
+use Rattle.std.proofs.Common.{ap, inl, inr, refl, subst}
 use Rattle.td_path.specs.declared.slot.Slot.TheVariants.{At}
-use Rattle.td_doc.specs.Document.{DocRow}
-use Rattle.td_idle.specs.Walk.{HasTop}
+use Rattle.td_idle.specs.declared.walk.Walk.{Walk}
+use Rattle.td_idle.specs.Walk.{IsAdded}
 use Rattle.td_idle.proofs.top.pass.Goals as goal
 
-pub returns-then-is_in_last : goal.returns-then-is_in_last
-returns-then-is_in_last g c =
+pub returns-then-inside-gt0 : goal.returns-then-inside-gt0
+returns-then-inside-gt0 g c =
     record {
-      walk = c.pass.ensures;
-      sides = inl (
-        refl,
-        λ bit.
-            subst (λ (ts : List Slot). HasTop c.args.replica.now.machine.doc ts (At c.args.id bit))
-            c.deref.ensures.value
-            (subst (λ (rows : List DocRow). HasTop rows c.deref.result.now (At c.args.id bit)) c.doc.ensures
-            (c.is_in_last.ensures c.if-is_in_last.true bit)),
-      );
+      passed = ap (λ (w : Walk). w.passed) c.pass.ensures;
+      side = inl (c.if-inside-gt0.true, ap (λ (w : Walk). w.inside) c.pass.ensures, refl);
+    }
+
+pub returns : goal.returns
+returns g c =
+    record {
+      passed = ap (λ (w : Walk). w.passed) c.pass.ensures;
+      side = inr (subst
+          (λ next. IsAdded c.args.replica.now.machine next (At c.args.id c.args.bit) c.args.tops.now.items
+          c.add_side.new.tops.items c.in_ok-walk.field-0)
+          c.next.ensures
+          (record { top = c.in_ok-walk.ensures.tops; many = c.in_ok-walk.ensures.rows }));
     }

@@ -1,41 +1,19 @@
-use Rattle.td_idle.proofs.unknown.unknown_rows.Goals.{else-loop-test, then-loop-test+in_default}
-use Rattle.std.proofs.Common.{◌∙◌, ◌≤◌, length, List, ℕ, arith, subst, sym, ap}
+use Rattle.std.proofs.Common.{◌∙◌, ap, not, filter, arith}
 use Rattle.std.proofs.lemmas.List.{take_all}
-use Rattle.std.proofs.lemmas.Option.{same_Some}
 use Rattle.td_base.specs.Value.{AtomIdValue}
-use Rattle.td_doc.specs.Answers.{IsRow}
-use Rattle.td_doc.specs.Document.{DocRow, IsDocument}
-use Rattle.td_idle.specs.Unknown.{unknown_ids}
-use Rattle.td_idle.proofs.UnknownRows.{unknown_next}
-use Rattle.td_doc.proofs.Walking.{comes, comes_to_a_row, goes_to_the_end}
+use Rattle.td_idle.specs.Unknown.{is_known_id}
+use Rattle.td_idle.proofs.UnknownRows.{unknown_is, unknown_next}
 use Rattle.td_idle.proofs.unknown.unknown_rows.Goals as goal
 
-pub loop-preserved : goal.loop-preserved
-loop-preserved g c =
-    let rows : List DocRow = g.D.Doc.rows c.args.doc.now in
-    let k : ℕ = c.loop.counter in
-    let x : AtomIdValue = c.in-Some.id in
-    let next = sym c.after.ensures ∙ c.in-Some.is in
-    let come = λ (d : IsDocument rows). comes rows k x _ d (c.loop.invariant.at d) next in
-    record {
-      all = c.loop.invariant.all;
-      row = λ (y : AtomIdValue) e. subst (IsRow rows) (same_Some x y e) (comes_to_a_row rows c.loop.last x next);
-      at = λ (d : IsDocument rows). (come d).goes_on;
-      ids = λ (d : IsDocument rows). unknown_next c.args.v.now rows k x c.loop.unknown.items
-          c.push_unknown.new.unknown.items
-          (comes_to_a_row rows c.loop.last x next) (come d).found (c.loop.invariant.ids d) c.in_ok-push_unknown.ensures;
-    }
+pub loop-id-preserved : goal.loop-id-preserved
+loop-id-preserved g c =
+    unknown_next (is_known_id c.args.v.now (g.D.Doc.rows c.args.doc.now)) c.args.ids.now c.loop-id.id-index
+    c.id-item.result c.loop-id.unknown.items c.push_unknown.new.unknown.items c.loop-id-test.true c.id-item.is
+    c.loop-id.invariant c.in_ok-push_unknown.ensures
 
 pub returns : goal.returns
-returns g c = λ (d : IsDocument (g.D.Doc.rows c.args.doc.now)).
-    c.loop.invariant.ids d
-    ∙ ap (unknown_ids c.args.v.now) (take_all c.loop.counter (g.D.Doc.rows c.args.doc.now) (at d))
-  where
-    at : IsDocument (g.D.Doc.rows c.args.doc.now) → length (g.D.Doc.rows c.args.doc.now) ≤ c.loop.counter
-    at d =
-        elim c.loop-test.branch [
-          | else-loop-test w ↦ omega (arith, c.loop.invariant.all)
-          | then-loop-test+in_default w ↦
-              absurd (goes_to_the_end (g.D.Doc.rows c.args.doc.now) c.loop.counter w.after.result
-              (omega (arith, c.loop.invariant.all)) (w.after.ensures ∙ c.loop.invariant.at d) w.in_default.not-Some)
-        ]
+returns g c = λ d is.
+    c.loop-id.invariant
+    ∙ (ap (filter (λ (x : AtomIdValue). not (is_known_id c.args.v.now (g.D.Doc.rows c.args.doc.now) x)))
+    (take_all c.loop-id.id-index c.args.ids.now (omega arith))
+    ∙ unknown_is c.args.v.now (g.D.Doc.rows c.args.doc.now) d c.args.ids.now is)

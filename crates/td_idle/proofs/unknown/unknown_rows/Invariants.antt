@@ -1,16 +1,8 @@
-use Rattle.std.proofs.Common.{◌≡◌, length, take, drop}
-use Rattle.std.specs.Option.{ForSome}
-use Rattle.td_doc.specs.Allocation.{first_id, id_after}
-use Rattle.td_doc.specs.Answers.{IsRow}
-use Rattle.td_doc.specs.Document.{IsDocument}
-use Rattle.td_idle.specs.Unknown.{unknown_ids}
+use Rattle.std.proofs.Common.{◌≡◌, not, filter, take}
+use Rattle.td_base.specs.Value.{AtomIdValue}
+use Rattle.td_idle.specs.Unknown.{is_known_id}
 use Rattle.td_idle.proofs.unknown.unknown_rows.Given as goal
 
-abbrev pub invariant-loop : goal.invariant-loop
-invariant-loop g l = record {
-  all : l.end ≡ length (g.D.Doc.rows l.doc);
-  row : ForSome l.last (IsRow (g.D.Doc.rows l.doc));
-  at : IsDocument (g.D.Doc.rows l.doc) → id_after (g.D.Doc.rows l.doc) l.last
-      ≡ first_id (drop l.counter (g.D.Doc.rows l.doc));
-  ids : IsDocument (g.D.Doc.rows l.doc) → l.unknown.items ≡ unknown_ids l.v (take l.counter (g.D.Doc.rows l.doc));
-}
+abbrev pub invariant-loop-id : goal.invariant-loop-id
+invariant-loop-id g l = l.unknown.items
+    ≡ filter (λ (x : AtomIdValue). not (is_known_id l.v (g.D.Doc.rows l.doc) x)) (take l.id-index l.ids)
