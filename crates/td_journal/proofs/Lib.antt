@@ -1,0 +1,10 @@
+pub mod Checks
+pub mod Pieces
+pub mod Growing
+pub mod Keeping
+pub mod Unique
+pub mod Playing
+pub mod Histories
+pub mod Surviving
+pub mod Finding
+pub mod Writable
