@@ -1,6 +1,6 @@
 -- The histories of editors that take packets of each other are a consistent family.
-use Rattle.std.proofs.Common.{◌≡◌, ◌≢◌, ◌<◌, ◌≤◌, ◌+◌, ◌-◌, ◌++◌, ◌↔◌, ℕ, zero, suc, List, [], ◌∷◌, length}
-use Rattle.std.proofs.Common.{Some, refl, sym, ap, ◌∙◌, subst, inl, inr, append-nil, arith}
+use Rattle.std.proofs.Common.{◌≡◌, ◌<◌, ◌≤◌, ◌+◌, ◌-◌, ◌++◌, ◌↔◌, ℕ, zero, suc, List, [], ◌∷◌, length}
+use Rattle.std.proofs.Common.{true, Some, refl, sym, ap, ◌∙◌, subst, inl, inr, append-nil, arith}
 use Rattle.std.specs.Prelude.{slice_get}
 use Rattle.std.proofs.lemmas.List.{length-map}
 use Rattle.std.proofs.lemmas.Option.{same_Some}
@@ -12,9 +12,9 @@ use Rattle.td_op.specs.declared.input.Input.TheVariants.{Take}
 use Rattle.td_op.specs.declared.message.Message.{Message}
 use Rattle.td_op.specs.Op.{OpValue}
 use Rattle.td_doc.specs.Document.{text_of}
-use Rattle.td_op.specs.Message.{sender}
+use Rattle.td_op.specs.Message.{sender, is_for}
 use Rattle.td_machine.specs.History.{Family, History, Moment, history, history_at, machine, machine_after}
-use Rattle.td_machine.specs.History.{after, known_of, IsAddressed, IsLegal, IsLegalFrom, IsConsistent, MayCome}
+use Rattle.td_machine.specs.History.{after, known_of, IsLegal, IsLegalFrom, IsConsistent, MayCome}
 use Rattle.td_machine.specs.Machine.{Machine, start, made}
 use Rattle.td_machine.specs.Step.{step}
 use Rattle.td_machine.specs.Parts.{Anything, IsBuilt, Begins}
@@ -25,7 +25,7 @@ use Rattle.td_law_convergence.proofs.EveryFamily.{promises, converge}
 use Rattle.td_replica.specs.Replica.{ReplicaValue}
 use Rattle.td_editor.specs.Due.{IsDue, TakesDue}
 use Rattle.td_editor.specs.Together.{taken_by, taken, IsSeated, IsSentBy, AreTogether, family_of}
-use Rattle.td_editor.proofs.Due.{due_at}
+use Rattle.td_editor.proofs.Due.{for_parts, due_at}
 
 -- ---- lists
 
@@ -133,11 +133,12 @@ module _ (replicas : List ReplicaValue) (t : AreTogether replicas) where
       ap (λ (m : Machine). after m front) (start_of site r.0 some r.1) in
       let own : (after (start r.0.machine.site r.0.machine.size) front).site ≡ site =
       site_kept site r.0 front (e ∷ back) some r.1 entries ∙ number in
+      let way = for_parts site message (subst (λ (k : ℕ). is_for k message ≡ true) own due.is_for) in
       record {
-        another = subst (λ (k : ℕ). sender message ≢ k) own due.is_for.another;
+        another = way.0;
         sent = subst (λ (m : Machine). In message m.sent)
             (sym (machine_is (sender message) from.replica from.some from.here)) from.sent;
-        addressed = subst (λ (k : ℕ). IsAddressed k message) own due.is_for.addressed;
+        addressed = way.1;
         own_made = subst (λ (m : Machine). known_of site message ≤ made m) then
             (subst (λ (k : ℕ). known_of k message ≤ made (after (start r.0.machine.site r.0.machine.size) front)) own
             due.own_made);

@@ -1,21 +1,16 @@
 -- Which messages a site takes: those that another site can have sent to it, as far as the site can tell.
-use Rattle.std.specs.Prelude.{◌≡◌, ◌≢◌, ◌≤◌, ℕ, [], ◌∷◌}
+use Rattle.std.specs.Prelude.{◌≡◌, ◌≤◌, true, [], ◌∷◌}
 use Rattle.td_op.specs.declared.input.Input.{Input}
 use Rattle.td_op.specs.declared.input.Input.TheVariants.{Take}
 use Rattle.td_op.specs.declared.message.Message.{Message}
-use Rattle.td_op.specs.Message.{sender}
-use Rattle.td_machine.specs.History.{History, known_of, IsAddressed}
+use Rattle.td_op.specs.Message.{is_for}
+use Rattle.td_machine.specs.History.{History, known_of}
 use Rattle.td_machine.specs.Machine.{Machine, made}
 use Rattle.td_machine.specs.Step.{step}
 
--- another site sent it, to all or to this one
-pub record IsFor (site : ℕ) (message : Message) : Type 0 where
-  pub another : sender message ≢ site
-  pub addressed : IsAddressed site message
-
 -- it is for the site, which has made each own operation that it names
 pub record IsDue (m : Machine) (message : Message) : Type 0 where
-  pub is_for : IsFor m.site message
+  pub is_for : is_for m.site message ≡ true
   pub own_made : known_of m.site message ≤ made m
 
 -- where the input is a message, it is due

@@ -26,4 +26,3 @@ pub use laws::{changes_are_in_range, changes_lead_on, editors_converge};
 pub use page::Page;
 pub use received::Received;
 pub use screen::Screen;
-pub use sending::is_for;

@@ -11,7 +11,7 @@ ghost use Rattle.td_editor.specs.Editors.{after_inputs, all_nexts, taking, IsTak
 use crate::editor::Editor;
 use crate::received::Received;
 use crate::screen::Screen;
-use crate::sending::{is_for, names_made};
+use crate::sending::names_made;
 use td_base::Memory;
 use td_doc::Doc;
 use td_op::{Input, Message};
@@ -75,6 +75,6 @@ impl<D: Doc, S: Screen> Editor<D, S> {
         ensures { IsTrue result ↔ IsDue self.now.replica.machine message.now }
     {
         let own = self.replica().site();
-        is_for(own, message) && names_made(own, message) <= self.replica().made()
+        message.is_for(own) && names_made(own, message) <= self.replica().made()
     }
 }

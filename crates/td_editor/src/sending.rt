@@ -1,10 +1,10 @@
 // What is sent to other sites.
-ghost use Rattle.std.specs.Prelude.{◌≡◌, ◌↔◌, length, Some, IfSome, IfNone, IsTrue};
+ghost use Rattle.std.specs.Prelude.{◌≡◌, length, true, false, Some, IfSome, IfNone};
 ghost use Rattle.td_op.specs.declared.message.Message.{Message};
 ghost use Rattle.td_base.specs.Lists.{kth};
+ghost use Rattle.td_op.specs.Message.{is_for};
 ghost use Rattle.td_machine.specs.History.{known_of};
 ghost use Rattle.td_wire.specs.Spelling.{SpellsIn};
-ghost use Rattle.td_editor.specs.Due.{IsFor};
 
 use crate::editor::Editor;
 use crate::screen::Screen;
@@ -24,25 +24,15 @@ impl<D: Doc, S: Screen> Editor<D, S> {
     /// The packet of the k-th message, from 1, where it is for this site. It takes no memory.
     pub fn packet(&self, to: Site, k: u64) -> Option<Packet>
         ensures some { IfSome result (λ packet. (m : Message) × (kth k self.now.replica.machine.sent ≡ Some m)
-            × IsFor to m × SpellsIn m packet) }
-        ensures none { IfNone result ((m : Message) → kth k self.now.replica.machine.sent ≡ Some m → ¬ IsFor to m) }
+            × (is_for to m ≡ true) × SpellsIn m packet) }
+        ensures none { IfNone result ((m : Message) → kth k self.now.replica.machine.sent ≡ Some m
+            → is_for to m ≡ false) }
     {
         let message = self.replica().sent_at(k)?;
-        if !is_for(to, &message) {
+        if !message.is_for(to) {
             return None;
         }
         Some(encode(&message))
-    }
-}
-
-/// Whether the message is for this site: an operation of another site, or the vote of another one on a proposal of this
-/// site.
-pub fn is_for(site: Site, message: &Message) -> bool
-    ensures { IsTrue result ↔ IsFor site message.now }
-{
-    match message {
-        Message::Op(op) => op.dot().site != site,
-        Message::Vote(vote) => vote.voter != site && vote.proposal.site == site,
     }
 }
 
