@@ -1,7 +1,9 @@
 -- The set of the votes that were sent, vote by vote, and what it says of the messages sent.
 use Rattle.std.proofs.Common.{◌≡◌, ◌≢◌, ◌-◌, ◌==◌, ◌&&◌, ◌||◌, ℕ, List, Bool, true, false, cond, nat_lt, Some}
-use Rattle.std.proofs.Common.{slice_get, refl, sym, ap, subst, ◌∙◌, true≢false}
-use Rattle.std.proofs.lemmas.Bool.{eq-eqb, ne_eqb}
+use Rattle.std.proofs.Common.{◌≤◌, ◌+◌, length, slice_get, refl, sym, ap, subst, ◌∙◌, true≢false, arith}
+use Rattle.std.specs.List.{list_any}
+use Rattle.std.proofs.lemmas.Bool.{eq-eqb, eqb-true, eqb-false, ne_eqb, lt-ltb, le-ltb, ltb-true, ltb-false}
+use Rattle.std.proofs.lemmas.Option.{slice_get_past}
 use Rattle.std.proofs.lemmas.Cmp.{on_total, then_total, nat_cmp_total, tied_itself, ranked}
 use Rattle.std.specs.BTreeSet.{BTreeSet, contains}
 use Rattle.std.specs.Cmp.{IsTotalOrder, bool_cmp_total}
@@ -89,6 +91,52 @@ message_added false false all more = refl
 -- the votes of the sites at the first so many places
 abbrev pub sent_before : List Machine → ℕ → Vote → Bool
 sent_before machines places v = nat_lt (v.voter - 1) places && was_sent machines v
+
+-- one more site
+pub sent_next : (machines : List Machine) (place : ℕ) (m : Machine) → slice_get machines place ≡ Some m → (v : Vote)
+    → (sent_before machines place v || (v.voter - 1 == place && list_any (is_vote v) m.sent))
+    ≡ sent_before machines (place + 1) v
+sent_next machines place m here v = at (nat_lt k place) refl (k == place) refl
+  where
+    k : ℕ
+    k = v.voter - 1
+
+    was : Bool
+    was = was_sent machines v
+
+    more : Bool
+    more = list_any (is_vote v) m.sent
+
+    or_false : (b : Bool) → (b || false) ≡ b
+    or_false true = refl
+    or_false false = refl
+
+    at : (low : Bool) → nat_lt k place ≡ low → (same : Bool) → (k == place) ≡ same
+        → ((low && was) || (same && more)) ≡ (nat_lt k (place + 1) && was)
+    at true l same e =
+        let apart : same ≡ false = sym e ∙ ne_eqb k place (λ (p : k ≡ place). omega (arith, ltb-true k place l, p)) in
+        (λ i. was || (apart i && more)) ∙ or_false was
+        ∙ sym (ap (λ (b : Bool). b && was) (lt-ltb k (place + 1) (omega (arith, ltb-true k place l))))
+    at false l true e =
+        let one : k ≡ place = eqb-true k place e in
+        sym (ap (sends v) (ap (slice_get machines) one ∙ here))
+        ∙ sym (ap (λ (b : Bool). b && was) (lt-ltb k (place + 1) (omega (arith, one))))
+    at false l false e =
+        let high = ltb-false k place l in
+        let apart = eqb-false k place e in
+        sym (ap (λ (b : Bool). b && was) (le-ltb k (place + 1) (omega (arith, high, apart))))
+
+-- all sites
+pub sent_all : (machines : List Machine) (places : ℕ) → length machines ≤ places → (v : Vote)
+    → sent_before machines places v ≡ was_sent machines v
+sent_all machines places all v = at (nat_lt k places) refl
+  where
+    k : ℕ
+    k = v.voter - 1
+
+    at : (low : Bool) → nat_lt k places ≡ low → (low && was_sent machines v) ≡ was_sent machines v
+    at true l = refl
+    at false l = sym (ap (sends v) (slice_get_past machines k (omega (arith, ltb-false k places l, all))))
 
 -- ---- what was sent
 
