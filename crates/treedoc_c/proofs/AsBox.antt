@@ -1,0 +1,35 @@
+-- A handle that has a value, and its parts, own what a box of the value owns.
+use mir.Syntax.{impl, tnil, dnil}
+use mathlib.Core.List.{[]}
+use denote.Signature.{Slot, plain}
+use Rattle.std_alloc.proofs.BoxSteps.Form.{Bx}
+use Rattle.std_heap.specs.contracts.Global as Heap
+use Rattle.std_heap.specs.contracts.GlobalAllocator.TheImpl.{ghosts, dict}
+use Rattle.std_heap.proofs.Global.TheLaws as heap
+use Rattle.td_session.specs.contracts.session.Session as Inner
+use Rattle.td_session.proofs.session.Session.TheLaws as inner
+use Rattle.treedoc_c.specs.contracts.parts.Parts as Parts
+use Rattle.treedoc_c.specs.contracts.handle.Handle as Handle
+
+abbrev pub E : Bx
+E = record {
+  row = Inner.the_row;
+  laws = inner.the_row_laws;
+  al = record {
+    row = Heap.the_row;
+    laws =
+        heap.the_row_laws;
+    g = ghosts;
+    d = dict;
+    drops = impl [] tnil dnil;
+  };
+}
+
+abbrev pub FromParts : Slot 0
+FromParts = plain (λ _. Parts.the_row Inner.the_row Heap.the_row ghosts)
+
+abbrev pub FromHandle : Slot 0
+FromHandle = plain (λ _. Handle.the_row)
+
+abbrev pub FromGlobal : Slot 0
+FromGlobal = plain (λ _. Heap.the_row)
