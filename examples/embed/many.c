@@ -1,5 +1,6 @@
 /* Three editors, edits made by chance, packets in any order and some twice. Each has a screen that is changed only as
- * the library tells. In the end all texts are the same, and each is its screen. usage: many EDITS SEED */
+ * the library tells. In the end all texts are the same, each is its screen, and each atom has its place in bytes.
+ * usage: many EDITS SEED */
 #include <stdio.h>
 #include <stdlib.h>
 #include <string.h>
@@ -106,9 +107,12 @@ static void same_text(int i, uint8_t **text, size_t *len)
     for (uint32_t k = 0; k < on[i].len; k++) {
         size_t n = strnlen(on[i].atoms[k], 8);
         if (memcmp(*text + at, on[i].atoms[k], n)) fail("a screen differs");
+        if (td_offset(&of[i], TD_BYTE, k).number != at || td_index(&of[i], TD_BYTE, at + n - 1).number != k)
+            fail("a place differs");
         at += n;
     }
     if (at != *len || td_len(&of[i]) != on[i].len || td_waiting(&of[i])) fail("a screen is longer, or something waits");
+    if (td_len_in(&of[i], TD_BYTE).number != *len) fail("a width differs");
 }
 
 int main(int argc, char **argv)

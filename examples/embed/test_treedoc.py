@@ -26,6 +26,8 @@ class Agreement(unittest.TestCase):
         for kind, prefix in ((Status, "TD_"), (treedoc.Why, "TD_WHY_")):
             for status in kind:
                 self.assertIn(f"    {prefix}{status.name} = {status.value}", header)
+        for unit in treedoc.Unit:
+            self.assertRegex(header, rf"enum td_unit {{.*\bTD_{unit.name} = {unit.value}\b")
         self.assertEqual(int(re.search(r"#define TD_VERSION (\d+)", header)[1]), treedoc.VERSION)
         self.assertEqual(int(re.search(r"#define TD_PACKET_ROOM (\d+)", header)[1]), treedoc.PACKET_ROOM)
 
@@ -70,6 +72,25 @@ class Calls(unittest.TestCase):
         self.assertEqual((ann.holds(), bob.receive(ann.packet(7).data).status, bob.holds()), (0, Status.NEW, 0))
         self.assertEqual(bob.receive(bob.packet(1).data), Answer(Status.UNFIT, place=treedoc.Why.ADDRESS))
 
+    def test_places_in_each_unit(self):
+        ann, text = Session(1, 1), "ae\u0301\u20ac\U0001f600\r\n"
+        ann.paste(0, text)
+        atoms = ("a", "e\u0301", "\u20ac", "\U0001f600", "\r\n")
+        widths = {
+            treedoc.Unit.BYTE: lambda s: len(s.encode()),
+            treedoc.Unit.UTF16: lambda s: len(s.encode("utf-16-le")) // 2,
+            treedoc.Unit.CODE_POINT: len,
+        }
+        for unit, width in widths.items():
+            self.assertEqual(ann.len_in(unit), width(text))
+            begins = [width("".join(atoms[:index])) for index in range(len(atoms) + 1)]
+            self.assertEqual([ann.offset(index, unit) for index in range(len(atoms) + 1)], begins)
+            lies = [max(i for i, begin in enumerate(begins) if begin <= at) for at in range(width(text) + 1)]
+            self.assertEqual([ann.index(at, unit) for at in range(width(text) + 1)], lies)
+        self.assertEqual((ann.len_in(), ann.offset(4), ann.index(2)), (len(text), 5, 1))
+        self.assertEqual([refused(ann.offset, 6), refused(ann.index, len(text) + 1)], [Status.BAD_PLACE] * 2)
+        self.assertEqual(refused(ann.len_in, 3), Status.BAD_UNIT)
+
     def test_what_is_refused_changes_nothing(self):
         self.assertEqual([refused(Session, *it) for it in ((0, 2), (3, 2), (1, 65), (1, 0))], [Status.BAD_SITE] * 4)
         ann = Session(1, 2)
@@ -101,6 +122,50 @@ class Calls(unittest.TestCase):
         self.assertEqual([it.status for it in (ann.insert(0, "a"), ann.next(), ann.cancel(1, 1))], [Status.CLOSED] * 3)
         self.assertEqual([refused(it) for it in (ann.text, ann.changed)], [Status.CLOSED] * 2)
         self.assertEqual((len(ann), ann.sent(), ann.ready(), ann.site()), (0, 0, False, 0))
+
+    def test_what_is_saved_is_loaded_and_goes_on(self):
+        ann, bob = Session(1, 2), Session(2, 2)
+        ann.paste_all(0, "tea \u8a9e\r\nmilk")
+        ann.delete(0)
+        ann.flatten()
+        for k in range(1, ann.sent()):
+            bob.take(ann.packet(k).data)
+        later = ann.packet(ann.sent())
+        with Session(2, 2, bob.save()) as again:
+            self.assertEqual((again.site(), again.sites(), again.text()), (2, 2, bob.text()))
+            self.assertEqual((again.changed(), again.had(1), again.holds()), (bob.changed(), bob.had(1), bob.holds()))
+            self.assertEqual(again.save(), bob.save())
+            self.assertEqual(again.take(later.data), bob.take(later.data))
+            self.assertEqual(again.packet(1), bob.packet(1))
+            self.assertEqual(again.save(), bob.save())
+        self.assertEqual(refused(again.save), Status.CLOSED)
+        again = Session(1, 2, ann.save())
+        self.assertEqual([it.take(bob.packet(1).data) for it in (ann, again)], [(Answer(Status.NEW), [])] * 2)
+        self.assertEqual((again.holds(), again.insert(0, "x")), (0, ann.insert(0, "x")))
+        self.assertEqual([again.packet(k) for k in range(1, again.sent() + 1)],
+                         [ann.packet(k) for k in range(1, ann.sent() + 1)])
+
+    def test_a_spoilt_journal_is_told_at_its_place(self):
+        ann = Session(1, 2)
+        ann.insert(0, "a")
+        ann.delete(0)
+        journal = ann.save()
+        # a header of 9 bytes, a record of an insert of 16, one of a delete, and the closed gate
+        places = {0: 0, 2: 2, 3: 3, 4: 4, 5: 5, 8: 5, 10: 9, 12: 9, 24: 9, 26: 25, len(journal) - 2: 25}
+        for spoilt, place in places.items():
+            data = bytearray(journal)
+            data[spoilt] ^= 16
+            with self.assertRaises(Refused) as it:
+                Session(1, 2, bytes(data))
+            self.assertEqual((it.exception.status, it.exception.place), (Status.BAD_JOURNAL, place))
+        faults = []
+        for site, sites, data in ((0, 2, journal), (3, 2, journal), (1, 65, journal), (2, 2, journal), (1, 3, journal),
+                                  (1, 2, b""), (1, 2, journal[:-1])):
+            with self.assertRaises(Refused) as it:
+                Session(site, sites, data)
+            faults.append((it.exception.status, it.exception.place))
+        self.assertEqual(faults, [(Status.BAD_SITE, 0)] * 3 + [
+            (Status.BAD_JOURNAL, place) for place in (3, 4, 0, len(journal) - 1)])
 
     def test_a_long_text_is_pasted_run_by_run(self):
         ann = Session(1, 1)

@@ -77,6 +77,41 @@ static void statuses(editor *ann)
     printf(", no site: %u\n", td_had(&ann->session, 3).status);
 }
 
+/* Where the second of three letters ends, as editors count that: in bytes, in units of UTF-16, in code points. */
+static void places(void)
+{
+    td_session session = TD_SESSION;
+    uint32_t unit;
+    if (td_open(1, 1, &session) != TD_DONE) return;
+    td_paste(&session, 0, bytes("a\xf0\x9f\x98\x80z"), 6);
+    for (unit = TD_BYTE; unit <= TD_CODE_POINT; unit++) {
+        td_number offset = td_offset(&session, unit, 2), wide = td_len_in(&session, unit);
+        printf("%u of %u, ", (unsigned)offset.number, (unsigned)wide.number);
+    }
+    printf("within it: %u", (unsigned)td_index(&session, TD_UTF16, 2).number);
+    printf(", no place: %u %u", td_offset(&session, TD_BYTE, 4).status, td_index(&session, TD_BYTE, 7).status);
+    printf(", no unit: %u\n", td_len_in(&session, 3).status);
+    td_close(&session);
+}
+
+/* Saves the session, ends it, and makes it again, as a program does that is run again. Answers whether it did. */
+static int reopen(editor *e, uint8_t site, uint8_t sites)
+{
+    uint8_t journal[1024];
+    td_answer a;
+    td_written w = td_save(&e->session, journal, 8);
+    printf("a room too small: %u, ", w.status);
+    w = td_save(&e->session, journal, sizeof journal);
+    if (w.status != TD_DONE) return 0;
+    printf("open already: %u, ", td_load(site, sites, journal, w.len, &e->session).status);
+    td_close(&e->session);
+    a = td_load(site + 1, sites, journal, w.len, &e->session);
+    printf("of another site: %u (%u), ", a.status, a.place);
+    a = td_load(site, sites, journal, w.len, &e->session);
+    printf("saved, closed and loaded: %u\n", a.status);
+    return a.status == TD_DONE;
+}
+
 int main(void)
 {
     editor ann = {"Ann", TD_SESSION, 0}, bob = {"Bob", TD_SESSION, 0};
@@ -101,6 +136,11 @@ int main(void)
     printf(", made: %u and %u", td_made(&ann.session), td_made(&bob.session));
     printf(", of site 2 at site 1: %u\n", td_had(&ann.session, 2).number);
     statuses(&ann);
+    places();
+    show(&ann), show(&bob);
+    if (!reopen(&ann, 1, 2)) return 3;
+    type(&ann, 0, "hot ");
+    send(&ann, &bob);
     show(&ann), show(&bob);
     td_close(&ann.session), td_close(&ann.session), td_close(&bob.session);
     return 0;

@@ -23,6 +23,10 @@ not_both front body file without with =
     ∙ ap (λ (l : List ℕ). slice_index l (length front)) (sym without.is ∙ behind)
     ∙ at_seam front 1 (body ++ with.gate ∷ with.rest))
 
+-- the slice of all but the first byte
+pub all_but_first : (bytes : List ℕ) → take (length bytes - 1) (drop 1 bytes) ≡ drop 1 bytes
+all_but_first bytes = take_all (length bytes - 1) (drop 1 bytes) (omega (arith, length-drop 1 bytes))
+
 -- a file with a closed gate, in its parts
 pub stands_of : (file : List ℕ) (end : ℕ) → end < length file → slice_index file end ≢ 1 → Stands (take end file) file
 stands_of file end within shut =
@@ -149,9 +153,7 @@ module _ {D : Type 0} (w : disk.Ghosts D) (old : D) (end : ℕ) (bytes : List �
 
   is_staged : (mid : D) → w.reads mid ≡ overwritten held (end + 1) rest_of → w.reads mid ≡ put_behind
   is_staged mid put =
-      let sliced : rest_of ≡ drop 1 bytes = take_all (length bytes - 1) (drop 1 bytes)
-      (omega (arith, length-drop 1 bytes)) in
-      put ∙ ap (λ (l : List ℕ). overwritten held (end + 1) l) sliced
+      put ∙ ap (λ (l : List ℕ). overwritten held (end + 1) l) (all_but_first bytes)
       ∙ staged_is held (take end held) stands.rest stands.gate end stands.is front_long bytes piece.body piece.is
 
   pub gate_put : (mid new : D) → w.reads mid ≡ overwritten held (end + 1) rest_of

@@ -1,5 +1,6 @@
 -- How a run of calls of a disk goes on.
 use Rattle.std.proofs.Common.{inl, inr, ⊎_elim, ℕ, List, arith}
+use Rattle.std.specs.Prelude.{Result, Ok, Err, OnErr}
 use Rattle.td_disk.specs.declared.disk.Disk as disk
 use Rattle.td_disk.specs.Device.{Elapses}
 use Rattle.td_disk.specs.Moments.{LeavesOnly}
@@ -39,3 +40,8 @@ module _ {D : Type 0} (w : disk.Ghosts D) where
     before = λ t c le left. ⊎_elim (first.before t c le) (λ p. inr p)
         (second.before t c (omega (arith, le, first.later)) left);
   }
+
+-- what holds anyway
+pub at_err : {T E : Type 0} (r : Result T E) (P : Type 0) → P → OnErr r P
+at_err (Ok x) P p = tt
+at_err (Err x) P p = p

@@ -1,5 +1,6 @@
 pub mod Device
 pub mod Moments
+pub mod Calls
 pub mod Events
 pub mod Record
 pub mod Image

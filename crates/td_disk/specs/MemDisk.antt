@@ -43,3 +43,17 @@ failed d = record d { faults = counted d.faults }
 -- and it failed for want of memory
 abbrev pub starved : MemDiskValue → MemDiskValue
 starved d = record d { faults = counted d.faults; starved = counted d.starved }
+
+-- ---- calls
+
+-- a write that is done, and one that fails: it was told to, and is noted all the same, or it found no memory
+abbrev pub Writes : MemDiskValue → ℕ → List ℕ → Bool → MemDiskValue → Type 0
+Writes old at bytes true new = (¬ IsTold old) × (new ≡ written at bytes (called old))
+Writes old at bytes false new =
+    (IsTold old × (new ≡ failed (written at bytes (called old)))) ⊎ (new ≡ starved (called old))
+
+-- a sync that is done, and one that fails
+abbrev pub Syncs : MemDiskValue → Bool → MemDiskValue → Type 0
+Syncs old true new = (¬ IsTold old) × (new ≡ synced (called old))
+Syncs old false new =
+    (IsTold old × (new ≡ unsound (failed (called old)))) ⊎ (new ≡ unsound (starved (called old)))

@@ -86,6 +86,11 @@ impl Disk for FileDisk {
 
     ghost is_sound = { λ d. d.sound };
 
+    // nothing more is told of it
+    ghost writes = { λ old at bytes ok new. Unit {0} };
+
+    ghost syncs = { λ old ok new. Unit {0} };
+
     ghost may_stay = { λ d. inl refl };
 
     ghost counts_now = { λ d t c le now. counts_now d.past.first d.past.events t c now };

@@ -1,10 +1,12 @@
-ghost use Rattle.std.specs.Prelude.{◌≡◌, ◌+◌, ◌≤◌, ◌<◌, ◌++◌, ◌≢◌, length, slice_index, OnOk, OnErr};
+ghost use Rattle.std.specs.Prelude.{◌≡◌, ◌+◌, ◌≤◌, ◌<◌, ◌++◌, ◌≢◌, true, false, length, slice_index, OnOk, OnErr};
 ghost use Rattle.td_io.specs.Count.{Rose};
 ghost use Rattle.td_disk.specs.declared.disk.TheConstants.{MAX_DISK_LEN};
 ghost use Rattle.td_disk.specs.Moments.{IsSynced, LeavesOnly};
+ghost use Rattle.td_disk.specs.Calls.{Grows};
 ghost use Rattle.td_disk.specs.Gated.{disk_of, end_of, front_of, piece_of, IsSettled, IsPiece, StandsBeforeOrAfter};
 
 use crate::disk::Disk;
+use crate::mem_disk::MemDisk;
 use crate::writing::put;
 use td_io::Failed;
 
@@ -57,6 +59,10 @@ impl<D: Disk> Gated<D> {
         ensures grown { OnOk result (front_of D.Disk self.new ≡ front_of D.Disk self.old ++ piece_of bytes.now) }
         ensures any_moment { LeavesOnly D.Disk (disk_of self.old) (disk_of self.new)
             (StandsBeforeOrAfter (front_of D.Disk self.old) (piece_of bytes.now)) }
+        ensures done { OnOk result (Grows D.Disk (disk_of self.old) (end_of self.old) bytes.now true
+            (disk_of self.new)) }
+        ensures not_done { OnErr result (Grows D.Disk (disk_of self.old) (end_of self.old) bytes.now false
+            (disk_of self.new)) }
         ensures failed { OnErr result (Rose (D.Disk.faults (disk_of self.old)) (D.Disk.faults (disk_of self.new))) }
         ensures faults { D.Disk.faults (disk_of self.old) ≤ D.Disk.faults (disk_of self.new) }
     {
@@ -65,5 +71,16 @@ impl<D: Disk> Gated<D> {
         put(&mut self.disk, gate, &[1])?;
         self.end += bytes.len() - 1;
         Ok(())
+    }
+}
+
+impl Gated<MemDisk> {
+    /// The `k`-th write or sync of the disk from now on fails, once. It takes no memory.
+    pub fn fail_next(&mut self, k: u32)
+        requires { 0 < k }
+        ensures disk { disk_of self.new ≡ record (disk_of self.old) { fuse = k } }
+        ensures end { end_of self.new ≡ end_of self.old }
+    {
+        self.disk.fail_next(k);
     }
 }

@@ -1,4 +1,5 @@
-ghost use Rattle.std.specs.Prelude.{◌≡◌, ◌+◌, ◌-◌, ◌<◌, ◌≤◌, ◌↔◌, ◌⊎◌, [], ℕ, List, true, false, refl, Ok, length, take, drop, min, IsTrue, OnOk, OnErr, IfOk};
+ghost use Rattle.std.specs.Prelude.{◌≡◌, ◌+◌, ◌-◌, ◌<◌, ◌≤◌, ◌↔◌, ◌⊎◌, [], ℕ, List, true, false, refl, Ok, length};
+ghost use Rattle.std.specs.Prelude.{take, drop, min, IsTrue, OnOk, OnErr, IfOk};
 ghost use Rattle.std.proofs.Common.{inl};
 ghost use Rattle.td_io.specs.Count.{counted};
 ghost use Rattle.td_disk.specs.declared.disk.TheConstants.{MAX_DISK_LEN};
@@ -8,6 +9,7 @@ ghost use Rattle.td_disk.specs.Moments.{IsSynced};
 ghost use Rattle.td_disk.specs.Record.{device_of};
 ghost use Rattle.td_disk.specs.Image.{image};
 ghost use Rattle.td_disk.specs.MemDisk.{new_disk, IsTold, called, written, synced, unsound, failed, starved};
+ghost use Rattle.td_disk.specs.MemDisk.{Writes, Syncs};
 
 use crate::disk::Disk;
 use crate::record::Record;
@@ -149,6 +151,10 @@ impl Disk for MemDisk {
     ghost faults = { λ d. d.faults };
 
     ghost is_sound = { λ d. d.sound };
+
+    ghost writes = { Writes };
+
+    ghost syncs = { Syncs };
 
     ghost may_stay = { λ d. inl refl };
 

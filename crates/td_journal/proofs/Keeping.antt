@@ -3,7 +3,7 @@ use Rattle.std.proofs.Common.{◌≡◌, ◌≢◌, inl, inr, ℕ, ◌+◌, ◌�
 use Rattle.std.proofs.Common.{take, drop, refl, sym, ◌∙◌, ap, subst, arith, length-append, length-drop}
 use Rattle.std.specs.Prelude.{true, false, Result, Ok, Err, is_err, OnOk, OnErr}
 use Rattle.std.proofs.lemmas.Bool.{false≢true}
-use Rattle.std.proofs.lemmas.List.{take_all, drop_all, length-map}
+use Rattle.std.proofs.lemmas.List.{take_all, drop_all, length-map, length-take-le}
 use Rattle.td_op.specs.declared.entry.Entry.{Entry}
 use Rattle.td_op.specs.declared.input.Input.{Input}
 use Rattle.td_op.specs.declared.input.Input.TheVariants.{Local, Take, Next}
@@ -12,6 +12,7 @@ use Rattle.td_disk.specs.declared.disk.TheConstants.{MAX_DISK_LEN}
 use Rattle.td_disk.specs.declared.disk.Disk as disk
 use Rattle.td_disk.specs.declared.gated.Gated.{Gated}
 use Rattle.td_disk.specs.Moments.{LeavesOnly}
+use Rattle.td_disk.specs.Calls.{Puts}
 use Rattle.td_disk.specs.Gated.{Stands, StandsBeforeOrAfter, IsPiece, IsSettled, disk_of, end_of, front_of, piece_of}
 use Rattle.td_disk.proofs.Moments.{started, weakened}
 use Rattle.td_disk.proofs.Growing.{stands_of}
@@ -236,6 +237,29 @@ leaves_all w f r count j check piece k all c left =
     (leaves_journal w f r.machine.site r.machine.size (acknowledged_of count r) (staged_of count r) j check piece k c
     left)
 
+-- how long it is with what is staged
+pub as_long : {K : Type 0} (w : disk.Ghosts K) (r : ReplicaValue) (j : Gated K) (check : Check) (piece : List ℕ)
+    (count : ℕ) → IsKept w r j check piece count
+    → j.end + length piece ≡ length (journal_bytes check.format r.machine.site r.machine.size (inputs_of r.entries))
+as_long w r j check piece count k =
+    let f : Format = check.format in
+    let site : ℕ = r.machine.site in
+    let n : ℕ = r.machine.size in
+    let ks : List Input = acknowledged_of count r in
+    let ls : List Input = staged_of count r in
+    let front : end_of j ≡ length (journal_bytes f site n ks) =
+    sym (length-take-le (end_of j) (w.reads (disk_of j)) (omega (arith, k.settled.within))) ∙ ap length k.spelled in
+    let whole : journal_bytes f site n (inputs_of r.entries)
+    ≡ journal_bytes f site n ks ++ records_bytes f (journal_check f site n ks) ls =
+    ap (λ (l : List Input). journal_bytes f site n l) (inputs_split count r.entries) ∙ journal_both f site n ks ls in
+    omega (
+      arith,
+      front,
+      ap length whole,
+      ap length k.staged_is,
+      length-append (journal_bytes f site n ks) (records_bytes f (journal_check f site n ks) ls),
+    )
+
 -- where nothing is staged, all is acknowledged
 pub all_counted : {K : Type 0} (w : disk.Ghosts K) (f : Format) (r : ReplicaValue) (count : ℕ) (j : Gated K)
     (check piece : List ℕ)
@@ -324,6 +348,22 @@ pub after_stays : (r new : ReplicaValue) (input : Input) → IsReplica r → Can
 after_stays r new input h can is =
     subst (λ (x : ReplicaValue). SamePlace r.machine x.machine) (sym is)
     (step_stays r.machine input (reached_of r h) (can_is_input input can))
+
+-- a list of no bytes
+pub none_left : (l : List ℕ) → length l ≡ 0 → l ≡ []
+none_left [] e = refl
+none_left (x ∷ l) e = absurd (omega (arith, e))
+
+-- what was done to a disk, in other words
+pub puts_on : {K : Type 0} (w : disk.Ghosts K) (old mid new : K) (bytes same : List ℕ) → bytes ≡ same → new ≡ mid
+    → Puts w old 0 bytes true mid → Puts w old 0 same true new
+puts_on {K} w old mid new bytes same bytes_are is done =
+    subst (λ (d : K). Puts w old 0 same true d) (sym is)
+    (subst (λ (l : List ℕ). Puts w old 0 l true mid) bytes_are done)
+
+pub syncs_on : {K : Type 0} (w : disk.Ghosts K) (old mid new : K) → new ≡ mid → w.syncs old true mid
+    → w.syncs old true new
+syncs_on {K} w old mid new is done = subst (λ (d : K). w.syncs old true d) (sym is) done
 
 -- nothing was done on the disk
 pub rest_after : {K : Type 0} (w : disk.Ghosts K) (f : Format) (site n : ℕ) (ks ls others : List Input)

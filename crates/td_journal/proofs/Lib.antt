@@ -8,3 +8,4 @@ pub mod Histories
 pub mod Surviving
 pub mod Finding
 pub mod Writable
+pub mod Wholes

@@ -20,7 +20,7 @@ pub record Played (f : Format) (before bytes : List ℕ) (inputs : List Input) (
   pub check_is : check ≡ last_check f before inputs
   pub can : AllByRecursion CanWrite inputs
 
-all_more : (ks : List Input) (i : Input) → AllByRecursion CanWrite ks → CanWrite i
+pub all_more : (ks : List Input) (i : Input) → AllByRecursion CanWrite ks → CanWrite i
     → AllByRecursion CanWrite (ks ++ i ∷ [])
 all_more [] i h p = (p, tt)
 all_more (k ∷ ks) i h p = (h.0, all_more ks i h.1 p)

@@ -39,7 +39,8 @@ pub record LacksRecord (f : Format) (site n : ℕ) (bytes : List ℕ) (at : ℕ)
   pub no_gate : (gate : ℕ) (more : List ℕ) → gate ≢ 1 → rest ≢ gate ∷ more
   pub place : at ≡ length (journal_bytes f site n inputs)
 
--- the first byte that is none of the header's, or of its check's, has this place
+-- the byte of the header that differs has this place; where the header is there and its check is not, the first byte
+-- behind the header
 abbrev pub IsBadHeadAt : ℕ → ℕ → List ℕ → ℕ → Type 0
 IsBadHeadAt site n bytes at =
     DiffersAt bytes (header (format_in bytes) site n) at ⊎ LacksCheck (format_in bytes) site n bytes at

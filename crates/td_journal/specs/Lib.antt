@@ -6,3 +6,4 @@ pub mod Kept
 pub mod Seen
 pub mod Opening
 pub mod Reopened
+pub mod Whole

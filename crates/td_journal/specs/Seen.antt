@@ -1,5 +1,5 @@
 -- What is seen of a kept replica.
-use Rattle.std.specs.Prelude.{ℕ, Bool, List}
+use Rattle.std.specs.Prelude.{◌≡◌, ◌+◌, ℕ, Bool, false, List, length}
 use Rattle.td_disk.specs.declared.disk.Disk as disk
 use Rattle.td_disk.specs.declared.gated.Gated.{Gated}
 use Rattle.td_doc.specs.declared.doc.Doc as doc
@@ -8,7 +8,7 @@ use Rattle.td_replica.specs.Replica.{ReplicaValue}
 use Rattle.td_journal.specs.declared.check.Check.{Check}
 use Rattle.td_journal.specs.declared.format.Format.{Format}
 use Rattle.td_journal.specs.declared.kept.Kept.{Kept}
-use Rattle.td_journal.specs.Journal.{inputs_of, IsJournal, IsJournalOfEither}
+use Rattle.td_journal.specs.Journal.{inputs_of, journal_bytes, IsJournal, IsJournalOfEither}
 use Rattle.td_journal.specs.Kept.{acknowledged_of}
 
 -- the replica, with all that is staged
@@ -58,3 +58,9 @@ abbrev pub IsOwnJournalOfEither : {D K : Type 0} {d : doc.Ghosts D} {w : disk.Gh
     → List Input → List ℕ → Type 0
 IsOwnJournalOfEither k inputs others file =
     IsJournalOfEither k.check.format k.replica.machine.site k.replica.machine.size inputs others file
+
+-- the journal is with what is staged as long as all its inputs make it, up to the closed gate
+abbrev pub HasWholeLength : {D K : Type 0} {d : doc.Ghosts D} {w : disk.Ghosts K} → Kept D K d w → Type 0
+HasWholeLength k =
+    k.closed ≡ false → k.journal.end + length k.staged
+    ≡ length (journal_bytes k.check.format k.replica.machine.site k.replica.machine.size (inputs_in k))

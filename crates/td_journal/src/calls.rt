@@ -1,10 +1,11 @@
-ghost use Rattle.std.specs.Prelude.{◌≡◌, ◌≤◌, ◌<◌, ◌+◌, ◌⊎◌, ◌++◌, ◌∷◌, [], ◌↔◌, ℕ, List, false, true, length};
+ghost use Rattle.std.specs.Prelude.{◌≡◌, ◌≢◌, ◌≤◌, ◌<◌, ◌+◌, ◌⊎◌, ◌++◌, ◌∷◌, [], ◌↔◌, ℕ, List, false, true, length};
 ghost use Rattle.std.specs.Prelude.{IfOk, IfErr, OnOk, OnErr, IsErrOf};
 ghost use Rattle.std.specs.List.{AllByRecursion};
 ghost use Rattle.td_base.specs.declared.site.TheConstants.{MAX_SITE};
 ghost use Rattle.td_io.specs.Count.{Rose};
 ghost use Rattle.td_disk.specs.declared.disk.TheConstants.{MAX_DISK_LEN};
 ghost use Rattle.td_disk.specs.Moments.{IsSynced, LeavesOnly};
+ghost use Rattle.td_disk.specs.Calls.{Puts, Grows};
 ghost use Rattle.td_disk.specs.Gated.{disk_of, end_of};
 ghost use Rattle.td_op.specs.declared.input.Input.{Input};
 ghost use Rattle.td_machine.specs.Step.{step};
@@ -20,7 +21,7 @@ ghost use Rattle.td_journal.specs.Kept.{IsKept, IsCounted, AreIndexed, OrBegan};
 ghost use Rattle.td_journal.specs.Opening.{IsFound};
 ghost use Rattle.td_journal.specs.Seen.{replica_of, journal_of, format_of, check_behind, staged_bytes, is_closed};
 ghost use Rattle.td_journal.specs.Seen.{acknowledged, released, inputs_in, acknowledged_in};
-ghost use Rattle.td_journal.specs.Seen.{IsOwnJournal, IsOwnJournalOfEither};
+ghost use Rattle.td_journal.specs.Seen.{HasWholeLength, IsOwnJournal, IsOwnJournalOfEither};
 
 use crate::check::Check;
 use crate::fault::{KeptFault, OpenFault, Refused};
@@ -31,7 +32,7 @@ use crate::piece::Piece;
 use crate::record::{header, write_record};
 use std::alloc::Global;
 use td_base::{Bytes, Memory, Site};
-use td_disk::{Disk, Gated, MAX_DISK_LEN, begin};
+use td_disk::{Disk, Gated, MAX_DISK_LEN, MemDisk, begin};
 use td_doc::Doc;
 use td_op::{Input, Reply};
 use td_replica::Replica;
@@ -54,6 +55,9 @@ impl<D: Doc, K: Disk> Kept<D, K> {
         ensures format { IfOk result (λ kept. format_of kept ≡ format) }
         ensures open { IfOk result (λ kept. is_closed kept ≡ false) }
         ensures acknowledged { IfOk result (λ kept. acknowledged kept ≡ 0) }
+        ensures staged { IfOk result (λ kept. staged_bytes kept ≡ []) }
+        ensures done { IfOk result (λ kept. Puts K.Disk disk 0 (head_bytes format site n ++ 0 ∷ []) true
+            (disk_of (journal_of kept))) }
         ensures leaves { IfOk result (λ kept. (c : List ℕ) → K.Disk.leaves (disk_of (journal_of kept)) c
             → IsJournal format site n [] c) }
         ensures any_moment { IfOk result (λ kept. LeavesOnly K.Disk disk (disk_of (journal_of kept))
@@ -62,6 +66,9 @@ impl<D: Doc, K: Disk> Kept<D, K> {
             OrBegan K.Disk (length (head_bytes format site n) + 1) disk refused.disk) }
         ensures disk { IfErr result (λ refused. refused.why ≡ OpenFault.Disk
             → Rose (K.Disk.faults disk) (K.Disk.faults refused.disk)) }
+        ensures not_done { IfErr result (λ refused. refused.why ≡ OpenFault.Disk
+            → Puts K.Disk disk 0 (head_bytes format site n ++ 0 ∷ []) false refused.disk) }
+        ensures untouched { IfErr result (λ refused. refused.why ≢ OpenFault.Disk → refused.disk ≡ disk) }
         ensures not_bad { IfErr result (λ refused. (at : ℕ) → ¬ (refused.why ≡ OpenFault.Bad at)) }
     {
         let Ok(parts) = Parts::new(alloc, site, n, format) else {
@@ -92,6 +99,8 @@ impl<D: Doc, K: Disk> Kept<D, K> {
         ensures size { IfOk result (λ kept. (replica_of kept).machine.size ≡ n) }
         ensures open { IfOk result (λ kept. is_closed kept ≡ false) }
         ensures acknowledged { IfOk result (λ kept. acknowledged kept ≡ length (replica_of kept).entries) }
+        ensures staged { IfOk result (λ kept. staged_bytes kept ≡ []) }
+        ensures done { IfOk result (λ kept. K.Disk.syncs disk true (disk_of (journal_of kept))) }
         ensures leaves { IfOk result (λ kept. (c : List ℕ) → K.Disk.leaves (disk_of (journal_of kept)) c
             → IsOwnJournal kept (inputs_in kept) c) }
         // A journal is read as its inputs, and is never bad.
@@ -107,6 +116,7 @@ impl<D: Doc, K: Disk> Kept<D, K> {
             LeavesOnly K.Disk disk (disk_of (journal_of kept)) (K.Disk.leaves disk)) }
         ensures any_moment_err { IfErr result (λ refused.
             LeavesOnly K.Disk disk refused.disk (K.Disk.leaves disk)) }
+        ensures reads { IfErr result (λ refused. K.Disk.reads refused.disk ≡ K.Disk.reads disk) }
         ensures disk { IfErr result (λ refused. refused.why ≡ OpenFault.Disk
             → Rose (K.Disk.faults disk) (K.Disk.faults refused.disk)) }
     {
@@ -128,6 +138,7 @@ impl<D: Doc, K: Disk> Kept<D, K> {
         ensures format { format_of result ≡ found.check.format }
         ensures open { is_closed result ≡ false }
         ensures acknowledged { acknowledged result ≡ length found.replica.entries }
+        ensures staged { staged_bytes result ≡ [] }
         ensures disk { disk_of (journal_of result) ≡ disk }
         ensures leaves { (c : List ℕ) → K.Disk.leaves disk c → IsOwnJournal result (inputs_in result) c }
     {
@@ -150,6 +161,8 @@ impl<D: Doc, K: Disk> Kept<D, K> {
     pub fn stage(&mut self, input: Input) -> Result<Reply, KeptFault>
         ensures reply { IfOk result (λ reply. reply ≡ (step (replica_of self.old).machine input).reply) }
         ensures ok { OnOk result (replica_of self.new ≡ after_step input (replica_of self.old)) }
+        ensures staged { OnOk result (staged_bytes self.new ≡ staged_bytes self.old
+            ++ record_bytes (format_of self.old) (bytes_of (check_behind self.old)) input) }
         ensures err { OnErr result ((replica_of self.new ≡ replica_of self.old)
             × (check_behind self.new ≡ check_behind self.old) × (staged_bytes self.new ≡ staged_bytes self.old)) }
         ensures others { (journal_of self.new ≡ journal_of self.old) × (format_of self.new ≡ format_of self.old)
@@ -158,6 +171,7 @@ impl<D: Doc, K: Disk> Kept<D, K> {
         ensures place { ((replica_of self.new).machine.site ≡ (replica_of self.old).machine.site)
             × ((replica_of self.new).machine.size ≡ (replica_of self.old).machine.size) }
         ensures closed { IsErrOf result Closed ↔ (is_closed self.old ≡ true) }
+        ensures long { HasWholeLength self.old }
         ensures fits { OnOk result (end_of (journal_of self.old) + length (staged_bytes self.new) + 1 ≤ MAX_DISK_LEN) }
         ensures full { (len : ℕ) → IsErrOf result (Full len)
             → (len ≡ end_of (journal_of self.old) + length (staged_bytes self.old))
@@ -191,6 +205,12 @@ impl<D: Doc, K: Disk> Kept<D, K> {
     /// memory. After a fault of the disk the value is closed.
     pub fn commit(&mut self) -> Result<(), KeptFault>
         ensures acknowledged { OnOk result (acknowledged self.new ≡ length (replica_of self.new).entries) }
+        ensures staged { OnOk result (staged_bytes self.new ≡ []) }
+        ensures nothing { OnOk result (staged_bytes self.old ≡ [] → journal_of self.new ≡ journal_of self.old) }
+        ensures done { OnOk result (staged_bytes self.old ≢ [] → Grows K.Disk (disk_of (journal_of self.old))
+            (end_of (journal_of self.old)) (staged_bytes self.old ++ 0 ∷ []) true (disk_of (journal_of self.new))) }
+        ensures not_done { IsErrOf result Disk → Grows K.Disk (disk_of (journal_of self.old))
+            (end_of (journal_of self.old)) (staged_bytes self.old ++ 0 ∷ []) false (disk_of (journal_of self.new)) }
         ensures same { (replica_of self.new ≡ replica_of self.old) × (check_behind self.new ≡ check_behind self.old) }
         ensures released { OnErr result ((released self.new ≡ released self.old)
             × (acknowledged self.new ≡ acknowledged self.old)) }
@@ -202,10 +222,12 @@ impl<D: Doc, K: Disk> Kept<D, K> {
         ensures open { OnOk result (is_closed self.new ≡ false) }
         ensures closed { IsErrOf result Closed ↔ (is_closed self.old ≡ true) }
         ensures closed_keeps { IsErrOf result Closed → (journal_of self.new ≡ journal_of self.old)
-            × (staged_bytes self.new ≡ staged_bytes self.old) }
+            × (staged_bytes self.new ≡ staged_bytes self.old) × (is_closed self.new ≡ true) }
         ensures disk { IsErrOf result Disk → (is_closed self.new ≡ true)
             × Rose (K.Disk.faults (disk_of (journal_of self.old))) (K.Disk.faults (disk_of (journal_of self.new))) }
         ensures only { OnErr result (IsErrOf result Closed ⊎ IsErrOf result Disk) }
+        ensures faults { K.Disk.faults (disk_of (journal_of self.old))
+            ≤ K.Disk.faults (disk_of (journal_of self.new)) }
     {
         if self.closed {
             return Err(KeptFault::Closed);
@@ -242,9 +264,14 @@ impl<D: Doc, K: Disk> Kept<D, K> {
             → (len ≡ end_of (journal_of self.old) + length (staged_bytes self.old))
             × (MAX_DISK_LEN
             < len + length (record_bytes (format_of self.old) (bytes_of (check_behind self.old)) input) + 1) }
+        ensures long { HasWholeLength self.old }
         ensures keeps { OnErr result ((¬ IsErrOf result Disk) → (replica_of self.new ≡ replica_of self.old)
-            × (journal_of self.new ≡ journal_of self.old) × (staged_bytes self.new ≡ staged_bytes self.old)) }
+            × (journal_of self.new ≡ journal_of self.old) × (staged_bytes self.new ≡ staged_bytes self.old)
+            × (check_behind self.new ≡ check_behind self.old) × (is_closed self.new ≡ is_closed self.old)) }
+        ensures fits { OnOk result (end_of (journal_of self.old) + (length (staged_bytes self.old)
+            + length (record_bytes (format_of self.old) (bytes_of (check_behind self.old)) input)) + 1 ≤ MAX_DISK_LEN) }
         ensures disk { IsErrOf result Disk → (is_closed self.new ≡ true)
+            × (replica_of self.new ≡ after_step input (replica_of self.old))
             × Rose (K.Disk.faults (disk_of (journal_of self.old))) (K.Disk.faults (disk_of (journal_of self.new))) }
         ensures can { CanWrite input }
     {
@@ -288,7 +315,8 @@ impl<D: Doc> Parts<D> {
     fn new(alloc: Global, site: Site, n: u8, format: Format) -> Result<Parts<D>, Memory>
         requires small { n ≤ MAX_SITE }
         requires within { site ≤ n }
-        ensures head { IfOk result (λ parts. length parts.head ≡ length (head_bytes format site n) + 1) }
+        ensures head { IfOk result (λ parts. parts.head ≡ head_bytes format site n ++ 0 ∷ []) }
+        ensures long { IfOk result (λ parts. length parts.head ≡ length (head_bytes format site n) + 1) }
         ensures found { IfOk result (λ parts.
             IsFound site n parts.head parts.found.replica parts.found.check parts.found.end) }
         ensures format { IfOk result (λ parts. parts.found.check.format ≡ format) }
@@ -311,5 +339,21 @@ impl<D: Doc> Parts<D> {
             staged,
         };
         Ok(Parts { head, found })
+    }
+}
+
+impl<D: Doc> Kept<D, MemDisk> {
+    /// The `k`-th write or sync of the disk from now on fails, once. It takes no memory.
+    pub fn fail_next(&mut self, k: u32)
+        requires { 0 < k }
+        ensures disk { disk_of (journal_of self.new) ≡ record (disk_of (journal_of self.old)) { fuse = k } }
+        ensures end { end_of (journal_of self.new) ≡ end_of (journal_of self.old) }
+        ensures replica { replica_of self.new ≡ replica_of self.old }
+        ensures staged { (staged_bytes self.new ≡ staged_bytes self.old)
+            × (check_behind self.new ≡ check_behind self.old) }
+        ensures counted { (acknowledged self.new ≡ acknowledged self.old) × (released self.new ≡ released self.old) }
+        ensures closed { is_closed self.new ≡ is_closed self.old }
+    {
+        self.journal.fail_next(k);
     }
 }

@@ -4,7 +4,7 @@ use td_io::Failed;
 /// Why a step of a kept replica was not done.
 #[derive(Clone, Copy, Debug, PartialEq, Eq)]
 pub enum KeptFault {
-    /// An earlier step failed at the disk: open the journal again.
+    /// An earlier call failed at the disk: open the journal again.
     Closed,
     /// The record does not fit. `len` is the length up to where it would begin: that of the journal, up to its closed
     /// gate, and of what is staged.
@@ -29,7 +29,7 @@ impl From<Memory> for KeptFault {
 #[derive(Clone, Copy, Debug, PartialEq, Eq)]
 pub enum OpenFault {
     /// The bytes are no journal of the site. The first part that is none begins at `at`: the byte of the header that
-    /// differs, or the gate of the record.
+    /// differs, its check, or the gate of the record.
     Bad { at: u32 },
     Disk,
     Memory,
@@ -62,4 +62,33 @@ impl From<Failed> for OpenFault {
 pub struct Refused<K> {
     pub disk: K,
     pub why: OpenFault,
+}
+
+/// Why no journal was made of a replica.
+#[derive(Clone, Copy, Debug, PartialEq, Eq)]
+pub enum SaveFault {
+    /// It would have more bytes than a disk may have.
+    Long,
+    Memory,
+}
+
+impl From<Memory> for SaveFault {
+    ghost use Rattle.std.specs.Prelude.{◌≡◌};
+    ghost use Rattle.td_journal.specs.declared.fault.SaveFault.{SaveFault};
+
+    ghost from_gives = { λ _ fault. fault ≡ SaveFault.Memory };
+
+    fn from(_memory: Memory) -> SaveFault {
+        SaveFault::Memory
+    }
+}
+
+/// Why no replica was made of the bytes of a journal.
+#[derive(Clone, Copy, Debug, PartialEq, Eq)]
+pub enum LoadFault {
+    /// The bytes are no journal of the site: see `OpenFault`.
+    Bad { at: u32 },
+    /// They are more than a disk may have.
+    Long,
+    Memory,
 }

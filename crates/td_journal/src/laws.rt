@@ -9,11 +9,19 @@ ghost use Rattle.td_journal.specs.declared.format.Format.{Format};
 ghost use Rattle.td_journal.specs.Journal.{inputs_of, IsJournal, IsJournalOfEither};
 ghost use Rattle.td_journal.specs.Kept.{acknowledged_of, IsCounted};
 ghost use Rattle.td_journal.specs.Reopened.{IsReopened, AreReleased, with_history};
+ghost use Rattle.td_journal.specs.Whole.{IsJournalOf};
 
 /// No file is two journals of a site, in whatever formats.
 pub fn a_file_is_one_journal()
     ensures { (f g : Format) (site n : ℕ) (ks ls : List Input) (file : List ℕ) → AllByRecursion CanWrite ks
         → AllByRecursion CanWrite ls → IsJournal f site n ks file → IsJournal g site n ls file → (f ≡ g) × (ks ≡ ls) }
+{}
+
+/// A file is the journal of one replica. So what `save` writes of a replica is loaded as that replica, whole: its
+/// machine, its history, and what the last step did.
+pub fn what_is_saved_is_loaded()
+    ensures { (site n : ℕ) (file : List ℕ) (a b : ReplicaValue) → IsJournalOf site n file a
+        → IsJournalOf site n file b → a ≡ b }
 {}
 
 /// Reopening restores the history. A crash leaves a journal of the acknowledged inputs, or of these and those that were

@@ -54,6 +54,7 @@ pub(crate) fn find<D: Doc, K: Disk>(
         → IsBadAt site n (K.Disk.reads disk.old) at) }
     ensures reads { K.Disk.reads disk.new ≡ K.Disk.reads disk.old }
     ensures synced { OnOk result (IsSynced K.Disk disk.new) }
+    ensures done { OnOk result (K.Disk.syncs disk.old true disk.new) }
     ensures any_moment { LeavesOnly K.Disk disk.old disk.new (K.Disk.leaves disk.old) }
     ensures failed { IfErr result (λ why. why ≡ OpenFault.Disk
         → Rose (K.Disk.faults disk.old) (K.Disk.faults disk.new)) }
@@ -69,6 +70,7 @@ fn read_synced<K: Disk>(alloc: Global, disk: &mut K) -> Result<Bytes, OpenFault>
     ensures short { IfOk result (λ bytes. length bytes ≤ MAX_DISK_LEN) }
     ensures reads { K.Disk.reads disk.new ≡ K.Disk.reads disk.old }
     ensures synced { OnOk result (IsSynced K.Disk disk.new) }
+    ensures done { OnOk result (K.Disk.syncs disk.old true disk.new) }
     ensures any_moment { LeavesOnly K.Disk disk.old disk.new (K.Disk.leaves disk.old) }
     ensures failed { IfErr result (λ why. why ≡ OpenFault.Disk
         → Rose (K.Disk.faults disk.old) (K.Disk.faults disk.new)) }
@@ -85,6 +87,7 @@ const BLOCK_LEN: usize = 4096;
 fn read_whole<K: Disk>(alloc: Global, disk: &mut K) -> Result<Bytes, OpenFault>
     ensures bytes { IfOk result (λ bytes. bytes ≡ K.Disk.reads disk.old) }
     ensures short { IfOk result (λ bytes. length bytes ≤ MAX_DISK_LEN) }
+    ensures same { OnOk result (disk.new ≡ disk.old) }
     ensures reads { K.Disk.reads disk.new ≡ K.Disk.reads disk.old }
     ensures sound { K.Disk.is_sound disk.new ≡ K.Disk.is_sound disk.old }
     ensures crash { (c : List ℕ) → K.Disk.leaves disk.new c → K.Disk.leaves disk.old c }
@@ -105,8 +108,8 @@ fn read_whole<K: Disk>(alloc: Global, disk: &mut K) -> Result<Bytes, OpenFault>
     }
 }
 
-// What stands in these bytes.
-fn read_journal<D: Doc>(
+/// What stands in these bytes.
+pub(crate) fn read_journal<D: Doc>(
     alloc: Global,
     site: Site,
     n: u8,

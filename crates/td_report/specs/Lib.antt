@@ -1,6 +1,7 @@
 pub mod Parts
 pub mod Replies
 pub mod Given
+pub mod Kept
 pub mod Tree
 pub mod Marks
 pub mod Numbers

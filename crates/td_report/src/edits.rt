@@ -1,4 +1,6 @@
-ghost use Rattle.std.specs.Prelude.{◌≡◌, IfOk};
+ghost use Rattle.std.specs.Prelude.{◌≡◌, ◌++◌, IfOk, codes};
+ghost use Rattle.std.specs.Fmt.{decimal};
+ghost use Rattle.td_script.specs.Spelling.{spaced};
 ghost use Rattle.td_report.specs.Replies.{del_line, edit_line, ins_line, paste_line};
 
 use crate::parts::{begin, push_number, push_refusal_of, push_spaced};
@@ -55,11 +57,26 @@ fn edit_line(
 ) -> Result<Bytes, Memory>
     ensures { IfOk result (λ line. line ≡ edit_line word.now site done all refused.now) }
 {
+    let mut line = begin_edit(alloc, word, site, done, all)?;
+    push_refusal_of(&mut line, refused)?;
+    line.push(b"\n")?;
+    Ok(line)
+}
+
+/// The begin of the line of an edit: its word, its site, and how many of how many were done.
+pub(crate) fn begin_edit(
+    alloc: Global,
+    word: &[u8],
+    site: Site,
+    done: u32,
+    all: u32,
+) -> Result<Bytes, Memory>
+    ensures { IfOk result (λ line.
+        line ≡ word.now ++ (spaced site ++ (spaced done ++ (codes "/" ++ decimal all)))) }
+{
     let mut line = begin(alloc, word, site)?;
     push_spaced(&mut line, u64::from(done))?;
     line.push(b"/")?;
     push_number(&mut line, u64::from(all))?;
-    push_refusal_of(&mut line, refused)?;
-    line.push(b"\n")?;
     Ok(line)
 }

@@ -2,6 +2,7 @@
 use Rattle.std.proofs.Common.{◌≡◌, ◌+◌, ◌++◌, ℕ, List, [], ◌∷◌, map, refl, sym, ◌∙◌, subst}
 use Rattle.std.specs.List.{AllByRecursion, AllZip}
 use Rattle.std.specs.Option.{option_to_list}
+use Rattle.td_base.proofs.Passing.{zip_weaker}
 use mathlib.Core.List.{IsPrefix}
 use Rattle.td_machine.specs.History.{known_of}
 use Rattle.td_replica.specs.Replica.{ReplicaValue, IsReplica}
@@ -26,7 +27,6 @@ use Rattle.td_room.specs.Closing.{IsAnswered, all_at, PeerDone}
 use Rattle.td_room.specs.Ending.{IsLeft, IsEnded}
 use Rattle.td_room.proofs.Locals.{locals_went, nexts_went, nexts_locals}
 use Rattle.td_room.proofs.Connected.{connected_on}
-use Rattle.td_room.proofs.Walks.{zip_on}
 use Rattle.td_room.proofs.Lines.{answered_on}
 use Rattle.td_room.proofs.Looks.{of_editors, ends_true}
 use Rattle.td_room.proofs.Turning.{not_made_on}
@@ -53,7 +53,7 @@ left w editors t u answers readers c one only two nexts i still answered counted
           (connected_on w.site t w.peers (locals_went w.site t one only) c);
       still = still;
       grown = later.entries;
-      answered = zip_on (IsAnswered t.replica) (IsAnswered u.replica) editors answers
+      answered = zip_weaker (IsAnswered t.replica) (IsAnswered u.replica) editors answers
           (answered_on t.replica u.replica two.entries) answered;
       only = λ k. counted k ∙ sym (nexts_locals t u nexts k);
       looks = record {

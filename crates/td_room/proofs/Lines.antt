@@ -2,6 +2,8 @@
 use Rattle.std.proofs.Common.{◌≡◌, ◌<◌, ◌+◌, ◌++◌, ℕ, List, [], ◌∷◌, length, map, refl, sym, ap, ◌∙◌}
 use Rattle.std.proofs.Common.{subst, append-nil, append_assoc, arith, remove, get_or}
 use Rattle.std.specs.List.{AllByRecursion, AllZip}
+use Rattle.std.proofs.lemmas.Slice.Zip.{all_zipped_more}
+use Rattle.td_base.proofs.Passing.{zip_weaker}
 use mathlib.Core.List.{IsPrefix}
 use Rattle.logbook.specs.Pages.{Book}
 use Rattle.td_op.specs.declared.entry.Entry.{Entry}
@@ -19,7 +21,7 @@ use Rattle.td_room.specs.Rooms.{Joined}
 use Rattle.td_room.specs.Closing.{IsAnswered, all_at}
 use Rattle.td_room.specs.Ending.{EndedLine}
 use Rattle.td_room.proofs.Locals.{recorded_on, served_on}
-use Rattle.td_room.proofs.Walks.{all_map, zip_on, zip_snoc}
+use Rattle.td_room.proofs.Walks.{all_map}
 
 pub only_self : (h : History) → OnlyLocals h h
 only_self h = record { more = []; added = sym (append-nil h); local = tt }
@@ -109,15 +111,15 @@ lines_next editors s t lines left es fs answers more readers watching v o later 
           let c3 = v.counted k in
           let c4 = o.counts k in
           omega arith;
-      joined = zip_on (Joined s.writer.views) (Joined t.writer.views) left fs
+      joined = zip_weaker (Joined s.writer.views) (Joined t.writer.views) left fs
           (joined_on s.writer.views t.writer.views later.views) joined;
       done = v.done ++ o.editor ∷ [];
       splits = v.splits ∙ ap (λ (w : List EditorValue). v.done ++ w) o.first_editor
           ∙ sym (append_assoc v.done (o.editor ∷ []) fs);
       answered = subst (λ (w : List (List Answer)). AllZip (IsAnswered t.replica) (v.done ++ o.editor ∷ []) w)
           (sym o.next_answers)
-          (zip_snoc (IsAnswered t.replica) v.done answers o.editor o.answers
-          (zip_on (IsAnswered s.replica) (IsAnswered t.replica) v.done answers
+          (all_zipped_more (IsAnswered t.replica) v.done answers o.editor o.answers
+          (zip_weaker (IsAnswered s.replica) (IsAnswered t.replica) v.done answers
           (answered_on s.replica t.replica later.entries) v.answered)
           o.answered);
       watching = o.next_reader ∙ ap (λ (w : List ReaderValue). w ++ o.editor.reader ∷ []) v.watching

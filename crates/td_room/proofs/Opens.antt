@@ -7,6 +7,7 @@ use Rattle.std.specs.List.{AllByRecursion, AllZip}
 use Rattle.std.specs.Option.{option_to_list}
 use Rattle.std.proofs.lemmas.List.Elements.{All-head, All-tail}
 use Rattle.std.proofs.lemmas.List.Sums.{sum_by-cons}
+use Rattle.std.proofs.lemmas.Slice.Zip.{all_zipped_more}
 use Rattle.td_peer.specs.declared.opening.TheConstants.{PLACES}
 use Rattle.logbook.specs.Pages.{Book}
 use Rattle.td_base.specs.declared.site.TheConstants.{MAX_SITE}
@@ -28,7 +29,7 @@ use Rattle.td_room.specs.Workers.{WorkerValue, IsConnected, IsServing, IsWorker,
 use Rattle.td_room.specs.Rooms.{IsAtHome, Joined, editors_of}
 use Rattle.td_room.specs.Opening.{numbers_of, AreNewWorkers, IsOpened, AreOpened, IsRoom}
 use Rattle.td_room.specs.Opening.{IsOpen, AreOpen, AreFreshFrom, OpenedNext}
-use Rattle.td_room.proofs.Walks.{all_map, zip_snoc}
+use Rattle.td_room.proofs.Walks.{all_map}
 
 -- ---- a new worker
 
@@ -224,13 +225,13 @@ open_own done left size lost es site home w v rs rest r l e number same h is spl
             lines = subst (λ (ns : List ℕ). AllZip (λ (k : ℕ) (x : LineValue). IsNewLine k w.site.writer.views x) ns
                 (w.lines ++ l ∷ []))
                 (sym (numbers_own site 1 home done same))
-                (zip_snoc (λ (k : ℕ) (x : LineValue). IsNewLine k w.site.writer.views x) (numbers_of site 1 done)
+                (all_zipped_more (λ (k : ℕ) (x : LineValue). IsNewLine k w.site.writer.views x) (numbers_of site 1 done)
                 w.lines (1 + length done) l
                 o.new.lines (subst (λ (y : ℕ × Book). IsNewLine y.0 y.1 l) (λ i. (number_is i, views i)) line));
           };
           joined = subst (λ (xs : List EditorValue). AllZip (Joined w.site.writer.views) (w.lines ++ l ∷ []) xs)
               (sym (editors_own site es e (h ∙ same)))
-              (zip_snoc (Joined w.site.writer.views) w.lines (editors_of site es) l e o.joined
+              (all_zipped_more (Joined w.site.writer.views) w.lines (editors_of site es) l e o.joined
               (record { belongs = belongs; watches = ap (λ (x : ReaderValue). x.views) reader ∙ views }));
           readers_are = parts.1;
         }

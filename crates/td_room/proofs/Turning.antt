@@ -22,7 +22,8 @@ use Rattle.td_room.specs.Workers.{WorkerValue}
 use Rattle.td_line.specs.Lines.{LineValue}
 use Rattle.std.proofs.lemmas.List.{take-append-le}
 use Rattle.std.proofs.Math.Seq.{take-length}
-use Rattle.td_room.proofs.Walks.{zip_then, zip_on}
+use Rattle.td_base.proofs.Passing.{zip_weaker}
+use Rattle.td_room.proofs.Walks.{zip_then}
 
 longer : {X : Type 0} (xs ys : List X) → IsPrefix xs ys → length xs ≤ length ys
 longer xs ys p =
@@ -210,7 +211,7 @@ turned w v u z later peers lines same caught_up heard lines' site told shown =
       peers = subst (λ (s : SiteValue). AllZip (Exchanged w.site s) w.peers z.peers) (sym site)
           (all_exchanged w.site u.site w.peers u.peers z.peers
           (subst (λ (ps : List PeerState). AllZip (HeardPeer w.site u.site) ps u.peers) peers
-          (zip_on (HeardPeer v.site u.site) (HeardPeer w.site u.site) v.peers u.peers
+          (zip_weaker (HeardPeer v.site u.site) (HeardPeer w.site u.site) v.peers u.peers
           (heard_from w.site v.site u.site later) heard))
           (subst (λ (s : SiteValue). AllZip (ToldPeer s) u.peers z.peers) site told));
       caught_up = subst (λ (s : SiteValue). IsCaughtUp s) (sym site) caught_up;

@@ -76,20 +76,6 @@ zip_set R [] i p q f e r = tt
 zip_set {X} R (x ∷ xs) zero p q f e r = (subst (λ (z : X). R z q) e r, zip_self R xs f)
 zip_set R (x ∷ xs) (suc i) p q f e r = (f x, zip_set R xs i p q f e r)
 
-pub zip_on : {X Y : Type 0} (R S : X → Y → Type 0) (xs : List X) (ys : List Y) → ((x : X) (y : Y) → R x y → S x y)
-    → AllZip R xs ys → AllZip S xs ys
-zip_on R S [] [] f h = tt
-zip_on R S [] (y ∷ ys) f h = absurd h
-zip_on R S (x ∷ xs) [] f h = absurd h
-zip_on R S (x ∷ xs) (y ∷ ys) f h = (f x y h.0, zip_on R S xs ys f h.1)
-
-pub zip_snoc : {X Y : Type 0} (R : X → Y → Type 0) (xs : List X) (ys : List Y) (x : X) (y : Y) → AllZip R xs ys → R x y
-    → AllZip R (xs ++ x ∷ []) (ys ++ y ∷ [])
-zip_snoc R [] [] x y z r = (r, z)
-zip_snoc R [] (b ∷ ys) x y z r = absurd z
-zip_snoc R (a ∷ xs) [] x y z r = absurd z
-zip_snoc R (a ∷ xs) (b ∷ ys) x y z r = (z.0, zip_snoc R xs ys x y z.1 r)
-
 -- ---- all elements
 
 pub all_map : {X : Type 0} (P Q : X → Type 0) (xs : List X) → ((x : X) → P x → Q x) → AllByRecursion P xs

@@ -179,29 +179,6 @@ more_within f ps i d start lt this is =
     let has : length (f d) ≡ length (f (get_or ps i d)) = ap (λ p. length (f p)) this in
     omega (arith, is, has, length-flat_map-take f ps i d lt)
 
--- ---- what a row keeps
-
--- after a piece was put in a part
-pub put_row : {S X : Type 0} (f : S → List X) (ps : List S) (all : List X) (i : ℕ) (d q : S) (run : List X)
-    (r k count : ℕ)
-    → IsSeat f ps k i r → flat_map f ps ≡ all → count ≡ length all → k ≤ length all → d ≡ get_or ps i d → f q
-    ≡ insert_slice (f d) r run
-    → (flat_map f (set ps i q) ≡ insert_slice all k run) × (count + length run ≡ length (flat_map f (set ps i q)))
-put_row f ps all i d q run r k count seat is counted le this put =
-    let done : flat_map f (set ps i q) ≡ insert_slice all k run =
-    put_part f ps i d q run r k seat this put ∙ ap (λ xs. insert_slice xs k run) is in
-    (done, omega (arith, counted, ap length done, length_put all run k le))
-
--- after one was taken out of a part
-pub taken_from_row : {S X : Type 0} (f : S → List X) (ps : List S) (all : List X) (i : ℕ) (d q : S) (r k count : ℕ)
-    → IsSeat f ps k i r → flat_map f ps ≡ all → count ≡ length all → k < length all → d ≡ get_or ps i d → f q
-    ≡ remove (f d) r
-    → (flat_map f (set ps i q) ≡ remove all k) × (count - 1 ≡ length (flat_map f (set ps i q)))
-taken_from_row f ps all i d q r k count seat is counted lt this cut =
-    let done : flat_map f (set ps i q) ≡ remove all k =
-    taken_from_part f ps i d q r k seat (omega (arith, lt, ap length is)) this cut ∙ ap (λ xs. remove xs k) is in
-    (done, omega (arith, counted, ap length done, length_removed all k lt))
-
 -- ---- stretches
 
 minus_zero : (n : ℕ) → n ≡ n - 0

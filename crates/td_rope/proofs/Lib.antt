@@ -1,3 +1,7 @@
 mod Results
 mod Pieces
 mod Joined
+mod Sizes
+mod Offsets
+mod Standard
+mod Chunks

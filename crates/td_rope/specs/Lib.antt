@@ -1,2 +1,4 @@
 pub mod ChunkParts
 pub mod Seats
+pub mod Units
+pub mod Sizes

@@ -1,7 +1,11 @@
 ghost use Rattle.std.specs.Prelude.{◌≡◌, ◌<◌, ◌≤◌, ◌+◌, ◌^◌, ◌++◌, ℕ, List, [], length, remove, slice_get, slice_range};
 ghost use Rattle.std.specs.Prelude.{Some, IfOk, OnErr, OnOk};
 ghost use Rattle.std.specs.List.{concat, insert_slice};
+ghost use Rattle.td_rope.specs.Sizes.{IsSize};
+ghost use Rattle.td_rope.specs.Units.{IsIndexOf, offset_of};
 
+use crate::size::Size;
+use crate::unit::Unit;
 use std::alloc::Global;
 use td_base::{Atom, Bytes, Memory, Run};
 
@@ -18,6 +22,10 @@ pub trait Part: Sized + Drop {
     fn len(&self) -> u32
         ensures { result ≡ length (atoms self.now) };
 
+    /// How much it is. It takes no memory.
+    fn size(&self) -> Size
+        ensures { IsSize (atoms self.now) result };
+
     /// Whether it is to be parted before more is put.
     fn is_full(&self) -> bool;
 
@@ -25,6 +33,15 @@ pub trait Part: Sized + Drop {
     fn atom(&self, index: u32) -> Atom
         requires { index < length (atoms self.now) }
         ensures { slice_get (atoms self.now) index ≡ Some result };
+
+    /// How wide the text is that stands before the atom at an index.
+    fn offset_of(&self, unit: Unit, index: u32) -> u64
+        requires { index ≤ length (atoms self.now) }
+        ensures { result ≡ offset_of unit (atoms self.now) index };
+
+    /// The index of the atom in which an offset lies.
+    fn index_of(&self, unit: Unit, offset: u64) -> u32
+        ensures { IsIndexOf unit (atoms self.now) offset result };
 
     /// Puts the atoms of a run at an index.
     fn put(&mut self, alloc: Global, index: u32, run: &Run) -> Result<(), Memory>

@@ -1,10 +1,12 @@
 ghost use Rattle.std.specs.Prelude.{◌≡◌, ◌<◌, ◌≤◌, ◌++◌, ◌↔◌, [], length, insert, remove, slice_get, slice_range};
 ghost use Rattle.std.specs.Prelude.{IsTrue, OnErr, OnOk};
 ghost use Rattle.std.specs.List.{concat, insert_slice};
+ghost use Rattle.td_rope.specs.Units.{IsIndexOf, offset_of, width};
 
 use crate::chunk::Chunk;
 use crate::part::Part;
 use crate::row::Row;
+use crate::unit::Unit;
 use std::alloc::Global;
 use std::marker::Model;
 use td_base::{Atom, Bytes, Memory, Run};
@@ -58,6 +60,29 @@ impl Rope {
         } else {
             None
         }
+    }
+
+    /// How wide the text is: its length in this unit.
+    pub fn len_in(&self, unit: Unit) -> u64
+        ensures { result ≡ width unit (concat self.now) }
+    {
+        self.rows.size().width_in(unit)
+    }
+
+    /// The offset of an atom: how wide the text before it is. The index behind the last atom has one too.
+    pub fn offset_of(&self, unit: Unit, index: u32) -> u64
+        requires { index ≤ length self.now }
+        ensures { result ≡ offset_of unit self.now index }
+    {
+        self.rows.offset_of(unit, index)
+    }
+
+    /// The index of the atom in which an offset lies: the last one that does not begin behind it. At the end of the
+    /// text and behind it, the number of atoms.
+    pub fn index_of(&self, unit: Unit, offset: u64) -> u32
+        ensures { IsIndexOf unit self.now offset result }
+    {
+        self.rows.index_of(unit, offset)
     }
 
     /// Puts the atom at the index. `Memory` also where there would be 2^32 atoms.

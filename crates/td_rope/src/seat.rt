@@ -1,8 +1,10 @@
-// Where an atom is among parts, and room for more.
-ghost use Rattle.std.specs.Prelude.{◌≡◌, ◌<◌, ◌≤◌, length, flat_map, OnOk};
+// Where an atom is among parts, by its index or by an offset, and room for more.
+ghost use Rattle.std.specs.Prelude.{◌≡◌, ◌<◌, ◌≤◌, ◌^◌, length, flat_map, OnOk};
 ghost use Rattle.td_rope.specs.Seats.{IsSeat};
+ghost use Rattle.td_rope.specs.Units.{IsIndexOf};
 
 use crate::part::Part;
+use crate::unit::Unit;
 use std::alloc::Global;
 use td_base::Memory;
 
@@ -26,6 +28,25 @@ pub fn find<P: Part>(parts: &[P], index: u32) -> Seat
         part += 1;
     }
     Seat { part, index: rest }
+}
+
+/// The index of the atom in which an offset lies.
+pub fn index_of<P: Part>(parts: &[P], unit: Unit, offset: u64) -> u32
+    requires { length (flat_map P.atoms parts.now) < 2 ^ 32 }
+    ensures { IsIndexOf unit (flat_map P.atoms parts.now) offset result }
+{
+    let mut start = 0;
+    let mut rest = offset;
+    for part in parts {
+        let size = part.size();
+        let width = size.width_in(unit);
+        if rest < width {
+            return start + part.index_of(unit, rest);
+        }
+        rest -= width;
+        start += size.atoms;
+    }
+    start
 }
 
 /// Makes room for more at an index: a part that is full is parted, and where there is none, one is made.

@@ -16,11 +16,13 @@ use Rattle.td_check.specs.declared.verdict.Verdict.TheVariants.{No}
 use Rattle.td_script.specs.Faults.{fault_of, judged_lines}
 use Rattle.td_script.specs.Judging.{fault_in, judged_each}
 use Rattle.td_script.specs.Lines.{lines_of}
+use Rattle.td_script.specs.KeptFaults.{kept_after, kept_judged, kept_start}
 use Rattle.td_script.specs.LiveFaults.{live_after, live_judged, live_start}
 use Rattle.td_script.specs.declared.kind.Kind.{Kind}
 use Rattle.td_script.specs.declared.kind.Kind.TheVariants.{Size}
 use Rattle.td_script.specs.declared.live.script.TheConstants.{MAX_LIVE_SCRIPT}
 use Rattle.td_script.specs.declared.script.TheConstants.{MAX_SCRIPT}
+use Rattle.td_script.proofs.KeptScriptLaws.{no_kept_fault}
 use Rattle.td_script.proofs.LiveScriptLaws.{no_live_fault}
 use Rattle.td_script.proofs.ScriptLaws.{no_fault}
 use Rattle.td_run.specs.declared.answer.Answer.{Answer}
@@ -31,7 +33,7 @@ use Rattle.td_run.specs.declared.status.Status.TheVariants.{Done, Memory, Usage,
 use Rattle.td_run.specs.declared.words.Form.{Form}
 use Rattle.td_run.specs.declared.words.Form.TheVariants.{Reads, Gen}
 use Rattle.td_run.specs.declared.words.Language.{Language}
-use Rattle.td_run.specs.declared.words.Language.TheVariants.{Play, Live, Trace}
+use Rattle.td_run.specs.declared.words.Language.TheVariants.{Play, Live, Kept, Trace}
 use Rattle.td_run.specs.Answer.{IsInLanguage, IsOutput, IsPlayed, IsRefused, IsWhole, PutsFront, fault_line}
 use Rattle.td_run.specs.Answer.{first_fault_in, most_bytes, usage_line}
 use Rattle.td_run.specs.Answered.{IsAnswered}
@@ -74,6 +76,12 @@ long_live_script input long =
     else judged_each (live_judged (length input)) live_after 1 (lines_of input) live_start))
     (lt-ltb MAX_LIVE_SCRIPT (length input) long)
 
+pub long_kept_script : RefusesLong Kept
+long_kept_script input long =
+    ap (λ (b : Bool). fault_in (if b then Err (0, Size)
+    else judged_each (kept_judged (length input)) kept_after 1 (lines_of input) kept_start))
+    (lt-ltb MAX_SCRIPT (length input) long)
+
 long_refused : (language : Language) (left : Option (List ℕ)) (bytes : List ℕ) → RefusesLong language
     → IfSome left (λ told. most_bytes language < length told)
     → bytes ≡ fault_line 0 Size → IfSome left (λ told. IsRefused language told bytes)
@@ -91,6 +99,7 @@ no_fault_in : (language : Language) (input : List ℕ) → IsInLanguage language
     → first_fault_in language input ≡ None
 no_fault_in Play input is = no_fault input is.0 is.1
 no_fault_in Live input is = no_live_fault input is.0 is.1
+no_fault_in Kept input is = no_kept_fault input is.0 is.1
 no_fault_in Trace input is = refl
 
 -- two languages are one where they are read by one word
@@ -267,7 +276,7 @@ reading_is_no_gen : (words : List (List ℕ)) (language : Language) (size number
 reading_is_no_gen words language size number reading gen =
     words_differ (word_of language) size number (sym reading ∙ gen.are)
 
--- the three words begin with letters of their own
+-- the four words begin with letters of their own
 play_is_not_live : codes "play" ∷ [] ≡ codes "live" ∷ [] → ⊥
 play_is_not_live e =
     let first : ◌≡◌ {A = ℕ} 112 108 = cc in
@@ -283,17 +292,39 @@ live_is_not_check e =
     let first : ◌≡◌ {A = ℕ} 108 99 = cc in
     omega (arith, first)
 
+play_is_not_kept : codes "play" ∷ [] ≡ codes "kept" ∷ [] → ⊥
+play_is_not_kept e =
+    let first : ◌≡◌ {A = ℕ} 112 107 = cc in
+    omega (arith, first)
+
+live_is_not_kept : codes "live" ∷ [] ≡ codes "kept" ∷ [] → ⊥
+live_is_not_kept e =
+    let first : ◌≡◌ {A = ℕ} 108 107 = cc in
+    omega (arith, first)
+
+kept_is_not_check : codes "kept" ∷ [] ≡ codes "check" ∷ [] → ⊥
+kept_is_not_check e =
+    let first : ◌≡◌ {A = ℕ} 107 99 = cc in
+    omega (arith, first)
+
 -- the words tell the language
 pub language_is : (words : List (List ℕ)) (language other : Language) → IsReading words language
     → IsReading words other → language ≡ other
 language_is words Play Play is also = refl
 language_is words Play Live is also = absurd (play_is_not_live (sym is ∙ also))
+language_is words Play Kept is also = absurd (play_is_not_kept (sym is ∙ also))
 language_is words Play Trace is also = absurd (play_is_not_check (sym is ∙ also))
 language_is words Live Play is also = absurd (play_is_not_live (sym also ∙ is))
 language_is words Live Live is also = refl
+language_is words Live Kept is also = absurd (live_is_not_kept (sym is ∙ also))
 language_is words Live Trace is also = absurd (live_is_not_check (sym is ∙ also))
+language_is words Kept Play is also = absurd (play_is_not_kept (sym also ∙ is))
+language_is words Kept Live is also = absurd (live_is_not_kept (sym also ∙ is))
+language_is words Kept Kept is also = refl
+language_is words Kept Trace is also = absurd (kept_is_not_check (sym is ∙ also))
 language_is words Trace Play is also = absurd (play_is_not_check (sym also ∙ is))
 language_is words Trace Live is also = absurd (live_is_not_check (sym also ∙ is))
+language_is words Trace Kept is also = absurd (kept_is_not_check (sym also ∙ is))
 language_is words Trace Trace is also = refl
 
 pub form_of_reading : (words : List (List ℕ)) (form : Form) (language : Language) → IsFormOf words form

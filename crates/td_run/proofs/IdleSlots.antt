@@ -68,7 +68,8 @@ best_is_slot w i site some within =
     valid slot among =
         let is : is_candidate m slot ≡ true = (In-filter (is_candidate m) slot (map own_slot m.doc) among).1 in
         let some = and_parts (not (is_empty_slot m.doc slot)) (is_known m.doc slot (stable m))
-        (and_parts (not (is_empty_slot m.doc slot) && is_known m.doc slot (stable m)) (not (is_held_over m slot)) is).0 in
+        (and_parts (not (is_empty_slot m.doc slot) && is_known m.doc slot (stable m))
+        (not (is_held_over m slot)) is).0 in
         slot_is m.doc (row_ids_of m r) slot (not-true (is_empty_slot m.doc slot) some.0)
 
     at : (o : Option Counted) → IfSome o (λ (b : Counted). IsSlot b.slot)

@@ -1,5 +1,6 @@
 pub mod OneWord
 pub mod NextEdits
+pub mod KeptEdits
 pub mod Events
 pub mod Offers
 pub mod Sizes
@@ -7,9 +8,11 @@ pub mod IdleSlots
 pub mod Meeting
 pub mod Commands
 pub mod Played
+pub mod KeptSizes
+pub mod KeptPlayed
 pub mod GenWords
 pub mod Answering
-pub mod Kept
+pub mod YesKept
 pub mod ShownAtoms
 pub mod ReplyRanges
 pub mod RequestRanges

@@ -6,11 +6,14 @@ use Rattle.td_check.specs.declared.verdict.Verdict.{Verdict}
 use Rattle.td_reader.specs.declared.trace.TheConstants.{MAX_TRACE}
 use Rattle.td_script.specs.Characters.{line_feed}
 use Rattle.td_script.specs.Faults.{first_fault}
+use Rattle.td_script.specs.KeptFaults.{first_kept_fault}
+use Rattle.td_script.specs.KeptScript.{SpellsKept}
 use Rattle.td_script.specs.LiveFaults.{first_live_fault}
 use Rattle.td_script.specs.Kinds.{kind_name}
 use Rattle.td_script.specs.LiveScript.{SpellsLive}
 use Rattle.td_script.specs.Script.{Spells}
 use Rattle.td_script.specs.Spelling.{spaced}
+use Rattle.td_script.specs.declared.kept.script.KeptScript.{KeptScript}
 use Rattle.td_script.specs.declared.kind.Kind.{Kind}
 use Rattle.td_script.specs.declared.live.script.Live.{Live as LiveScript}
 use Rattle.td_script.specs.declared.live.script.TheConstants.{MAX_LIVE_SCRIPT}
@@ -20,7 +23,8 @@ use Rattle.td_live.specs.Live.{IsLiveTraceOf}
 use Rattle.td_run.specs.declared.status.Status.{Status}
 use Rattle.td_run.specs.declared.status.Status.TheVariants.{Done, Memory, Usage, Script as NoScript, Read, Write}
 use Rattle.td_run.specs.declared.words.Language.{Language}
-use Rattle.td_run.specs.declared.words.Language.TheVariants.{Play, Live, Trace}
+use Rattle.td_run.specs.declared.words.Language.TheVariants.{Play, Live, Kept, Trace}
+use Rattle.td_run.specs.KeptPrinting.{IsKeptOutputOf}
 use Rattle.td_run.specs.Outputs.{IsOutputOf, IsSummary}
 use Rattle.td_run.specs.VerdictLine.{verdict_line}
 use Rattle.td_run.specs.Words.{IsReading, IsGen, IsForm}
@@ -37,25 +41,29 @@ fault_line number kind = codes "fault" ++ (spaced number ++ (codes " " ++ (kind_
 abbrev pub most_bytes : Language → ℕ
 most_bytes Play = MAX_SCRIPT
 most_bytes Live = MAX_LIVE_SCRIPT
+most_bytes Kept = MAX_SCRIPT
 most_bytes Trace = MAX_TRACE
 
 -- the input is in the language: whatever it is, there is a verdict on it as a trace
 abbrev pub IsInLanguage : Language → List ℕ → Type 0
 IsInLanguage Play input = (script : Script) × Spells input script
 IsInLanguage Live input = (script : LiveScript) × SpellsLive input script
+IsInLanguage Kept input = (script : KeptScript) × SpellsKept input script
 IsInLanguage Trace input = ⊤
 
 -- the first faulty line with its first fault; what is wrong with a trace is told by the verdict
 abbrev pub first_fault_in : Language → List ℕ → Option (ℕ × Kind)
 first_fault_in Play input = first_fault input
 first_fault_in Live input = first_live_fault input
+first_fault_in Kept input = first_kept_fault input
 first_fault_in Trace input = None
 
--- the bytes are what the script prints that the input spells, or the trace of what the live script came to, or the
--- line of the verdict on the input
+-- the bytes are what the script or the kept script prints that the input spells, or the trace of what the live script
+-- came to, or the line of the verdict on the input
 abbrev pub IsPlayed : Language → List ℕ → List ℕ → Type 0
 IsPlayed Play input bytes = (script : Script) × Spells input script × IsOutputOf script bytes
 IsPlayed Live input bytes = (script : LiveScript) × SpellsLive input script × IsLiveTraceOf script bytes
+IsPlayed Kept input bytes = (script : KeptScript) × SpellsKept input script × IsKeptOutputOf script bytes
 IsPlayed Trace input bytes = (verdict : Verdict) × IsVerdict input verdict × (bytes ≡ verdict_line verdict)
 
 -- the input is no script, and the bytes name its first faulty line with its first fault

@@ -14,7 +14,7 @@ use Rattle.td_run.specs.declared.status.Status.TheVariants.{Done, Script, Memory
 use Rattle.td_run.specs.declared.words.Form.{Form}
 use Rattle.td_run.specs.declared.words.Form.TheVariants.{Reads, Gen}
 use Rattle.td_run.specs.declared.words.Language.{Language}
-use Rattle.td_run.specs.declared.words.Language.TheVariants.{Play, Live, Trace}
+use Rattle.td_run.specs.declared.words.Language.TheVariants.{Play, Live, Kept, Trace}
 use Rattle.td_run.specs.Answer.{IsPlayed, IsRefused, PutsFront, most_bytes}
 use Rattle.td_run.specs.Outputs.{IsSummary}
 
@@ -45,6 +45,7 @@ IsReads form language = form ≡ Reads language
 abbrev pub IsReadFor : {S : Type 0} → source.Ghosts S → Language → (old new : S) → Type 0
 IsReadFor s Play old new = IsReadToEnd s old new
 IsReadFor s Live old new = IsReadToEnd s old new
+IsReadFor s Kept old new = IsReadToEnd s old new
 IsReadFor s Trace old new = IsReadToEnd s old new ⊎ IsReadPast s (most_bytes Trace) old new
 
 -- by what the source tells of itself: of the command, the source before and after, and what is to be written

@@ -1,6 +1,8 @@
 pub mod Asking
 pub mod Marking
 pub mod Printing
+pub mod KeptAsking
+pub mod KeptPrinting
 pub mod Outputs
 pub mod Words
 pub mod VerdictLine

@@ -4,7 +4,7 @@ use Rattle.std.specs.Fmt.{decimal}
 use Rattle.td_run.specs.declared.words.Form.{Form}
 use Rattle.td_run.specs.declared.words.Form.TheVariants.{Reads, Gen}
 use Rattle.td_run.specs.declared.words.Language.{Language}
-use Rattle.td_run.specs.declared.words.Language.TheVariants.{Play, Live, Trace}
+use Rattle.td_run.specs.declared.words.Language.TheVariants.{Play, Live, Kept, Trace}
 use Rattle.td_gen.specs.declared.generator.TheConstants.{MAX_SIZE}
 use Rattle.td_script.specs.declared.number.TheConstants.{MAX_DIGITS}
 
@@ -12,6 +12,7 @@ use Rattle.td_script.specs.declared.number.TheConstants.{MAX_DIGITS}
 abbrev pub word_of : Language → List ℕ
 word_of Play = codes "play"
 word_of Live = codes "live"
+word_of Kept = codes "kept"
 word_of Trace = codes "check"
 
 -- the one word of a language

@@ -122,7 +122,7 @@ fn delete_all<D: Doc>(
 }
 
 // The index behind so many atoms. A text has fewer than 2^32 of them, so none is put past that.
-fn behind(index: u32, count: u32) -> Result<u32, Memory>
+pub(crate) fn behind(index: u32, count: u32) -> Result<u32, Memory>
     ensures { IfOk result (λ next. next ≡ index + count) }
 {
     match index.checked_add(count) {

@@ -57,7 +57,7 @@ impl<D: Doc> Player<D> {
     }
 }
 
-fn proposal(place: Place) -> Request
+pub(crate) fn proposal(place: Place) -> Request
     ensures { result ≡ proposal place }
 {
     match place {

@@ -10,7 +10,7 @@ ghost use Rattle.td_run.specs.declared.words.Language.TheVariants.{Live, Trace};
 /// A trace with the verdict yes is that of a live family, and of all that happened there the six promises hold: as it
 /// is one that live replicas may have made, whoever made it, its sites converged and agreed. (The trace of a script
 /// without a command has no site.)
-#[tactic(auto, using(crate::proofs::Kept::yes_kept, crate::proofs::Kept::possible_kept))]
+#[tactic(auto, using(crate::proofs::YesKept::yes_kept, crate::proofs::YesKept::possible_kept))]
 pub fn a_trace_with_yes_keeps_the_promises()
     ensures yes { (bytes : List ℕ) → IsVerdict bytes Yes → TracesLiveFamily bytes }
     ensures possible { (bytes : List ℕ) → IsPossible bytes → TracesLiveFamily bytes }

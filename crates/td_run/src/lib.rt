@@ -2,8 +2,9 @@
 //!
 //! Begin at `specs/Printing.antt`, what each command of a script does and prints; at `program`, the call on top; and at
 //! `specs/Answered.antt`, what it promises. `reading` has what comes of an input by its language: of a script for
-//! `play`, of a live script for `live`, of a trace for `check`. A `Player` is a world in which a script is played, with
-//! what was printed so far; `edits`, `flattens`, `giving`, `marking` and `showing` are its commands.
+//! `play`, of a live script for `live`, of a kept script for `kept`, of a trace for `check`. A `Player` is a world in
+//! which a script is played, with what was printed so far; `edits`, `flattens`, `giving`, `marking` and `showing` are
+//! its commands. `kept` has a player of its own, of kept scripts.
 #![tactic(auto)]
 
 mod answer;
@@ -14,6 +15,7 @@ mod flattens;
 mod generated;
 mod giving;
 mod judging;
+mod kept;
 mod laws;
 mod limits;
 mod marking;

@@ -5,7 +5,7 @@ ghost use Rattle.td_run.specs.Words.{IsReading};
 
 use crate::ending::{end, put};
 use crate::generated::summary;
-use crate::reading::{judged, played, traced};
+use crate::reading::{crashed, judged, played, traced};
 use crate::status::Status;
 use crate::words::{Form, Language, asked_for, is_live};
 use std::alloc::Global;
@@ -19,11 +19,11 @@ use td_line::Gate;
 const USAGE: &[u8] = b"usage: treedoc play | live | kept | check | gen SIZE NUMBER\n";
 
 /// Runs the program: with the one word `play` it reads a script from the source and plays it; with `live` it reads a
-/// live script, whose editors and workers run on threads; with `check` it reads a trace and judges it; with
-/// `gen SIZE NUMBER` it plays a generated script. The sink takes the whole output that goes with the status; where that
-/// is `Write` a front of it, and where it is `Read` nothing. What a script of `play` prints is put as it goes, so where
-/// the status is `Memory` a front of that is put; of all other commands nothing is put then. With `live` it may wait,
-/// and where its sites are is told to the gate.
+/// live script, whose editors and workers run on threads; with `kept` it reads a kept script, whose sites crash and
+/// come back; with `check` it reads a trace and judges it; with `gen SIZE NUMBER` it plays a generated script. The sink
+/// takes the whole output that goes with the status; where that is `Write` a front of it, and where it is `Read`
+/// nothing. What a script of `play` prints is put as it goes, so where the status is `Memory` a front of that is put;
+/// of all other commands nothing is put then. With `live` it may wait, and where its sites are is told to the gate.
 pub fn run<S: Source, K: Sink, G: Gate + Sync, R: Threads + Wait + Copy + Send + Sync>(
     rt: &R,
     alloc: Global,
@@ -52,6 +52,7 @@ pub fn run_plain<S: Source, K: Sink>(
 {
     match asked_for(words) {
         Some(Form::Reads(Language::Play)) => played(alloc, source, sink),
+        Some(Form::Reads(Language::Kept)) => end(sink, crashed(alloc, source)),
         Some(Form::Reads(Language::Trace)) => end(sink, judged(alloc, source)),
         Some(Form::Gen { size, number }) => end(sink, summary(alloc, size, number)),
         // the words are not `live`

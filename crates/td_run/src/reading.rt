@@ -4,7 +4,8 @@ ghost use Rattle.std.specs.Prelude.{◌≡◌, IfOk, IsErrOf};
 ghost use Rattle.td_run.specs.declared.answer.Stop.TheVariants.{Read as Unread};
 ghost use Rattle.td_run.specs.declared.status.Status.TheVariants.{Done as IsDone, Script as NoScript};
 ghost use Rattle.td_run.specs.declared.words.Form.TheVariants.{Reads};
-ghost use Rattle.td_run.specs.declared.words.Language.TheVariants.{Play as InPlay, Live as InLive, Trace as InTrace};
+ghost use Rattle.td_run.specs.declared.words.Language.TheVariants.{Play as InPlay, Live as InLive, Kept as InKept};
+ghost use Rattle.td_run.specs.declared.words.Language.TheVariants.{Trace as InTrace};
 ghost use Rattle.td_run.specs.Answer.{fault_line};
 ghost use Rattle.td_run.specs.Answering.{IsAnswerTo, IsInputPlayed, IsPlayedInto, IsPlayedOr};
 ghost use Rattle.td_run.specs.VerdictLine.{verdict_line};
@@ -12,6 +13,7 @@ ghost use Rattle.td_run.specs.VerdictLine.{verdict_line};
 use crate::answer::{Answer, Stop};
 use crate::ending::end;
 use crate::fault::fault_line;
+use crate::kept::play_kept;
 use crate::play::play_out;
 use crate::status::Status;
 use crate::verdict_line::verdict_line;
@@ -23,7 +25,9 @@ use td_io::{ReadFault, Sink, Source, read_all};
 use td_line::Gate;
 use td_live::live_trace;
 use td_reader::MAX_TRACE;
-use td_script::{Kind, MAX_LIVE_SCRIPT, MAX_SCRIPT, ScriptFault, read_live, read_script};
+use td_script::{
+    Kind, MAX_LIVE_SCRIPT, MAX_SCRIPT, ScriptFault, read_kept, read_live, read_script,
+};
 use td_tree::Tree;
 
 /// Reads a script and plays it. What it prints is put as it goes.
@@ -80,6 +84,33 @@ fn traced_or_refused<G: Gate + Sync, R: Threads + Wait + Copy + Send + Sync>(
         Ok(script) => Ok(Answer {
             status: Status::Done,
             bytes: live_trace(rt, alloc, script, gate)?,
+        }),
+        Err(ScriptFault::Fault { line, kind }) => refused(alloc, line, kind),
+        Err(ScriptFault::Memory) => Err(Stop::Memory),
+    }
+}
+
+/// Reads a kept script and plays it.
+pub(crate) fn crashed<S: Source>(alloc: Global, source: &mut S) -> Result<Answer, Stop>
+    ensures { IsAnswerTo S.Source (Reads InKept) source.old source.new result }
+{
+    match read_all(alloc, source, MAX_SCRIPT as u32) {
+        Ok(input) => crashed_or_refused(alloc, input.as_slice()),
+        Err(ReadFault::Failed) => Err(Stop::Read),
+        Err(ReadFault::TooLong) => refused(alloc, 0, Kind::Size),
+        Err(ReadFault::Memory) => Err(Stop::Memory),
+    }
+}
+
+// The same of an input that was read to its end.
+fn crashed_or_refused(alloc: Global, input: &[u8]) -> Result<Answer, Stop>
+    ensures answer { IfOk result (λ a. IsPlayedOr InKept input.now a.status a.bytes) }
+    ensures read { IsErrOf result Unread → ⊥ }
+{
+    match read_kept(alloc, input) {
+        Ok(script) => Ok(Answer {
+            status: Status::Done,
+            bytes: play_kept::<Tree>(alloc, &script)?,
         }),
         Err(ScriptFault::Fault { line, kind }) => refused(alloc, line, kind),
         Err(ScriptFault::Memory) => Err(Stop::Memory),

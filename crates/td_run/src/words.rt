@@ -12,6 +12,8 @@ pub enum Language {
     Play,
     /// `live`: a live script.
     Live,
+    /// `kept`: a kept script.
+    Kept,
     /// `check`: a trace.
     Trace,
 }
@@ -54,6 +56,9 @@ fn language_of(word: &Bytes) -> Option<Language>
     }
     if is_word(word, b"live") {
         return Some(Language::Live);
+    }
+    if is_word(word, b"kept") {
+        return Some(Language::Kept);
     }
     if is_word(word, b"check") {
         return Some(Language::Trace);

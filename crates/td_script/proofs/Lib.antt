@@ -23,3 +23,9 @@ pub mod LiveScriptLaws
 pub mod ReadLive
 pub mod LiveWritingLaws
 pub mod LiveFits
+pub mod KeptLineLaws
+pub mod KeptWritingLaws
+pub mod KeptScriptLaws
+pub mod ReadKept
+pub mod HexLaws
+pub mod ShellLaws

@@ -4,8 +4,6 @@ use Rattle.std.proofs.Common.{◌≡◌, ◌≤◌, ◌+◌, ℕ, true, not, Lis
 use Rattle.std.proofs.Common.{ap, subst, ◌∙◌, length-append, arith}
 use Rattle.std.proofs.lemmas.List.Elements.{All-nil, All-cons, All-head, All-tail, All-map}
 use Rattle.td_base.specs.declared.site.TheConstants.{MAX_SITE}
-use Rattle.td_script.specs.declared.command.Place.{Place}
-use Rattle.td_script.specs.declared.command.Place.TheVariants.{Root, Beside}
 use Rattle.td_script.specs.declared.live.command.LiveCommand.{LiveCommand}
 use Rattle.td_script.specs.declared.live.command.LiveCommand.TheVariants.{Sites, Turns, Loss, Editor, Line}
 use Rattle.td_script.specs.declared.live.editor_line.EditorLine.{EditorLine}
@@ -17,17 +15,13 @@ use Rattle.td_script.specs.LiveScript.{AreDeclared, AreLiveCommands, IsDeclared}
 use Rattle.td_script.specs.LiveScript.{IsEditorLine, IsLiveCommand, IsLiveScript}
 use Rattle.td_script.specs.LiveScript.{IsLiveWritable, SpellsLive, home_of_command, homes_in, live_of, live_spelled}
 use Rattle.td_script.specs.LiveSpelling.{line_of_editor, live_line_of}
-use Rattle.td_script.specs.Script.{IsLine, IsPlace, IsSiteOf}
-use Rattle.td_script.specs.Spelling.{spaced, spaced_bit, spaced_dot, spaced_place, spaced_text}
+use Rattle.td_script.specs.Script.{IsLine, IsSiteOf}
+use Rattle.td_script.specs.Spelling.{spaced, spaced_dot, spaced_place, spaced_text}
 use Rattle.td_script.proofs.JudgingLaws.{all_spoken, lines_of_written}
 use Rattle.td_script.proofs.LiveLineLaws.{live_spoken}
-use Rattle.td_script.proofs.WritingLaws.{IsClean, alone_clean, bit_clean, both, by_test}
-use Rattle.td_script.proofs.WritingLaws.{dot_clean, line_clean, spaced_clean}
+use Rattle.td_script.proofs.WritingLaws.{IsClean, alone_clean, both, by_test}
+use Rattle.td_script.proofs.WritingLaws.{dot_clean, line_clean, place_clean, spaced_clean}
 use Rattle.td_script.proofs.WritingLaws.{text_clean, text_line}
-
-place_clean : (place : Place) → IsPlace place → IsClean (spaced_place place)
-place_clean Root h = by_test (codes " root") refl refl
-place_clean (Beside index bit) h = both (spaced index) (spaced_bit bit) (spaced_clean index h) (bit_clean bit)
 
 editor_line_clean : (sites editor : ℕ) (line : EditorLine) → sites ≤ MAX_SITE → IsSiteOf MAX_SITE editor
     → IsEditorLine sites line → IsLiveWritable (Line editor line) → IsClean (line_of_editor editor line)

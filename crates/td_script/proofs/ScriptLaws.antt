@@ -113,7 +113,7 @@ limit_there least sites greatest sum h =
     (λ (few : sites ≤ least). and_left (ltb least sites) (ltb greatest sum) (le-ltb least sites few))
     (cases_lt least sites)
 
-within_back : (sites sum : ℕ) → is_too_much sites sum ≡ false → IsWithin sites sum
+pub within_back : (sites sum : ℕ) → is_too_much sites sum ≡ false → IsWithin sites sum
 within_back sites sum e =
     let parts : ((ltb 16 sites && ltb MAX_WIDE_REQUESTS sum) ≡ false)
     × ((ltb 8 sites && ltb MAX_MIDDLE_REQUESTS sum) ≡ false) =
@@ -123,7 +123,7 @@ within_back sites sum e =
       middle = limit_back 8 sites MAX_MIDDLE_REQUESTS sum parts.1;
     }
 
-within_there : (sites sum : ℕ) → IsWithin sites sum → is_too_much sites sum ≡ false
+pub within_there : (sites sum : ℕ) → IsWithin sites sum → is_too_much sites sum ≡ false
 within_there sites sum h =
     or_from (ltb 16 sites && ltb MAX_WIDE_REQUESTS sum) (ltb 8 sites && ltb MAX_MIDDLE_REQUESTS sum)
     (limit_there 16 sites MAX_WIDE_REQUESTS sum h.wide) (limit_there 8 sites MAX_MIDDLE_REQUESTS sum h.middle)
@@ -191,7 +191,7 @@ narrow_back size n e h = limit_back 16 n MAX_WIDE_SCRIPT size e h
 pub narrow_there : (size n : ℕ) → (16 < n → size ≤ MAX_WIDE_SCRIPT) → is_too_wide size n ≡ false
 narrow_there size n h = limit_there 16 n MAX_WIDE_SCRIPT size h
 
-nothing_within : (sites : ℕ) → IsWithin sites 0
+pub nothing_within : (sites : ℕ) → IsWithin sites 0
 nothing_within sites = record { wide = λ h. omega arith; middle = λ h. omega arith }
 
 pub start_back : (size : ℕ) (cs : List Command) → AreMore size start cs → IsScriptOf size cs (after_all start cs).sites

@@ -1,6 +1,6 @@
 -- How the last argument of a line is read where it is a text.
 use Rattle.std.proofs.Common.{◌≡◌, ◌≢◌, ◌<◌, ◌≤◌, ℕ, true, false, eqb, List, [], ◌∷◌, ◌++◌, length}
-use Rattle.std.proofs.Common.{All, Some, Ok, Err, refl, sym, ap, subst, ◌∙◌, arith}
+use Rattle.std.proofs.Common.{All, Some, Result, Ok, Err, refl, sym, ap, subst, ◌∙◌, arith}
 use Rattle.std.specs.List.{list_all}
 use Rattle.std.proofs.lemmas.Bool.{eqb-true, cond-true, cond-false, false_from_ne_true}
 use Rattle.std.proofs.lemmas.Bool.{le-leb, lt-leb, and_left, and_right}
@@ -9,8 +9,10 @@ use Rattle.std.proofs.lemmas.List.Elements.{All-weaker}
 use Rattle.td_base.specs.Atom.{IsAtom}
 use Rattle.td_base.specs.declared.atom.TheConstants.{MAX_ATOM_LEN}
 use Rattle.unicode_segmentation.specs.Grapheme.{graphemes}
+use Rattle.td_script.specs.declared.kind.Kind.{Kind}
 use Rattle.td_script.specs.declared.kind.Kind.TheVariants.{End, Quote, Atom}
-use Rattle.td_script.specs.Arguments.{Reading, argument, behind, last, opened, clusters_of, text_at}
+use Rattle.td_script.specs.Arguments.{Reading, argument, behind, cluster_at, cluster_of, clusters_of, last, opened}
+use Rattle.td_script.specs.Arguments.{text_at, with_rest}
 use Rattle.td_text.specs.Clusters.{IsFirstLong}
 use Rattle.td_script.specs.Texts.{is_short, unquoted}
 
@@ -58,21 +60,41 @@ pub no_opening : (rest all : List ℕ) → argument rest ≡ Ok all → ((inner 
 no_opening rest all begins none = ap opened begins ∙ opened_none all none
 
 pub long_text : (rest text left : List ℕ) (index : ℕ) → text_at rest ≡ clusters_of (Some (text, left))
-    → IsFirstLong (graphemes true text) index → behind (text_at rest) last ≡ Err Atom
+    → IsFirstLong (graphemes true text) index → text_at rest ≡ Err Atom
 long_text rest text left index e long =
-    ap (λ (r : Reading Atoms). behind r last) (e ∙ cond-false {A = Reading Atoms}
-    (list_all is_short (graphemes true text)) (Ok (graphemes true text, left)) (Err Atom)
-    (some_long (graphemes true text) index long))
+    e ∙ cond-false {A = Reading Atoms} (list_all is_short (graphemes true text)) (Ok (graphemes true text, left))
+    (Err Atom) (some_long (graphemes true text) index long)
 
-pub short_text : (rest text left : List ℕ) → text_at rest ≡ clusters_of (Some (text, left))
-    → All IsAtom (graphemes true text) → text_at rest ≡ Ok (graphemes true text, left)
-short_text rest text left e each =
+-- a text whose clusters are atoms
+pub whole_text : (rest text left : List ℕ) (atoms : Atoms) → text_at rest ≡ clusters_of (Some (text, left))
+    → atoms ≡ graphemes true text → All IsAtom atoms → text_at rest ≡ Ok (atoms, left)
+whole_text rest text left atoms e same each =
     e ∙ cond-true {A = Reading Atoms} (list_all is_short (graphemes true text)) (Ok (graphemes true text, left))
-    (Err Atom) (all_short (graphemes true text) each)
+    (Err Atom) (all_short (graphemes true text) (subst (All IsAtom) same each))
+    ∙ ap (λ (xs : Atoms). Ok (xs, left)) (sym same)
 
--- a text whose clusters are atoms, and what is left behind it
-pub text_then_last : (rest text left : List ℕ) (atoms : Atoms) → text_at rest ≡ clusters_of (Some (text, left))
-    → atoms ≡ graphemes true text → All IsAtom atoms → behind (text_at rest) last ≡ last atoms left
-text_then_last rest text left atoms e same each =
-    ap (λ (r : Reading Atoms). behind r last) (short_text rest text left e (subst (All IsAtom) same each))
-    ∙ ap (λ (xs : Atoms). last xs left) (sym same)
+-- what is judged of the last argument where so much is left behind it
+pub text_then_last : (rest left : List ℕ) (atoms : Atoms) → text_at rest ≡ Ok (atoms, left)
+    → behind (text_at rest) last ≡ last atoms left
+text_then_last rest left atoms e = ap (λ (r : Reading Atoms). behind r last) e
+
+pub text_fault : (rest : List ℕ) (kind : Kind) → text_at rest ≡ Err kind → behind (text_at rest) last ≡ Err kind
+text_fault rest kind e = ap (λ (r : Reading Atoms). behind r last) e
+
+-- and where the text is one cluster
+pub cluster_then_last : (rest left atom : List ℕ) (atoms : Atoms) → text_at rest ≡ Ok (atoms, left)
+    → cluster_of atoms ≡ Ok atom → behind (cluster_at rest) last ≡ last atom left
+cluster_then_last rest left atom atoms e one =
+    ap (λ (r : Reading Atoms). behind (behind r (λ clusters rest. with_rest rest (cluster_of clusters))) last) e
+    ∙ ap (λ (r : Result (List ℕ) Kind). behind (with_rest left r) last) one
+
+pub no_cluster : (rest left : List ℕ) (atoms : Atoms) (kind : Kind) → text_at rest ≡ Ok (atoms, left)
+    → cluster_of atoms ≡ Err kind → behind (cluster_at rest) last ≡ Err kind
+no_cluster rest left atoms kind e none =
+    ap (λ (r : Reading Atoms). behind (behind r (λ clusters rest. with_rest rest (cluster_of clusters))) last) e
+    ∙ ap (λ (r : Result (List ℕ) Kind). behind (with_rest left r) last) none
+
+pub cluster_fault : (rest : List ℕ) (kind : Kind) → text_at rest ≡ Err kind
+    → behind (cluster_at rest) last ≡ Err kind
+cluster_fault rest kind e =
+    ap (λ (r : Reading Atoms). behind (behind r (λ clusters rest. with_rest rest (cluster_of clusters))) last) e

@@ -20,11 +20,12 @@ use Rattle.td_script.specs.declared.command.Command.{Command}
 use Rattle.td_script.specs.declared.command.Command.TheVariants.{Sites, Ins, Paste, Del, Flat, FlatAuto, Cancel, Give}
 use Rattle.td_script.specs.declared.command.Command.TheVariants.{GiveAll, Settle, Show, Tree, Count}
 use Rattle.td_script.specs.declared.command.Command.TheVariants.{Mark, Meet, Marks}
+use Rattle.td_script.specs.declared.command.Place.{Place}
 use Rattle.td_script.specs.declared.command.Place.TheVariants.{Root, Beside}
 use Rattle.std.specs.Char.{is_ascii_control}
 use Rattle.td_script.specs.Lines.{is_text_line}
-use Rattle.td_script.specs.Script.{IsClusters, IsCommand, IsDotOf, IsNumber, IsSiteOf, IsTextByte, IsWritable}
-use Rattle.td_script.specs.Spelling.{line_of, spaced, spaced_bit, spaced_dot, spaced_text}
+use Rattle.td_script.specs.Script.{IsClusters, IsCommand, IsDotOf, IsNumber, IsPlace, IsSiteOf, IsTextByte, IsWritable}
+use Rattle.td_script.specs.Spelling.{line_of, spaced, spaced_bit, spaced_dot, spaced_place, spaced_text}
 use Rattle.td_script.specs.Texts.{escaped}
 use Rattle.td_script.proofs.SharedLaws.{decimal_utf8}
 use Rattle.td_script.proofs.LineLaws.{ascii_by_test}
@@ -78,6 +79,10 @@ dot_clean sites d few h = both (spaced d.site) (46 ∷ decimal d.seq) (site_clea
 pub bit_clean : (bit : Bit) → IsClean (spaced_bit bit)
 bit_clean Left = by_test (codes " left") refl refl
 bit_clean Right = by_test (codes " right") refl refl
+
+pub place_clean : (place : Place) → IsPlace place → IsClean (spaced_place place)
+place_clean Root h = by_test (codes " root") refl refl
+place_clean (Beside index bit) h = both (spaced index) (spaced_bit bit) (spaced_clean index h) (bit_clean bit)
 
 byte_plain : (b : ℕ) (x y z : Bool) → eqb b 10 ≡ z → IsTextByte b
     → list_any is_ascii_control (cond x (92 ∷ 34 ∷ []) (cond y (92 ∷ 92 ∷ []) (cond z (92 ∷ 110 ∷ []) (b ∷ [])))) ≡

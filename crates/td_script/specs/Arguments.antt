@@ -132,3 +132,13 @@ opened (Ok (byte ∷ bytes)) = if byte == quote then clusters_of (unquoted false
 -- a text in quotes, in clusters
 abbrev pub text_at : List ℕ → Reading (List (List ℕ))
 text_at rest = opened (argument rest)
+
+-- the one cluster that a text is
+abbrev pub cluster_of : List (List ℕ) → Result (List ℕ) Kind
+cluster_of [] = Err Fault.Atom
+cluster_of (cluster ∷ []) = Ok cluster
+cluster_of (_ ∷ _ ∷ _) = Err Fault.Atom
+
+-- a text in quotes that is one cluster
+abbrev pub cluster_at : List ℕ → Reading (List ℕ)
+cluster_at rest = behind (text_at rest) (λ clusters rest. with_rest rest (cluster_of clusters))

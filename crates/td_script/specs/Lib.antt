@@ -16,3 +16,10 @@ pub mod LiveWords
 pub mod LiveSpelling
 pub mod LiveScript
 pub mod LiveFaults
+pub mod KeptWords
+pub mod KeptSpelling
+pub mod KeptScript
+pub mod KeptFaults
+pub mod Hex
+pub mod ShellWords
+pub mod ShellFaults

@@ -37,9 +37,7 @@ impl Before {
         requires { self.requests < 2 ^ 63 }
         ensures { result ≡ is_too_much self.sites (self.requests + requests command.now) }
     {
-        let sum = self.requests + requests(command);
-        (self.sites > MAX_NARROW && sum > MAX_WIDE_REQUESTS)
-            || (self.sites > MAX_FREE && sum > MAX_MIDDLE_REQUESTS)
+        is_too_much(self.sites, self.requests + requests(command))
     }
 
     /// What stands before the line behind the command.
@@ -57,6 +55,14 @@ impl Before {
             requests: self.requests + requests(command),
         }
     }
+}
+
+/// Whether so many requests are too many for so many sites.
+pub(crate) fn is_too_much(sites: u8, sum: u64) -> bool
+    ensures { result ≡ is_too_much sites sum }
+{
+    (sites > MAX_NARROW && sum > MAX_WIDE_REQUESTS)
+        || (sites > MAX_FREE && sum > MAX_MIDDLE_REQUESTS)
 }
 
 // What the command adds to the sum.

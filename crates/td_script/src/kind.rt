@@ -94,9 +94,13 @@ impl From<Memory> for ScriptFault {
 }
 
 /// Why a line was not read.
-#[derive(Clone, Copy, Debug, PartialEq, Eq)]
-pub(crate) enum LineFault {
+#[derive(Clone, Copy, Debug, PartialEq, Eq, Error)]
+pub enum LineFault {
+    /// The first thing wrong with it.
+    #[error("{0}")]
     Faulty(Kind),
+    /// Want of memory.
+    #[error("out of memory")]
     Memory,
 }
 

@@ -1,17 +1,40 @@
 ghost use Rattle.std.specs.Prelude.{◌≡◌, ◌≤◌, false, IfOk, IfSome, IfNone, Some, None, length, drop, string_bytes};
-ghost use Rattle.td_script.specs.Answers.{IsLineAnswer};
-ghost use Rattle.td_script.specs.Arguments.{behind, last, text_at};
+ghost use Rattle.td_script.specs.Answers.{IsLineAnswer, IsTextAnswer};
+ghost use Rattle.td_script.specs.Arguments.{behind, cluster_at, cluster_of, last, text_at};
 ghost use Rattle.td_script.specs.Texts.{unescaped, unquoted};
 
 use crate::argument::argument;
 use crate::kind::{Kind, LineFault};
 use std::alloc::Global;
-use td_base::Memory;
+use td_base::{Atom, Memory};
 use td_text::{AtomList, CutFault, cut};
 
 /// The text in quotes that is the last argument of a line, in clusters.
 pub(crate) fn last_text(alloc: Global, rest: &str) -> Result<AtomList, LineFault>
     ensures { IsLineAnswer (behind (text_at rest.now) last) result }
+{
+    let (atoms, left) = text(alloc, rest)?;
+    if left > 0 {
+        return Err(LineFault::Faulty(Kind::End));
+    }
+    Ok(atoms)
+}
+
+/// The text of one cluster that is the last argument of a line.
+pub(crate) fn last_cluster(alloc: Global, rest: &str) -> Result<Atom, LineFault>
+    ensures { IsLineAnswer (behind (cluster_at rest.now) last) result }
+{
+    let (atoms, left) = text(alloc, rest)?;
+    let atom = cluster(atoms)?;
+    if left > 0 {
+        return Err(LineFault::Faulty(Kind::End));
+    }
+    Ok(atom)
+}
+
+// A text in quotes, in clusters, and how many bytes are left behind it.
+fn text(alloc: Global, rest: &str) -> Result<(AtomList, usize), LineFault>
+    ensures { IsTextAnswer rest.now result }
 {
     let argument = argument(rest)?;
     let Some(quoted) = argument.strip_prefix('"') else {
@@ -23,8 +46,19 @@ pub(crate) fn last_text(alloc: Global, rest: &str) -> Result<AtomList, LineFault
     match cut(alloc, &text) {
         Err(CutFault::Memory) => Err(LineFault::Memory),
         Err(CutFault::Long { .. }) => Err(LineFault::Faulty(Kind::Atom)),
-        Ok(_) if len < quoted.len() => Err(LineFault::Faulty(Kind::End)),
-        Ok(atoms) => Ok(atoms),
+        Ok(atoms) => Ok((atoms, quoted.len() - len)),
+    }
+}
+
+// The one cluster that the text is.
+fn cluster(atoms: AtomList) -> Result<Atom, Kind>
+    ensures { result ≡ cluster_of atoms }
+{
+    let mut atoms = atoms.into_atoms();
+    let first = atoms.next_atom().ok_or(Kind::Atom)?;
+    match atoms.next_atom() {
+        None => Ok(first),
+        Some(_) => Err(Kind::Atom),
     }
 }
 

@@ -123,7 +123,8 @@ module _ (m : Machine) (o : OpsValue) (w : Numbers) (stored : AreStored m.size o
           ap (λ (ops : List OpValue). record m { waiting = ops }) (sym (ops-others_than m.size o.ops x.dot w stored))
       at None =
           take_with x (without x.dot (ops_waiting o.ops w)) m
-          ∙ ap (λ (ops : List OpValue). record (take x m) { waiting = ops }) (sym (ops-others_than m.size o.ops x.dot w stored))
+          ∙ ap (λ (ops : List OpValue). record (take x m) { waiting = ops })
+          (sym (ops-others_than m.size o.ops x.dot w stored))
 
   pub up_bare : (step m (Take (AnOp x))).machine.waiting ≡ []
   up_bare = ap (λ (s : Stepped). s.machine.waiting) alone ∙ at (misfit x m)

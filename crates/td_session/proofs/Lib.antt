@@ -1,2 +1,4 @@
 pub mod FirstRun
 pub mod LiveAtoms
+pub mod Steps
+pub mod Loading

@@ -1,12 +1,10 @@
 -- The atoms that a document shows, found by their places.
-use Rattle.std.proofs.Common.{◌≡◌, ◌∙◌, ◌<◌, ◌≤◌, ◌+◌, ◌-◌, ℕ, suc, List, [], ◌∷◌, ◌++◌, Option, Some, None}
-use Rattle.std.proofs.Common.{ap, append-nil, arith, drop, length, refl, subst, sym, take}
-use Rattle.std.proofs.Common.{get_or-drop, length-drop, take-suc}
-use Rattle.std.specs.Prelude.{get_or, slice_get}
-use Rattle.std.specs.List.{concat}
+use Rattle.std.proofs.Common.{◌≡◌, ◌∙◌, ◌<◌, ◌+◌, ℕ, List, [], ◌∷◌, ◌++◌, Option, Some, None}
+use Rattle.std.proofs.Common.{ap, arith, drop, length, refl, subst, sym, take}
+use Rattle.std.specs.Prelude.{get_or, insert, slice_get}
 use Rattle.std.specs.Option.{option_map, unwrap_or}
-use Rattle.std.proofs.lemmas.List.Folds.{concat-append}
-use Rattle.std.proofs.lemmas.Option.{none-some, same_Some, slice_get-map, unwrap_or-slice_get}
+use Rattle.std.proofs.lemmas.List.{drop_all, length-take, take-take, take_more}
+use Rattle.std.proofs.lemmas.Option.{none-some, same_Some, slice_get-get_or, slice_get-map, unwrap_or-slice_get}
 use Rattle.td_base.specs.Value.{AtomIdValue}
 use Rattle.td_base.proofs.Elements.{In-slice_get}
 use Rattle.td_base.proofs.Lists.{In-filter}
@@ -71,24 +69,15 @@ none_by rows k None at e = slice_get-map (λ (q : DocRow). q.atom) (live_rows ro
     ∙ ap (option_map (λ (q : DocRow). q.atom)) at
 none_by rows k (Some r) at e = absurd (none-some (row_id r) (sym e))
 
-pub none_shown : (rows : List DocRow) (k : ℕ) → live_id_at rows k ≡ None → [] ≡ get_or (live_atoms rows) k []
-none_shown rows k e =
-    sym (ap (λ (o : Option (List ℕ)). unwrap_or o []) (none_by rows k (slice_get (live_rows rows) k) refl e))
-    ∙ unwrap_or-slice_get (live_atoms rows) k []
+pub some_shown : (rows : List DocRow) (k : ℕ) → k < length (live_atoms rows) → live_id_at rows k ≡ None → ⊥
+some_shown rows k lt e =
+    none-some (get_or (live_atoms rows) k [])
+    (sym (none_by rows k (slice_get (live_rows rows) k) refl e) ∙ slice_get-get_or (live_atoms rows) k [] lt)
 
--- one more atom of a stretch
-pub stretched : (atoms : List (List ℕ)) (from index : ℕ) → from ≤ index → index < length atoms
-    → concat (take (index - from) (drop from atoms)) ++ get_or atoms index []
-    ≡ concat (take (index + 1 - from) (drop from atoms))
-stretched atoms from index low high =
-    let k : ℕ = index - from in
-    let left : List (List ℕ) = drop from atoms in
-    let more : index + 1 - from ≡ suc k = omega (arith, low) in
-    let there : from + k ≡ index = omega (arith, low) in
-    let within : k < length left = omega (arith, low, high, length-drop from atoms) in
-    let same : get_or atoms index [] ≡ get_or left k [] =
-    sym (get_or-drop from atoms k [] ∙ ap (λ (n : ℕ). get_or atoms n []) there) in
-    ap (λ (atom : List ℕ). concat (take k left) ++ atom) (same ∙ sym (append-nil (get_or left k [])))
-    ∙ sym (concat-append (take k left) (get_or left k [] ∷ []))
-    ∙ ap concat (sym (take-suc left k [] within))
-    ∙ ap (λ (n : ℕ). concat (take n left)) (sym more)
+-- one more atom behind those before it
+pub put_next : (atoms : List (List ℕ)) (i : ℕ) → i < length atoms
+    → insert (take i atoms) i (get_or atoms i []) ≡ take (i + 1) atoms
+put_next atoms i lt =
+    let front : take i (take i atoms) ≡ take i atoms = take-take i i atoms (omega arith) in
+    let behind : drop i (take i atoms) ≡ [] = drop_all i (take i atoms) (omega (arith, length-take i atoms)) in
+    (λ j. front j ++ get_or atoms i [] ∷ behind j) ∙ sym (take_more atoms i [] lt)

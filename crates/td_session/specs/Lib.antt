@@ -1,2 +1,4 @@
 pub mod Calls
 pub mod Reads
+pub mod Places
+pub mod Saved

@@ -24,6 +24,16 @@ pub enum Fault {
     /// No stretch of the text: it ends before it begins, or past the atoms.
     #[error("the text has no such stretch")]
     Stretch,
+    /// No place in the text: it is past the end.
+    #[error("the text has no such place")]
+    Position,
+    /// No journal of the site: the first part of the bytes that is none begins at `at`, the byte of the header that
+    /// differs, or the beginning of a record.
+    #[error("the bytes are no journal of the site from byte {at} on")]
+    Journal { at: u32 },
+    /// The journal has more than `td_disk::MAX_DISK_LEN` bytes, or would have.
+    #[error("the journal is too long")]
+    Long,
 }
 
 impl From<Memory> for Fault {

@@ -1,8 +1,9 @@
-ghost use Rattle.std.specs.Prelude.{◌≡◌, ◌++◌, ◌≤◌, [], length, get_or, IfErr, IfOk, OnOk};
-ghost use Rattle.td_doc.specs.Document.{IsDocument, live_atoms, live_rows, text_of};
+ghost use Rattle.std.specs.Prelude.{◌≡◌, length, slice_range, IfErr, IfOk};
+ghost use Rattle.std.specs.List.{concat};
+ghost use Rattle.td_doc.specs.Document.{live_rows, text_of};
 ghost use Rattle.td_machine.specs.Machine.{made};
 ghost use Rattle.td_session.specs.declared.fault.Fault.TheVariants.{Memory as OutOfMemory};
-ghost use Rattle.td_session.specs.Reads.{IsHad, IsStretchOf, stretch};
+ghost use Rattle.td_session.specs.Reads.{IsHad, IsStretchOf};
 
 use crate::fault::Fault;
 use crate::session::Session;
@@ -10,6 +11,7 @@ use std::alloc::Global;
 use td_base::{Bytes, Memory, Site};
 use td_doc::Doc;
 use td_op::Change;
+use td_rope::Rope;
 
 impl Session {
     /// The own site.
@@ -45,18 +47,20 @@ impl Session {
     }
 
     /// The text of the atoms from one index on and before another.
-    pub fn stretch(&self, from: u32, upto: u32) -> Result<Bytes, Fault>
-        ensures { IsStretchOf from upto self.now.machine.doc result }
+    pub fn stretch(&mut self, from: u32, upto: u32) -> Result<Bytes, Fault>
+        ensures same { self.new ≡ self.old }
+        ensures told { IsStretchOf from upto self.old.machine.doc result }
     {
-        // tells that the replica has a legal history, so that its document obeys the rules of one
-        let _entries = self.replica.entries();
-        let doc = self.replica.doc();
-        if from > upto || upto > doc.live() {
+        if from > upto || upto > self.len() {
             return Err(Fault::Stretch);
         }
-        match stretch(self.alloc, doc, from, upto) {
-            Ok(text) => Ok(text),
-            Err(Memory) => Err(Fault::Memory),
+        match self.take_rope() {
+            Ok(rope) => {
+                let text = between(self.alloc, &rope, from, upto);
+                self.rope = Some(rope);
+                text
+            }
+            Err(fault) => Err(fault),
         }
     }
 
@@ -100,30 +104,14 @@ impl Session {
     }
 }
 
-// The text of the live atoms from one index on and before another.
-fn stretch<D: Doc>(alloc: Global, doc: &D, from: u32, upto: u32) -> Result<Bytes, Memory>
-    requires rules { IsDocument (D.rows doc.now) }
-    requires ordered { from ≤ upto }
-    requires within { upto ≤ length (live_rows (D.rows doc.now)) }
-    ensures { IfOk result (λ text. text ≡ stretch from upto (D.rows doc.now)) }
+// The bytes of the atoms from one index on and before another.
+fn between(alloc: Global, rope: &Rope, from: u32, upto: u32) -> Result<Bytes, Fault>
+    ensures ok { IfOk result (λ text. text ≡ concat (slice_range rope.now from upto)) }
+    ensures err { IfErr result (λ fault. fault ≡ OutOfMemory) }
 {
     let mut text = Bytes::new(alloc);
-    for index in from..upto {
-        push_atom(&mut text, doc, index)?;
+    match rope.push_range(from, upto, &mut text) {
+        Ok(()) => Ok(text),
+        Err(Memory) => Err(Fault::Memory),
     }
-    Ok(text)
-}
-
-// The live atom at an index, where there is one.
-fn push_atom<D: Doc>(text: &mut Bytes, doc: &D, index: u32) -> Result<(), Memory>
-    requires { IsDocument (D.rows doc.now) }
-    ensures { OnOk result (text.new ≡ text.old ++ get_or (live_atoms (D.rows doc.now)) index []) }
-{
-    let Some(id) = doc.live_at(index) else {
-        return Ok(());
-    };
-    let Some(row) = doc.find(id) else {
-        unreachable!()
-    };
-    text.push(row.atom.bytes())
 }

@@ -1,20 +1,25 @@
 ghost use Rattle.std.specs.Prelude.{◌≡◌, ◌⊎◌, IfErr, IfOk};
 ghost use Rattle.std.specs.Option.{SomeIff};
 ghost use Rattle.td_base.specs.Value.{IsDot};
+ghost use Rattle.td_doc.specs.Document.{live_atoms};
 ghost use Rattle.td_path.specs.declared.slot.Slot.TheVariants.{Root};
 ghost use Rattle.td_op.specs.declared.input.Input.TheVariants.{Local, Next};
 ghost use Rattle.td_op.specs.declared.request.Request.TheVariants.{Delete, Propose, ProposeAt};
+ghost use Rattle.td_replica.specs.Calls.{IsStepOf};
 ghost use Rattle.td_session.specs.declared.fault.Fault.TheVariants.{Memory as OutOfMemory, Text};
 ghost use Rattle.td_session.specs.Calls.{IsCall, IsCancel, IsInsert, IsOpened, IsPaste, IsReceived};
-ghost use Rattle.td_session.specs.Calls.{IsFirstRun, IsText, dot_of};
+ghost use Rattle.td_session.specs.Calls.{IsFirstRun, IsSeat, IsText, dot_of};
 
 use crate::fault::Fault;
+use crate::shown::{followed, rope_of};
 use std::alloc::Global;
 use std::marker::Model;
 use td_base::{Atom, Bit, Dot, MAX_SITE, Memory, Run, Site};
+use td_doc::Doc;
 use td_op::{Input, Reply, Request};
 use td_path::Slot;
 use td_replica::Replica;
+use td_rope::Rope;
 use td_text::{CutFault, cut};
 use td_tree::Tree;
 use td_wire::decode;
@@ -24,6 +29,8 @@ use td_wire::decode;
 pub struct Session {
     pub(crate) alloc: Global,
     pub(crate) replica: Replica<Tree>,
+    // of the atoms shown: none before it is asked for, nor after a step for which it found no memory
+    pub(crate) rope: Option<Rope>,
 }
 
 impl Model for Session {
@@ -32,6 +39,11 @@ impl Model for Session {
     ghost Value = { ReplicaValue };
 
     ghost view = { λ s. s.replica };
+
+    ghost use Rattle.std.specs.Prelude.{◌≡◌, IfSome};
+    ghost use Rattle.td_doc.specs.Document.{live_atoms};
+
+    ghost invariant = { λ s. IfSome s.rope (λ rope. rope ≡ live_atoms s.replica.machine.doc) };
 }
 
 impl Session {
@@ -39,24 +51,62 @@ impl Session {
     pub fn open(alloc: Global, site: u8, sites: u8) -> Result<Session, Fault>
         ensures { IsOpened site sites result }
     {
-        let Some(own) = Site::new(site) else {
+        let Some(own) = seat(site, sites) else {
             return Err(Fault::Site);
         };
-        if site > sites || sites > MAX_SITE {
-            return Err(Fault::Site);
+        match Replica::new(alloc, own, sites) {
+            Ok(replica) => Ok(Session::of(alloc, replica)),
+            Err(Memory) => Err(Fault::Memory),
         }
-        let replica = Replica::new(alloc, own, sites)?;
-        Ok(Session { alloc, replica })
+    }
+
+    /// The session of a replica.
+    pub(crate) fn of(alloc: Global, replica: Replica<Tree>) -> Session
+        ensures { result ≡ replica }
+    {
+        Session {
+            alloc,
+            replica,
+            rope: None,
+        }
+    }
+
+    // The rope of the atoms shown, which is made where there is none. Who takes it puts it back.
+    pub(crate) fn take_rope(&mut self) -> Result<Rope, Fault>
+        ensures same { self.new ≡ self.old }
+        ensures atoms { IfOk result (λ rope. rope ≡ live_atoms self.old.machine.doc) }
+        ensures err { IfErr result (λ fault. fault ≡ OutOfMemory) }
+    {
+        // tells that its document obeys the rules of one
+        let _entries = self.replica.entries();
+        match self.rope.take() {
+            Some(rope) => Ok(rope),
+            None => match rope_of(self.alloc, self.replica.doc()) {
+                Ok(rope) => Ok(rope),
+                Err(Memory) => Err(Fault::Memory),
+            },
+        }
     }
 
     // One step of the machine.
     fn step(&mut self, input: &Input) -> Result<Reply, Fault>
         ensures { IsCall input.now self.old result self.new }
     {
-        match self.replica.step_on(input) {
+        match self.step_on(input) {
             Ok(reply) => Ok(reply),
             Err(Memory) => Err(Fault::Memory),
         }
+    }
+
+    // The same. The rope, if there is one, hears of the change.
+    fn step_on(&mut self, input: &Input) -> Result<Reply, Memory>
+        ensures { IsStepOf input.now self.old result self.new }
+    {
+        input.is_in_range();
+        let _entries = self.replica.entries();
+        let reply = self.replica.step_on(input)?;
+        self.rope = followed(self.rope.take(), self.replica.last_change());
+        Ok(reply)
     }
 
     /// Puts an atom at an index, as far as the end. Replies Made, Position, Held or Limit.
@@ -128,6 +178,16 @@ impl Session {
     {
         self.step(&Input::Next)
     }
+}
+
+/// The site with this number, where there is one among so many.
+pub(crate) fn seat(site: u8, sites: u8) -> Option<Site>
+    ensures { SomeIff result (IsSeat site sites) site }
+{
+    if site > sites || sites > MAX_SITE {
+        return None;
+    }
+    Site::new(site)
 }
 
 // The dot with these numbers, where it is one.

@@ -13,9 +13,6 @@ use td_base::{Dot, MAX_SITE, Memory};
 use td_clock::Vector;
 use td_op::{Body, Op};
 
-#[cfg(test)]
-mod tests;
-
 const SITES: usize = MAX_SITE as usize;
 
 /// The operations of a replica for a buffer of so many sites, in the order in which they were pushed. One takes 20

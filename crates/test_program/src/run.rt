@@ -2,6 +2,7 @@
 mod faults;
 mod flattens;
 mod generated;
+mod kept;
 mod large;
 mod live;
 mod merges;

@@ -1,49 +1,95 @@
 ghost use Rattle.std.specs.Prelude.{◌≡◌, length, IfOk};
 
+use std::process::Abort;
 use std::test::Fail;
 use td_base::{AtomId, Dot, Site};
-use td_causal::*;
+use td_causal::{Buffer, Offer};
 use td_clock::Vector;
 use td_op::{Body, Op};
 
-fn dot(site: u8, seq: u32) -> Result<Dot, Fail> {
-    let site = Site::new(site).ok_or("a site")?;
-    Ok(Dot::new(site, seq).ok_or("a dot")?)
+// What is done with the second operation of site 1, which had the first one.
+#[derive(Clone, Copy)]
+enum Do {
+    Nothing,
+    // It is offered under a number to a site that has so many of each of the two sites.
+    Offer([u16; 2], u32),
+    Remove,
 }
 
-// Of two sites.
-fn two(first: u16, second: u16) -> Result<Vector, Fail>
-    ensures { IfOk result (λ v. length v ≡ 2) }
-{
-    let mut v = Vector::new(2);
-    v.set(Site::new(1).ok_or("site 1")?, u32::from(first));
-    v.set(Site::new(2).ok_or("site 2")?, u32::from(second));
-    Ok(v)
-}
+// What it shows, what is done, what is answered, and the number by which the operation waits then.
+const STEPS: [(&str, Do, Option<Offer>, Option<u32>); 6] = [
+    ("nothing waits at first", Do::Nothing, None, None),
+    (
+        "the one before is missing",
+        Do::Offer([0, 0], 7),
+        Some(Offer::Later),
+        Some(7),
+    ),
+    (
+        "it waits already",
+        Do::Offer([0, 0], 8),
+        Some(Offer::Repeat),
+        Some(7),
+    ),
+    ("it is taken away", Do::Remove, None, None),
+    (
+        "the one before is there",
+        Do::Offer([1, 0], 9),
+        Some(Offer::Ready),
+        None,
+    ),
+    (
+        "it is there itself",
+        Do::Offer([2, 0], 9),
+        Some(Offer::Repeat),
+        None,
+    ),
+];
 
-// Some operation with this dot, of a site that had these.
-fn op(dot: Dot, deps: Vector) -> Result<Op, Fail>
-    ensures { IfOk result (λ x. x.deps ≡ deps) }
+fn second() -> Result<Op, Fail>
+    ensures { IfOk result (λ x. length x.deps ≡ 2) }
 {
+    let site = Site::new(1).ok_or("a site")?;
+    let dot = Dot::new(site, 2).ok_or("a dot")?;
     let target = AtomId::of(dot);
-    Ok(Op::new(dot, deps, Body::Delete { target }).ok_or("an operation")?)
+    Ok(Op::new(dot, Vector::of(&[1, 0]), Body::Delete { target }).ok_or("an operation")?)
+}
+
+fn step(buffer: &mut Buffer, op: &Op, what: Do) -> Result<Option<Offer>, Fail>
+    requires { length op.now.deps ≡ 2 }
+{
+    Ok(match what {
+        Do::Nothing => None,
+        Do::Offer(have, number) => Some(buffer.offer(&Vector::of(&have), op, number)?),
+        Do::Remove => {
+            buffer.remove(op.dot());
+            None
+        }
+    })
+}
+
+// Whether the operation waits alone, by that number, or there is none that waits.
+fn waits_by(buffer: &Buffer, dot: Dot, number: Option<u32>) -> bool {
+    let waits = number.is_some();
+    buffer.number_of(dot) == number
+        && buffer.waits(dot) == waits
+        && buffer.is_empty() != waits
+        && buffer.len() == u32::from(waits)
+}
+
+fn all_hold(rt: &impl Abort, buffer: &mut Buffer, op: &Op) -> Result<(), Fail>
+    requires { length op.now.deps ≡ 2 }
+{
+    for (name, what, answer, number) in STEPS {
+        assert_eq!(rt; step(buffer, op, what)?, answer, "{name}");
+        assert!(rt; waits_by(buffer, op.dot(), number), "{name}");
+    }
+    Ok(())
 }
 
 #[test]
 fn an_operation_waits_for_the_one_before_it(rt: HostRuntime) -> Result<(), Fail> {
+    let op = second()?;
     let mut buffer = Buffer::new(rt.alloc());
-    let before = two(0, 0)?;
-    let after = two(1, 0)?;
-    let second = op(dot(1, 2)?, after)?;
-    assert!(rt; buffer.is_empty());
-    assert_eq!(rt; buffer.offer(&before, &second, 7), Ok(Offer::Later));
-    assert_eq!(rt; buffer.offer(&before, &second, 8), Ok(Offer::Repeat));
-    assert_eq!(rt; buffer.number_of(second.dot()), Some(7));
-    assert!(rt; buffer.waits(second.dot()) && buffer.len() == 1);
-    buffer.remove(second.dot());
-    assert!(rt; !buffer.waits(second.dot()) && buffer.is_empty());
-    assert_eq!(rt; buffer.offer(&after, &second, 9), Ok(Offer::Ready));
-    assert_eq!(rt; buffer.offer(&two(2, 0)?, &second, 9), Ok(Offer::Repeat));
-    assert_eq!(rt; buffer.len(), 0);
-    Ok(())
+    all_hold(&rt, &mut buffer, &op)
 }

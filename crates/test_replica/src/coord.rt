@@ -8,57 +8,152 @@ use td_coord::Counted::{Abort, Commit, Repeat, Wait};
 use td_coord::*;
 use td_op::Vote;
 
-// A vote, what it brings, and how the proposal stands then.
+// What is done with the proposal of site 1 that has this number.
 #[derive(Clone, Copy)]
-struct Case {
-    voter: u8,
-    yes: bool,
-    brings: Counted,
-    state: Counted,
+enum Do {
+    Start(u32),
+    // The vote of a site.
+    Yes(u32, u8),
+    No(u32, u8),
+    Cancel(u32),
+    Nothing(u32),
 }
 
-fn yes(voter: u8, brings: Counted, state: Counted) -> Case {
-    Case {
-        voter,
-        yes: true,
-        brings,
-        state,
-    }
+// What comes of it.
+#[derive(Clone, Copy, Debug, PartialEq, Eq)]
+enum Told {
+    Counts(Counted),
+    Cancels(bool),
+    Nothing,
 }
 
-fn no(voter: u8, brings: Counted, state: Counted) -> Case {
-    Case {
-        voter,
-        yes: false,
-        brings,
-        state,
-    }
+// What is done, what comes of it, how the proposal stands then, and how many are undecided.
+type Step = (Do, Told, Option<Counted>, u32);
+
+// What it shows, of how many sites, and what is done in turn.
+struct Example {
+    name: &'static str,
+    sites: u8,
+    steps: &'static [Step],
 }
 
-fn site(number: u8) -> Result<Site, Fail>
-    ensures { IfOk result (λ site. site ≡ number) }
+const WAITS: Told = Told::Counts(Wait);
+
+const COMMITS: Told = Told::Counts(Commit);
+
+const ABORTS: Told = Told::Counts(Abort);
+
+const REPEATS: Told = Told::Counts(Repeat);
+
+const EXAMPLES: [Example; 7] = [
+    Example {
+        name: "the last yes commits and no vote counts twice",
+        sites: 3,
+        steps: &[
+            (Do::Start(3), WAITS, Some(Wait), 1),
+            (Do::Yes(3, 2), WAITS, Some(Wait), 1),
+            (Do::Yes(3, 2), REPEATS, Some(Wait), 1),
+            (Do::Yes(3, 3), COMMITS, Some(Commit), 0),
+            (Do::Yes(3, 3), REPEATS, Some(Commit), 0),
+        ],
+    },
+    Example {
+        name: "the first no aborts",
+        sites: 3,
+        steps: &[
+            (Do::Start(3), WAITS, Some(Wait), 1),
+            (Do::No(3, 3), ABORTS, Some(Abort), 0),
+            (Do::Yes(3, 2), REPEATS, Some(Abort), 0),
+        ],
+    },
+    Example {
+        name: "a no of a site that said yes counts for nothing",
+        sites: 3,
+        steps: &[
+            (Do::Start(3), WAITS, Some(Wait), 1),
+            (Do::Yes(3, 3), WAITS, Some(Wait), 1),
+            (Do::No(3, 3), REPEATS, Some(Wait), 1),
+            (Do::No(3, 2), ABORTS, Some(Abort), 0),
+            (Do::No(3, 3), REPEATS, Some(Abort), 0),
+        ],
+    },
+    Example {
+        name: "of one site the own yes commits",
+        sites: 1,
+        steps: &[
+            (Do::Start(3), COMMITS, Some(Commit), 0),
+            (Do::Yes(3, 1), REPEATS, Some(Commit), 0),
+            (Do::Cancel(3), Told::Cancels(false), Some(Commit), 0),
+        ],
+    },
+    Example {
+        name: "a cancel decides what is undecided",
+        sites: 3,
+        steps: &[
+            (Do::Cancel(3), Told::Cancels(false), None, 0),
+            (Do::Start(3), WAITS, Some(Wait), 1),
+            (Do::Cancel(3), Told::Cancels(true), Some(Abort), 0),
+            (Do::Cancel(3), Told::Cancels(false), Some(Abort), 0),
+            (Do::Yes(3, 2), REPEATS, Some(Abort), 0),
+        ],
+    },
+    Example {
+        name: "proposals are counted apart",
+        sites: 2,
+        steps: &[
+            (Do::Start(3), WAITS, Some(Wait), 1),
+            (Do::Start(9), WAITS, Some(Wait), 2),
+            (Do::No(9, 2), ABORTS, Some(Abort), 1),
+            (Do::Nothing(3), Told::Nothing, Some(Wait), 1),
+            (Do::Yes(3, 2), COMMITS, Some(Commit), 0),
+            (Do::Nothing(9), Told::Nothing, Some(Abort), 0),
+        ],
+    },
+    Example {
+        name: "proposals are counted apart that start in another order",
+        sites: 2,
+        steps: &[
+            (Do::Start(9), WAITS, Some(Wait), 1),
+            (Do::Start(3), WAITS, Some(Wait), 2),
+            (Do::No(3, 2), ABORTS, Some(Abort), 1),
+            (Do::Nothing(9), Told::Nothing, Some(Wait), 1),
+            (Do::Yes(9, 2), COMMITS, Some(Commit), 0),
+            (Do::Nothing(3), Told::Nothing, Some(Abort), 0),
+        ],
+    },
+];
+
+fn site(number: u8, n: u8) -> Result<Site, Fail>
+    ensures { IfOk result (λ site. site ≤ n) }
 {
-    Ok(Site::new(number).ok_or("a site")?)
+    match Site::new(number) {
+        Some(site) if site.number() <= n => Ok(site),
+        _ => Err("a site".into()),
+    }
 }
 
-fn dot(number: u8, seq: u32) -> Result<Dot, Fail> {
-    Ok(Dot::new(site(number)?, seq).ok_or("a dot")?)
+fn dot(seq: u32) -> Result<Dot, Fail> {
+    let site = Site::new(1).ok_or("a site")?;
+    Ok(Dot::new(site, seq).ok_or("a dot")?)
 }
 
-// Starts a proposal that was not started.
-fn start(rt: &impl MayAbort, tally: &mut Tally, proposal: Dot) -> Result<Counted, Fail>
+fn start(tally: &mut Tally, proposal: Dot) -> Result<Told, Fail>
     ensures { tally.new.size ≡ tally.old.size }
 {
-    assert!(rt; tally.state(proposal).is_none());
-    Ok(tally.start(proposal)?)
+    if tally.state(proposal).is_some() {
+        return Err("a new proposal".into());
+    }
+    Ok(Told::Counts(tally.start(proposal)?))
 }
 
 // Counts a vote that is foreseen.
-fn count(rt: &impl MayAbort, tally: &mut Tally, proposal: Dot, voter: Site, yes: bool) -> Counted
+fn count(tally: &mut Tally, proposal: Dot, voter: Site, yes: bool) -> Result<Told, Fail>
     requires { voter ≤ tally.old.size }
     ensures { tally.new.size ≡ tally.old.size }
 {
-    assert!(rt; tally.state(proposal).is_some());
+    if tally.state(proposal).is_none() {
+        return Err("a proposal".into());
+    }
     let foreseen = tally.foresee(Vote {
         proposal,
         voter,
@@ -69,133 +164,127 @@ fn count(rt: &impl MayAbort, tally: &mut Tally, proposal: Dot, voter: Site, yes:
         voter,
         yes,
     });
-    assert_eq!(rt; counted, foreseen);
-    counted
+    if counted != foreseen {
+        return Err("a vote that is foreseen".into());
+    }
+    Ok(Told::Counts(counted))
 }
 
-// Counts votes on a proposal of site 1 among n sites.
-fn count_all(rt: &impl MayAbort, alloc: Global, n: u8, cases: &[Case]) -> Result<(), Fail> {
-    assert!(rt; n >= 2 && n <= MAX_SITE);
-    let proposal = dot(1, 3)?;
-    let mut tally = Tally::new(alloc, n, site(1)?);
+fn vote(tally: &mut Tally, n: u8, seq: u32, number: u8, yes: bool) -> Result<Told, Fail>
+    requires { tally.old.size ≡ n }
+    ensures { tally.new.size ≡ tally.old.size }
+{
+    let (proposal, voter) = (dot(seq)?, site(number, n)?);
+    count(tally, proposal, voter, yes)
+}
+
+fn step(tally: &mut Tally, n: u8, what: Do) -> Result<Told, Fail>
+    requires { tally.old.size ≡ n }
+    ensures { tally.new.size ≡ tally.old.size }
+{
+    match what {
+        Do::Start(seq) => start(tally, dot(seq)?),
+        Do::Yes(seq, number) => vote(tally, n, seq, number, true),
+        Do::No(seq, number) => vote(tally, n, seq, number, false),
+        Do::Cancel(seq) => Ok(Told::Cancels(tally.cancel(dot(seq)?))),
+        Do::Nothing(_) => Ok(Told::Nothing),
+    }
+}
+
+// How the proposal stands with which that was done.
+fn state(tally: &Tally, what: Do) -> Result<Option<Counted>, Fail> {
+    let seq = match what {
+        Do::Start(seq) | Do::Cancel(seq) | Do::Nothing(seq) => seq,
+        Do::Yes(seq, _) | Do::No(seq, _) => seq,
+    };
+    Ok(tally.state(dot(seq)?))
+}
+
+fn holds(rt: &impl MayAbort, tally: &mut Tally, n: u8, name: &str, row: Step) -> Result<(), Fail>
+    requires { tally.old.size ≡ n }
+    ensures { tally.new.size ≡ tally.old.size }
+{
+    let (what, told, stands, undecided) = row;
+    assert_eq!(rt; step(tally, n, what)?, told, "{name}");
+    assert_eq!(rt; state(tally, what)?, stands, "{name}");
+    assert_eq!(rt; tally.undecided(), undecided, "{name}");
+    Ok(())
+}
+
+// The tally of site 1 of n.
+fn tally(alloc: Global, n: u8) -> Result<Tally, Fail>
+    ensures { IfOk result (λ tally. tally.size ≡ n) }
+{
+    if n > MAX_SITE {
+        return Err("no more than 64 sites".into());
+    }
+    Ok(Tally::new(alloc, n, site(1, n)?))
+}
+
+fn all_hold(rt: &impl MayAbort, tally: &mut Tally, n: u8, example: &Example) -> Result<(), Fail>
+    requires { tally.old.size ≡ n }
+{
     tally.reserve()?;
-    assert_eq!(rt; start(rt, &mut tally, proposal)?, Wait);
-    assert_eq!(rt; (tally.state(proposal), tally.undecided()), (Some(Wait), 1));
-    for case in cases {
-        assert!(rt; case.voter <= n);
-        let voter = site(case.voter)?;
-        assert_eq!(rt;
-            count(rt, &mut tally, proposal, voter, case.yes),
-            case.brings,
-            "of {}",
-            case.voter
-        );
-        assert_eq!(rt;
-            tally.state(proposal),
-            Some(case.state),
-            "after {}",
-            case.voter
-        );
-        assert_eq!(rt;
-            tally.undecided() == 0,
-            case.state != Wait,
-            "after {}",
-            case.voter
-        );
+    for step in example.steps {
+        holds(rt, tally, n, example.name, *step)?;
     }
     Ok(())
 }
 
 #[test]
-fn the_last_yes_commits_and_no_vote_counts_twice(rt: HostRuntime) -> Result<(), Fail> {
-    let cases = [
-        yes(2, Wait, Wait),
-        yes(2, Repeat, Wait),
-        yes(3, Commit, Commit),
-        yes(3, Repeat, Commit),
-    ];
-    count_all(&rt, rt.alloc(), 3, &cases)
+fn votes_are_counted(rt: HostRuntime) -> Result<(), Fail> {
+    for example in &EXAMPLES {
+        let n = example.sites;
+        let mut tally = tally(rt.alloc(), n)?;
+        all_hold(&rt, &mut tally, n, example)?;
+    }
+    Ok(())
 }
 
-#[test]
-fn the_first_no_aborts(rt: HostRuntime) -> Result<(), Fail> {
-    let at_once = [no(3, Abort, Abort), yes(2, Repeat, Abort)];
-    count_all(&rt, rt.alloc(), 3, &at_once)?;
-    let later = [
-        yes(3, Wait, Wait),
-        no(3, Repeat, Wait),
-        no(2, Abort, Abort),
-        no(3, Repeat, Abort),
-    ];
-    count_all(&rt, rt.alloc(), 3, &later)
+// All but the last wait.
+fn all_say_yes(rt: &impl MayAbort, tally: &mut Tally) -> Result<(), Fail>
+    requires { tally.old.size ≡ MAX_SITE }
+{
+    let name = "of 64 sites the last commits";
+    holds(
+        rt,
+        tally,
+        MAX_SITE,
+        name,
+        (Do::Start(3), WAITS, Some(Wait), 1),
+    )?;
+    for number in 2..=MAX_SITE {
+        let step = if number < MAX_SITE {
+            (Do::Yes(3, number), WAITS, Some(Wait), 1)
+        } else {
+            (Do::Yes(3, number), COMMITS, Some(Commit), 0)
+        };
+        holds(rt, tally, MAX_SITE, name, step)?;
+    }
+    Ok(())
 }
 
 #[test]
 fn of_64_sites_the_last_commits(rt: HostRuntime) -> Result<(), Fail> {
-    let mut cases = [yes(64, Commit, Commit); 63];
-    for i in 0..62 {
-        cases[i] = yes(i as u8 + 2, Wait, Wait);
+    let mut tally = tally(rt.alloc(), MAX_SITE)?;
+    all_say_yes(&rt, &mut tally)
+}
+
+// The last one first.
+fn a_hundred_start(rt: &impl MayAbort, tally: &mut Tally) -> Result<(), Fail>
+    requires { tally.old.size ≡ 2 }
+{
+    let name = "a hundred proposals need no place kept for them";
+    for undecided in 1..=100_u32 {
+        let start = Do::Start(101_u32.wrapping_sub(undecided));
+        holds(rt, tally, 2, name, (start, WAITS, Some(Wait), undecided))?;
     }
-    count_all(&rt, rt.alloc(), 64, &cases)
-}
-
-#[test]
-fn of_one_site_the_own_yes_commits(rt: HostRuntime) -> Result<(), Fail> {
-    let proposal = dot(1, 3)?;
-    let own = site(1)?;
-    let mut tally = Tally::new(rt.alloc(), 1, own);
-    assert_eq!(rt; start(&rt, &mut tally, proposal)?, Commit);
-    assert_eq!(rt;
-        (tally.state(proposal), tally.undecided()),
-        (Some(Commit), 0)
-    );
-    assert_eq!(rt; count(&rt, &mut tally, proposal, own, true), Repeat);
-    assert!(rt; !tally.cancel(proposal));
-    Ok(())
-}
-
-#[test]
-fn a_cancel_decides_what_is_undecided(rt: HostRuntime) -> Result<(), Fail> {
-    let proposal = dot(1, 3)?;
-    let second = site(2)?;
-    let mut tally = Tally::new(rt.alloc(), 3, site(1)?);
-    assert!(rt; !tally.cancel(proposal));
-    assert_eq!(rt; start(&rt, &mut tally, proposal)?, Wait);
-    assert!(rt; tally.cancel(proposal));
-    assert!(rt; !tally.cancel(proposal));
-    assert_eq!(rt;
-        (tally.state(proposal), tally.undecided()),
-        (Some(Abort), 0)
-    );
-    assert_eq!(rt; count(&rt, &mut tally, proposal, second, true), Repeat);
-    Ok(())
-}
-
-#[test]
-fn proposals_are_counted_apart_in_whatever_order_they_start(rt: HostRuntime) -> Result<(), Fail> {
-    let second = site(2)?;
-    for (first_seq, second_seq) in [(3, 9), (9, 3)] {
-        let kept = dot(1, first_seq)?;
-        let given_up = dot(1, second_seq)?;
-        let mut tally = Tally::new(rt.alloc(), 2, site(1)?);
-        assert_eq!(rt; start(&rt, &mut tally, kept)?, Wait);
-        assert_eq!(rt; start(&rt, &mut tally, given_up)?, Wait);
-        assert_eq!(rt; tally.undecided(), 2);
-        assert_eq!(rt; count(&rt, &mut tally, given_up, second, false), Abort);
-        assert_eq!(rt; (tally.state(kept), tally.undecided()), (Some(Wait), 1));
-        assert_eq!(rt; count(&rt, &mut tally, kept, second, true), Commit);
-        assert_eq!(rt; tally.state(given_up), Some(Abort));
-    }
-    Ok(())
+    let last = Do::Nothing(1);
+    holds(rt, tally, 2, name, (last, Told::Nothing, Some(Wait), 100))
 }
 
 #[test]
 fn a_hundred_proposals_need_no_place_kept_for_them(rt: HostRuntime) -> Result<(), Fail> {
-    let mut tally = Tally::new(rt.alloc(), 2, site(1)?);
-    for seq in 1..=100 {
-        assert_eq!(rt; start(&rt, &mut tally, dot(1, 101 - seq)?)?, Wait);
-        assert_eq!(rt; tally.undecided(), seq);
-    }
-    assert_eq!(rt; tally.state(dot(1, 1)?), Some(Wait));
-    Ok(())
+    let mut tally = tally(rt.alloc(), 2)?;
+    a_hundred_start(&rt, &mut tally)
 }

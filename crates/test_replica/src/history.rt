@@ -1,4 +1,4 @@
-ghost use Rattle.std.specs.Prelude.{◌≡◌, ◌≤◌, ◌∷◌, [], length, IfOk, None};
+ghost use Rattle.std.specs.Prelude.{◌≡◌, ◌≤◌, length, IfOk, None};
 ghost use Rattle.td_history.specs.Past.{decided_by};
 
 use std::alloc::Global;
@@ -41,56 +41,53 @@ fn run([first, second]: [u8; 2]) -> Result<Run, Fail> {
     }
 }
 
-// The history of site 1 of two, with room for operations of a site.
-fn history(alloc: Global, of: u8) -> Result<History, Fail>
-    requires { of ≤ 2 }
-    ensures size { IfOk result (λ h. h.size ≡ 2) }
-    ensures site { IfOk result (λ h. h.site ≡ 1) }
-    ensures ops { IfOk result (λ h. h.ops ≡ []) }
-    ensures log { IfOk result (λ h. h.log ≡ []) }
-    ensures room { IfOk result (λ h. 8 ≤ h.room) }
-    ensures room_site { IfOk result (λ h. h.room_site ≡ of) }
+// The first operation of site 1 of two.
+fn first() -> Result<Op, Fail>
+    ensures deps { IfOk result (λ x. length x.deps ≡ 2) }
+    ensures dot { IfOk result (λ x. x.dot ≡ record { site = 1; seq = 1 }) }
+    ensures body { IfOk result (λ x. decided_by x.body ≡ None) }
 {
-    let mut history = History::new(alloc, site(1)?, 2)?;
-    history.reserve(site(of)?)?;
-    Ok(history)
+    let (slot, run) = (Slot::Root, run(*b"ab")?);
+    match Op::new(dot(1, 1)?, Vector::new(2), Body::Insert { slot, run }) {
+        Some(op) => Ok(op),
+        None => Err(Fail::from("an operation")),
+    }
 }
 
-fn is_message(history: &History, k: u64, message: &Message) -> bool {
-    history.sent_at(k) == Some(*message)
-}
-
-fn is_op(found: &Option<Op>, op: &Op) -> bool {
-    *found == Some(*op)
-}
-
-// The history of site 1 that made this operation, its first.
-fn made(alloc: Global, first: &Op) -> Result<History, Fail>
+// The history of site 1 of two that made this operation, its first.
+fn made(alloc: Global, own: Site, first: &Op) -> Result<History, Fail>
+    requires own { own ≡ 1 }
     requires deps { length first.now.deps ≡ 2 }
     requires dot { first.now.dot ≡ record { site = 1; seq = 1 } }
     requires body { decided_by first.now.body ≡ None }
-    ensures size { IfOk result (λ h. h.size ≡ 2) }
-    ensures ops { IfOk result (λ h. h.ops ≡ first.now ∷ []) }
-    ensures room { IfOk result (λ h. 1 ≤ h.room) }
+    ensures { IfOk result (λ h. h.size ≡ 2) }
 {
-    let mut history = history(alloc, 1)?;
+    let mut history = History::new(alloc, own, 2)?;
+    history.reserve(own)?;
     history.make(first);
     Ok(history)
 }
 
+fn is_found(history: &History, own: Site, op: &Op, other: Dot) -> bool
+    requires { own ≤ history.now.size }
+{
+    history.find(op.dot()) == Some(0)
+        && history.find(other).is_none()
+        && history.last_of(own) == Some(*op)
+}
+
+// Whether the operation is all that is sent, as the first message.
+fn is_sent(history: &History, op: &Op) -> bool {
+    history.sent_at(0).is_none()
+        && history.sent_at(1) == Some(Message::Op(*op))
+        && history.sent_at(2).is_none()
+}
+
 #[test]
 fn what_is_made_is_sent_and_found(rt: HostRuntime) -> Result<(), Fail> {
-    let run = run(*b"ab")?;
-    let slot = Slot::Root;
-    let first = Op::new(dot(1, 1)?, Vector::new(2), Body::Insert { slot, run });
-    let first = first.ok_or("an operation")?;
-    let other = dot(64, 1)?;
-    let own = site(1)?;
-    let history = made(rt.alloc(), &first)?;
-    assert!(rt; history.find(first.dot()) == Some(0));
-    assert!(rt; history.find(other).is_none());
-    assert!(rt; is_op(&history.last_of(own), &first));
-    assert!(rt; is_message(&history, 1, &Message::Op(first)));
-    assert!(rt; history.sent_at(0).is_none() && history.sent_at(2).is_none());
+    let (own, other, first) = (site(1)?, dot(64, 1)?, first()?);
+    let history = made(rt.alloc(), own, &first)?;
+    assert!(rt; is_found(&history, own, &first, other));
+    assert!(rt; is_sent(&history, &first));
     Ok(())
 }

@@ -1,3 +1,2 @@
 mod examples;
 mod moves;
-mod offers;

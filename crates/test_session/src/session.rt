@@ -46,6 +46,36 @@ fn steps(rt: &impl Abort, session: &mut Session) -> Result<(), Fail> {
     Ok(())
 }
 
+// Where the letters of a text of the four lengths of UTF-8 stand, in each unit.
+fn places(rt: &impl Abort, session: &mut Session) -> Result<(), Fail> {
+    // a, e with an accent of its own, the euro sign, a face past 2^16
+    let text = b"ae\xcc\x81\xe2\x82\xac\xf0\x9f\x98\x80";
+    assert_eq!(rt; session.paste(0, text).ok(), made(1, 1));
+    let offsets = [
+        (Unit::Byte, [0, 1, 4, 7, 11]),
+        (Unit::Utf16, [0, 1, 3, 4, 6]),
+        (Unit::CodePoint, [0, 1, 3, 4, 5]),
+    ];
+    for (unit, at) in offsets {
+        assert_eq!(rt; session.len_in(unit)?, at[4]);
+        for index in 0..5u32 {
+            assert_eq!(rt; session.offset(unit, index)?, at[index as usize]);
+            assert_eq!(rt; session.index(unit, at[index as usize])?, index);
+        }
+    }
+    // within a letter
+    assert_eq!(rt; session.index(Unit::Byte, 6)?, 2);
+    assert_eq!(rt; session.index(Unit::Utf16, 5)?, 3);
+    assert_eq!(rt; session.index(Unit::CodePoint, 2)?, 1);
+    Ok(())
+}
+
+#[test]
+fn letters_have_places_in_each_unit(rt: HostRuntime) -> Result<(), Fail> {
+    let mut session = Session::open(rt.alloc(), 1, 1)?;
+    places(&rt, &mut session)
+}
+
 #[test]
 fn each_call_makes_its_step(rt: HostRuntime) -> Result<(), Fail> {
     let mut session = Session::open(rt.alloc(), 1, 2)?;
@@ -62,6 +92,8 @@ fn asked_badly(session: &mut Session, call: u8) -> Option<Fault> {
         4 => session.cancel(0, 1).err(),
         5 => session.receive(b"T2\x09").err(),
         6 => session.stretch(0, 1).err(),
+        7 => session.offset(Unit::Byte, 1).err(),
+        8 => session.index(Unit::Utf16, 1).err(),
         _ => session.had(3).err(),
     }
 }
@@ -75,9 +107,11 @@ fn faults(rt: &impl Abort, session: &mut Session) {
         Fault::Dot,
         Fault::Packet { at: 2 },
         Fault::Stretch,
+        Fault::Position,
+        Fault::Position,
         Fault::Site,
     ];
-    for call in 0..8u8 {
+    for call in 0..10u8 {
         assert_eq!(rt; asked_badly(session, call), Some(faults[call as usize]));
     }
 }

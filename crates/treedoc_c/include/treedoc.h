@@ -12,8 +12,8 @@
  * - A session stays on the thread that opened it, and one call on it ends before the next begins.
  * - malloc, realloc and free are those of one C library, and align as it asks.
  * - No call is made from a signal handler, or in a process forked from one with threads.
- * - A site has one session, once: a site that is opened again from nothing makes operations that are taken for its
- *   old ones.
+ * - A site has one session, once: a site that is opened again from nothing, or loaded from a journal that lacks what
+ *   was sent, makes operations that are taken for its old ones.
  */
 #ifndef TREEDOC_H
 #define TREEDOC_H
@@ -25,7 +25,7 @@ extern "C" {
 #endif
 
 /* The number of what this file declares. td_version answers that of the library: they are to be the same. */
-#define TD_VERSION 1
+#define TD_VERSION 3
 uint32_t td_version(void);
 
 /* A session of one site. All zeros is a closed one. */
@@ -64,7 +64,11 @@ enum td_status {
     TD_BAD_PACKET = 39,  /* no packet: `place` bytes of it are the longest front that begins one */
     TD_BAD_STRETCH = 40, /* no stretch of the text: from <= upto <= td_len is wanted */
     TD_NO_MESSAGE = 41,  /* there is no such message: 1 <= k <= td_sent is wanted */
-    TD_SMALL_ROOM = 42   /* the room is too small: `len` bytes are wanted, and it is as it was */
+    TD_SMALL_ROOM = 42,  /* the room is too small: `len` bytes are wanted, and it is as it was */
+    TD_BAD_JOURNAL = 43, /* no journal of the site: the first part of it that is none begins at byte `place` */
+    TD_LONG_JOURNAL = 44, /* the journal has more than 2^30 bytes, or would have */
+    TD_BAD_UNIT = 45,    /* no unit: a td_unit is wanted */
+    TD_BAD_PLACE = 46    /* no place in the text: index <= td_len, or offset <= td_len_in is wanted */
 };
 
 /* Why a message is none that goes here. */
@@ -117,6 +121,14 @@ typedef struct td_written {
     size_t len;
 } td_written;
 
+/* A session that comes back, in any process. td_save writes its journal into the room: all that it was asked and given.
+ * td_load opens a closed session with that, at its site: it is the one that was saved, its messages, what waits and the
+ * last change with it. So save before a packet is handed on, and keep the bytes where no crash takes them; each save
+ * writes all from the start. td_load answers TD_DONE, TD_OPEN, TD_BAD_SITE, TD_BAD_JOURNAL, TD_LONG_JOURNAL or
+ * TD_MEMORY. */
+td_written td_save(td_session *session, uint8_t *room, size_t room_len);
+td_answer td_load(uint8_t site, uint8_t sites, const uint8_t *journal, size_t len, td_session *session);
+
 /* Packets. Message k, from 1 to td_sent, is for site `to`, or for all others where `to` is 0. It can be asked for
  * again and again: it may come to others in any order, and twice. */
 #define TD_PACKET_ROOM 402
@@ -132,8 +144,22 @@ uint32_t td_len(td_session *session);
 td_written td_text(td_session *session, uint8_t *room, size_t room_len);
 td_written td_stretch(td_session *session, uint32_t from, uint32_t upto, uint8_t *room, size_t room_len);
 
+/* How wide the text is, in bytes of UTF-8, in units of UTF-16, or in code points; how wide what stands before an atom
+ * is; and the atom in which an offset lies, which at the end of the text is td_len. Answers TD_DONE and the number,
+ * TD_BAD_UNIT or TD_BAD_PLACE, TD_CLOSED, or TD_MEMORY: the first of these calls makes a second text beside the
+ * session, which takes memory, and so does the next one after a step that found too little for it. */
+enum td_unit { TD_BYTE = 0, TD_UTF16 = 1, TD_CODE_POINT = 2 };
+typedef struct td_number {
+    uint32_t status;
+    uint64_t number;
+} td_number;
+td_number td_len_in(td_session *session, uint32_t unit);
+td_number td_offset(td_session *session, uint32_t unit, uint32_t index);
+td_number td_index(td_session *session, uint32_t unit, uint64_t offset);
+
 /* The own site; how many sites there are; how many operations were made here, wait, and of proposals are held; and of a
- * site, how many operations are had: `number` of the answer. */
+ * site, how many operations are had: `number` of the answer. Of a closed session these are 0, as td_sent and td_len are,
+ * and td_ready is false. */
 uint32_t td_site(td_session *session);
 uint32_t td_sites(td_session *session);
 uint32_t td_made(td_session *session);
@@ -145,19 +171,22 @@ td_answer td_had(td_session *session, uint8_t site);
 
 typedef void (*td_tell)(void *of, const td_change *change);
 
-/* Takes a packet and all that waited for it, and tells each change of the text, in order. Answers what became of the
- * packet; want of memory behind it is answered in its place, and then what is ready is taken with the next packet. */
+/* Takes a packet and all that is ready then, and tells each change of the text, in order. Answers what became of the
+ * packet; want of memory behind it is answered in its place: then the packet is taken, and what is ready still waits for
+ * the next call of this. */
 static inline td_answer td_take(td_session *session, const uint8_t *packet, size_t len, td_tell tell, void *of)
 {
     td_change change;
     td_answer answer = td_receive(session, packet, len), more = answer;
-    while (more.status == TD_NEW || more.status == TD_TAKEN || more.status == TD_DROPPED) {
-        td_changed(session, &change);
-        if (change.kind != TD_NOTHING) tell(of, &change);
+    while (more.status != TD_MEMORY) {
+        if (more.status == TD_NEW || more.status == TD_TAKEN) {
+            td_changed(session, &change);
+            if (change.kind != TD_NOTHING) tell(of, &change);
+        }
         if (!td_ready(session)) return answer;
         more = td_next(session);
     }
-    return more.status == TD_MEMORY ? more : answer;
+    return more;
 }
 
 /* Pastes a whole text, run by run, and tells each change. Answers the last step: where it is not TD_MADE, what was told

@@ -1,2 +1,4 @@
 pub mod AsBox
 pub mod Padding
+pub mod Holding
+mod Units

@@ -5,6 +5,7 @@ use Rattle.td_replica.specs.Replica.{ReplicaValue, new_replica}
 use Rattle.td_session.specs.declared.fault.Fault.{Fault}
 use Rattle.td_session.specs.Calls.{IsSeat}
 use Rattle.treedoc_c.specs.declared.answer.Answer.{Answer}
+use Rattle.treedoc_c.specs.declared.status.Status.{Status}
 use Rattle.treedoc_c.specs.declared.status.Status.TheVariants.{Done, Memory, BadSite}
 use Rattle.treedoc_c.specs.Numbers.{status_number}
 use Rattle.treedoc_c.specs.Answers.{answer_of}
@@ -17,6 +18,10 @@ pub record IsAnswered (call : ReplicaValue → Result Reply Fault → ReplicaVal
   pub made : call old result after
   pub new_is : new ≡ Some after
   pub told : answer ≡ answer_of result
+
+-- a closed session has the replica now, or memory for it was not found
+abbrev pub IsHeldBy : ReplicaValue → Option ReplicaValue → Status → Type 0
+IsHeldBy r new status = ((status ≡ Done) × (new ≡ Some r)) ⊎ ((status ≡ Memory) × (new ≡ None))
 
 -- a closed session was opened at a site among so many, or stays closed
 pub record IsOpenedBy (site sites : ℕ) (new : Option ReplicaValue) (status : ℕ) : Type 0 where

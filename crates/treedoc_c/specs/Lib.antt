@@ -1,8 +1,10 @@
 pub mod Numbers
 pub mod Answers
 pub mod Written
+pub mod Places
 pub mod Changes
 pub mod Asked
+pub mod Saved
 pub mod Side
 pub mod Owned
 pub mod Lent

@@ -4,12 +4,13 @@ use Rattle.td_op.specs.declared.reply.Why.{Why}
 use Rattle.td_op.specs.declared.reply.Why.TheVariants.{Size, Own, Atom as NoAtom, Proposal, Vote, Address}
 use Rattle.td_session.specs.declared.fault.Fault.{Fault}
 use Rattle.td_session.specs.declared.fault.Fault.TheVariants.{Memory as NoMemory, Site, Atom, Text, Dot, Packet}
-use Rattle.td_session.specs.declared.fault.Fault.TheVariants.{Stretch}
+use Rattle.td_session.specs.declared.fault.Fault.TheVariants.{Stretch, Journal, Long, Position as NoPlace}
 use Rattle.treedoc_c.specs.declared.status.Status.{Status}
 use Rattle.treedoc_c.specs.declared.status.Status.TheVariants.{Done, Made, Cancelled, Held, Position, Gone, Limit}
 use Rattle.treedoc_c.specs.declared.status.Status.TheVariants.{NotOpen, New, Later, Repeat, Unfit, Taken, Dropped}
 use Rattle.treedoc_c.specs.declared.status.Status.TheVariants.{Idle, Memory, Closed, Open, BadSite, BadAtom, BadText}
 use Rattle.treedoc_c.specs.declared.status.Status.TheVariants.{BadDot, BadPacket, BadStretch, NoMessage, SmallRoom}
+use Rattle.treedoc_c.specs.declared.status.Status.TheVariants.{BadJournal, LongJournal, BadUnit, BadPlace}
 
 abbrev pub status_number : Status → ℕ
 status_number Done = 0
@@ -38,6 +39,10 @@ status_number BadPacket = 39
 status_number BadStretch = 40
 status_number NoMessage = 41
 status_number SmallRoom = 42
+status_number BadJournal = 43
+status_number LongJournal = 44
+status_number BadUnit = 45
+status_number BadPlace = 46
 
 abbrev pub fault_status : Fault → Status
 fault_status NoMemory = Memory
@@ -47,6 +52,9 @@ fault_status Text = BadText
 fault_status Dot = BadDot
 fault_status (Packet at) = BadPacket
 fault_status Stretch = BadStretch
+fault_status NoPlace = BadPlace
+fault_status (Journal at) = BadJournal
+fault_status Long = LongJournal
 
 abbrev pub why_number : Why → ℕ
 why_number Size = 0

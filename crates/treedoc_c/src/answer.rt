@@ -76,7 +76,8 @@ fn reply_answer(reply: &Reply) -> Answer
     }
 }
 
-fn fault_answer(fault: &Fault) -> Answer
+/// The answer to a call that a fault ended.
+pub(crate) fn fault_answer(fault: &Fault) -> Answer
     ensures { result ≡ fault_answer fault.now }
 {
     match fault {
@@ -87,6 +88,9 @@ fn fault_answer(fault: &Fault) -> Answer
         Fault::Dot => Answer::alone(Status::BadDot),
         Fault::Packet { at } => placed(Status::BadPacket, *at),
         Fault::Stretch => Answer::alone(Status::BadStretch),
+        Fault::Position => Answer::alone(Status::BadPlace),
+        Fault::Journal { at } => placed(Status::BadJournal, *at),
+        Fault::Long => Answer::alone(Status::LongJournal),
     }
 }
 

@@ -12,6 +12,8 @@ mod handle;
 mod held;
 mod opening;
 mod parts;
+mod places;
 mod reads;
+mod saving;
 mod status;
 mod written;

@@ -2,7 +2,7 @@
 ghost use Rattle.std.specs.Prelude.{◌≡◌, Some, None};
 ghost use Rattle.td_replica.specs.Replica.{ReplicaValue};
 ghost use Rattle.treedoc_c.specs.declared.status.Status.TheVariants.{Open};
-ghost use Rattle.treedoc_c.specs.Asked.{IsOpenedBy};
+ghost use Rattle.treedoc_c.specs.Asked.{IsHeldBy, IsOpenedBy};
 ghost use Rattle.treedoc_c.specs.Numbers.{status_number};
 ghost use Rattle.treedoc_c.specs.declared.opening.TheConstants.{VERSION};
 
@@ -14,7 +14,7 @@ use std::alloc::Global;
 use td_session::Session;
 
 /// The number of what `treedoc.h` declares: it has the same, and grows by each change of a declaration.
-pub const VERSION: u32 = 1;
+pub const VERSION: u32 = 3;
 
 /// The version of the library.
 #[unsafe(no_mangle)]
@@ -35,17 +35,25 @@ pub extern "C" fn td_open(alloc: Global, site: u8, sites: u8, session: &mut Held
         return Status::Open.number();
     }
     match Session::open(alloc, site, sites) {
-        Ok(opened) => match Box::new(alloc, opened) {
-            Ok(opened) => {
-                *session = HeldSession {
-                    handle: Handle::of_parts(Parts::of(opened)),
-                    is_open: true,
-                };
-                Status::Done.number()
-            }
-            Err(_) => Status::Memory.number(),
-        },
+        Ok(opened) => hold(alloc, opened, session).number(),
         Err(fault) => Status::of(&fault).number(),
+    }
+}
+
+/// Puts an opened session into a closed one. Answers Done or Memory.
+pub(crate) fn hold(alloc: Global, opened: Session, session: &mut HeldSession) -> Status
+    requires { session.old.handle.value ≡ None }
+    ensures { IsHeldBy opened session.new.handle.value result }
+{
+    match Box::new(alloc, opened) {
+        Ok(opened) => {
+            *session = HeldSession {
+                handle: Handle::of_parts(Parts::of(opened)),
+                is_open: true,
+            };
+            Status::Done
+        }
+        Err(_) => Status::Memory,
     }
 }
 

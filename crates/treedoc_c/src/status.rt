@@ -36,6 +36,10 @@ pub(crate) enum Status {
     BadStretch,
     NoMessage,
     SmallRoom,
+    BadJournal,
+    LongJournal,
+    BadUnit,
+    BadPlace,
 }
 
 impl Status {
@@ -70,6 +74,10 @@ impl Status {
             Status::BadStretch => 40,
             Status::NoMessage => 41,
             Status::SmallRoom => 42,
+            Status::BadJournal => 43,
+            Status::LongJournal => 44,
+            Status::BadUnit => 45,
+            Status::BadPlace => 46,
         }
     }
 
@@ -85,6 +93,9 @@ impl Status {
             Fault::Dot => Status::BadDot,
             Fault::Packet { .. } => Status::BadPacket,
             Fault::Stretch => Status::BadStretch,
+            Fault::Position => Status::BadPlace,
+            Fault::Journal { .. } => Status::BadJournal,
+            Fault::Long => Status::LongJournal,
         }
     }
 }

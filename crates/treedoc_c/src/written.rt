@@ -48,7 +48,7 @@ impl Written {
         }
     }
 
-    /// Writes a text into the room, where there is one that fits.
+    /// Writes a text or a journal into the room, where there is one that fits.
     pub(crate) fn text(text: &Result<Bytes, Fault>, room: &mut [u8]) -> Written
         ensures { IsWrittenOf text.now room.old room.new result }
     {

@@ -9,7 +9,7 @@ import os
 from ctypes import c_bool, c_char_p, c_size_t, c_uint8, c_uint32, c_uint64, c_void_p
 from typing import NamedTuple
 
-VERSION = 1
+VERSION = 3
 PACKET_ROOM = 402
 
 
@@ -41,6 +41,17 @@ class Status(enum.IntEnum):
     BAD_STRETCH = 40
     NO_MESSAGE = 41
     SMALL_ROOM = 42
+    BAD_JOURNAL = 43
+    LONG_JOURNAL = 44
+    BAD_UNIT = 45
+    BAD_PLACE = 46
+
+
+class Unit(enum.IntEnum):
+    """What the width of a text and the places in it are counted in. Python's own indexes are those of CODE_POINT."""
+    BYTE = 0
+    UTF16 = 1
+    CODE_POINT = 2
 
 
 class Why(enum.IntEnum):
@@ -79,11 +90,11 @@ class Cut(NamedTuple):
 
 
 class Refused(Exception):
-    """What a call asks for is not there. It has the status."""
+    """What a call asks for is not there. It has the status, and the place that goes with it."""
 
-    def __init__(self, status):
+    def __init__(self, status, place=0):
         super().__init__(Status(status).name.lower().replace("_", " "))
-        self.status = Status(status)
+        self.status, self.place = Status(status), place
 
 
 class _Held(ctypes.Structure):
@@ -98,6 +109,10 @@ class _Written(ctypes.Structure):
     _fields_ = [("status", c_uint32), ("to", c_uint32), ("len", c_size_t)]
 
 
+class _Number(ctypes.Structure):
+    _fields_ = [("status", c_uint32), ("number", c_uint64)]
+
+
 class _Change(ctypes.Structure):
     _fields_ = [("kind", c_uint32), ("index", c_uint32), ("atoms", c_uint32), ("len", c_uint32),
                 ("text", c_uint8 * 64), ("lengths", c_uint8 * 64)]
@@ -107,6 +122,8 @@ _HELD = ctypes.POINTER(_Held)
 _CALLS = {
     "td_version": (c_uint32,),
     "td_open": (c_uint32, c_uint8, c_uint8, _HELD),
+    "td_load": (_Answer, c_uint8, c_uint8, c_char_p, c_size_t, _HELD),
+    "td_save": (_Written, _HELD, c_char_p, c_size_t),
     "td_close": (None, _HELD),
     "td_insert": (_Answer, _HELD, c_uint32, c_char_p, c_size_t),
     "td_paste": (_Answer, _HELD, c_uint32, c_char_p, c_size_t),
@@ -123,6 +140,9 @@ _CALLS = {
     "td_len": (c_uint32, _HELD),
     "td_text": (_Written, _HELD, c_char_p, c_size_t),
     "td_stretch": (_Written, _HELD, c_uint32, c_uint32, c_char_p, c_size_t),
+    "td_len_in": (_Number, _HELD, c_uint32),
+    "td_offset": (_Number, _HELD, c_uint32, c_uint32),
+    "td_index": (_Number, _HELD, c_uint32, c_uint64),
     "td_site": (c_uint32, _HELD),
     "td_sites": (c_uint32, _HELD),
     "td_made": (c_uint32, _HELD),
@@ -150,6 +170,12 @@ def _answer(it):
     return Answer(Status(it.status), it.site, it.number, it.place)
 
 
+def _number(it):
+    if it.status != Status.DONE:
+        raise Refused(it.status)
+    return it.number
+
+
 def _within(number, least, most):
     """The number, if C can be given it. Past its type it would be another one."""
     if not least <= number <= most:
@@ -166,14 +192,23 @@ def _u32(number):
 
 
 class Session:
-    """The session of a site, from 1 to the number of sites, of which there are up to 64. Indexes count atoms from 0."""
+    """The session of a site, from 1 to the number of sites, of which there are up to 64. Indexes count atoms from 0.
+    With a journal, as `save` gives it, it is the session that was saved. One that is none is refused with BAD_JOURNAL
+    and the place of the first byte at fault."""
 
-    def __init__(self, site, sites):
+    def __init__(self, site, sites, journal=None):
         self._held = _Held()
         self._at = ctypes.byref(self._held)
-        status = _library.td_open(_u8(site), _u8(sites), self._at)
-        if status != Status.DONE:
-            raise Refused(status)
+        if journal is None:
+            answer = Answer(Status(_library.td_open(_u8(site), _u8(sites), self._at)))
+        else:
+            answer = _answer(_library.td_load(_u8(site), _u8(sites), journal, len(journal), self._at))
+        if answer.status != Status.DONE:
+            raise Refused(answer.status, answer.place)
+
+    def save(self):
+        """The journal of all that the session was asked and given: who has these bytes has the session."""
+        return self._bytes(_library.td_save)
 
     def close(self):
         """Closes the session. One that is closed answers CLOSED to all that would change it."""
@@ -271,39 +306,52 @@ class Session:
         return _answer(_library.td_next(self._at))
 
     def take(self, data):
-        """Takes a packet and all that waited for it. Answers what became of the packet, and the changes in order."""
+        """Takes a packet and all that is ready then. Answers what became of the packet, and the changes in order."""
         changes, answer = [], self.receive(data)
         more = answer
-        while more.status in (Status.NEW, Status.TAKEN, Status.DROPPED):
-            change = self.changed()
-            if change is not None:
-                changes.append(change)
+        while more.status != Status.MEMORY:
+            if more.status in (Status.NEW, Status.TAKEN):
+                change = self.changed()
+                if change is not None:
+                    changes.append(change)
             if not self.ready():
                 return answer, changes
             more = self.next()
-        return (more if more.status == Status.MEMORY else answer), changes
+        return more, changes
 
     def __len__(self):
         """How many atoms the text has."""
         return _library.td_len(self._at)
 
-    def _written(self, call, *arguments):
+    def _bytes(self, call, *arguments):
         wanted = call(self._at, *arguments, ctypes.create_string_buffer(1), 1)
         if wanted.status == Status.SMALL_ROOM or wanted.status == Status.DONE:
             room = ctypes.create_string_buffer(wanted.len + 1)
             written = call(self._at, *arguments, room, wanted.len + 1)
             if written.status == Status.DONE:
-                return room.raw[:written.len].decode()
+                return room.raw[:written.len]
             raise Refused(written.status)
         raise Refused(wanted.status)
 
     def text(self):
         """The text."""
-        return self._written(_library.td_text)
+        return self._bytes(_library.td_text).decode()
 
     def stretch(self, start, stop):
         """The text of the atoms from an index on and before another."""
-        return self._written(_library.td_stretch, _u32(start), _u32(stop))
+        return self._bytes(_library.td_stretch, _u32(start), _u32(stop)).decode()
+
+    def len_in(self, unit=Unit.CODE_POINT):
+        """How wide the text is, in a unit."""
+        return _number(_library.td_len_in(self._at, _u32(unit)))
+
+    def offset(self, index, unit=Unit.CODE_POINT):
+        """How wide what stands before the atom at an index is, in a unit."""
+        return _number(_library.td_offset(self._at, _u32(unit), _u32(index)))
+
+    def index(self, offset, unit=Unit.CODE_POINT):
+        """The index of the atom in which an offset in a unit lies: at the end, the number of atoms."""
+        return _number(_library.td_index(self._at, _u32(unit), _within(offset, 0, 2**64 - 1)))
 
     def site(self):
         """The own site."""

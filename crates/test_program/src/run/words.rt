@@ -12,7 +12,7 @@ fn other_words_are_a_usage_refusal(rt: HostRuntime) -> Result<(), Fail> {
         &["help"][..],
         &["play", "play"][..],
         &["Play"][..],
-        &["kept"][..],
+        &["kept", "kept"][..],
         &["gen", "3"][..],
         &["gen", "50001", "7"][..],
         &["gen", "03", "7"][..],

@@ -2,7 +2,7 @@
 
 use crate::replica::steps::Ask::{Delete, Insert, Next, PasteAfter, ProposeRoot, Take};
 use crate::replica::steps::Told::{Later, Made, New, Position, Taken};
-use crate::replica::steps::{Step, atom, play, replicas, run};
+use crate::replica::steps::{Step, atom, replicas, run, step};
 use std::process::Abort;
 use std::test::Fail;
 use td_doc::Rows;
@@ -55,24 +55,26 @@ fn change_of(shows: Shows) -> Result<Option<Change>, Fail> {
 fn tells(
     rt: &impl Abort,
     replicas: &mut [Replica<Rows>],
-    step: Step,
-    shows: Shows,
+    (asked, shows): (Step, Shows),
 ) -> Result<(), Fail> {
     let change = change_of(shows)?;
-    play(rt, "each step tells its change", replicas, &[step])?;
-    let (site, _, _) = step;
-    match replicas.get(usize::from(site).wrapping_sub(1)) {
+    step(rt, "each step tells its change", replicas, asked)?;
+    match replicas.get(usize::from(asked.0).wrapping_sub(1)) {
         Some(replica) => assert_eq!(rt; replica.last_change(), change),
         None => return Err(Fail::from("a site")),
     }
     Ok(())
 }
 
-#[test]
-fn each_step_tells_its_change(rt: HostRuntime) -> Result<(), Fail> {
-    let mut replicas = replicas(&rt, rt.alloc(), 2)?;
-    for (step, told) in STEPS {
-        tells(&rt, &mut replicas, step, told)?;
+fn all_tell(rt: &impl Abort, replicas: &mut [Replica<Rows>]) -> Result<(), Fail> {
+    for row in &STEPS {
+        tells(rt, replicas, *row)?;
     }
     Ok(())
+}
+
+#[test]
+fn each_step_tells_its_change(rt: HostRuntime) -> Result<(), Fail> {
+    let mut replicas = replicas(rt.alloc(), 2)?;
+    all_tell(&rt, &mut replicas)
 }

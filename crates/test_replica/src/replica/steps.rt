@@ -262,38 +262,59 @@ fn enter(rt: &impl Abort, name: &str, replica: &mut Replica<Rows>, entry: &Entry
     );
 }
 
+// The new replica of one of n sites.
+fn fresh(alloc: Global, number: u8, n: u8) -> Result<Replica<Rows>, Fail> {
+    if n > MAX_SITE || number > n {
+        return Err(Fail::from("a site of no more than 64"));
+    }
+    Ok(Replica::new(alloc, site(number)?, n)?)
+}
+
 // The new replicas of n sites.
-pub fn replicas(rt: &impl Abort, alloc: Global, n: u8) -> Result<Vec<Replica<Rows>>, Fail> {
-    assert!(rt; n <= MAX_SITE);
+pub fn replicas(alloc: Global, n: u8) -> Result<Vec<Replica<Rows>>, Fail> {
     let mut replicas = Vec::new(alloc);
     for number in 1..=n {
-        assert!(rt; number <= n);
-        replicas.push(Replica::new(alloc, site(number)?, n)?)?;
+        replicas.push(fresh(alloc, number, n)?)?;
     }
     Ok(replicas)
 }
 
-// Each step gives its reply, and stands with it in the history of its site.
-pub fn play(
+// What a step enters in the history of its site.
+fn entry(replicas: &[Replica<Rows>], (_, ask, told): Step) -> Result<Entry, Fail> {
+    let input = input(replicas, ask)?;
+    let reply = reply(told)?;
+    Ok(Entry { input, reply })
+}
+
+// The step gives its reply, and stands with it in the history of its site.
+pub fn step(
+    rt: &impl Abort,
+    name: &str,
+    replicas: &mut [Replica<Rows>],
+    step: Step,
+) -> Result<(), Fail> {
+    let entry = entry(replicas, step)?;
+    let (number, _, _) = step;
+    match replicas.get_mut(usize::from(number).wrapping_sub(1)) {
+        Some(replica) => enter(rt, name, replica, &entry),
+        None => return Err(Fail::from("a site")),
+    }
+    Ok(())
+}
+
+fn play(
     rt: &impl Abort,
     name: &str,
     replicas: &mut [Replica<Rows>],
     steps: &[Step],
 ) -> Result<(), Fail> {
-    for (site, ask, told) in steps {
-        let entry = Entry {
-            input: input(replicas, *ask)?,
-            reply: reply(*told)?,
-        };
-        match replicas.get_mut(usize::from(*site).wrapping_sub(1)) {
-            Some(replica) => enter(rt, name, replica, &entry),
-            None => return Err(Fail::from("a site")),
-        }
+    for told in steps {
+        step(rt, name, replicas, *told)?;
     }
     Ok(())
 }
 
-fn shows(
+pub fn shows(
     rt: &impl Abort,
     alloc: Global,
     name: &str,
@@ -318,18 +339,23 @@ fn all_show(
     Ok(())
 }
 
-fn plays(rt: &impl Abort, alloc: Global, example: &Example) -> Result<(), Fail> {
-    let mut replicas = replicas(rt, alloc, example.sites)?;
-    play(rt, example.name, &mut replicas, example.steps)?;
+fn plays(
+    rt: &impl Abort,
+    alloc: Global,
+    replicas: &mut [Replica<Rows>],
+    example: &Example,
+) -> Result<(), Fail> {
+    play(rt, example.name, replicas, example.steps)?;
     match example.text {
-        Some(text) => all_show(rt, alloc, example.name, &replicas, text),
+        Some(text) => all_show(rt, alloc, example.name, replicas, text),
         None => Ok(()),
     }
 }
 
 pub fn all_play(rt: &impl Abort, alloc: Global, examples: &[Example]) -> Result<(), Fail> {
     for example in examples {
-        plays(rt, alloc, example)?;
+        let mut replicas = replicas(alloc, example.sites)?;
+        plays(rt, alloc, &mut replicas, example)?;
     }
     Ok(())
 }

@@ -24,6 +24,8 @@ pub enum Do {
     Propose(u8, u32, Bit),
     Cancel(u8, u32),
     Give(u8, u64),
+    // What is known to the site or is for others is not given.
+    Offer(u8, u64),
     GiveAll(u8),
     Settle,
 }
@@ -37,6 +39,7 @@ pub enum Told {
     NotOpen,
     OtherReply,
     NoSuch,
+    NotGiven,
     Stray,
     // so many waiting operations were taken then
     New(u32),
@@ -46,24 +49,39 @@ pub enum Told {
     Gave(u64),
 }
 
-fn site(number: u8) -> Result<Site, Fail> {
-    Ok(Site::new(number).ok_or("a site")?)
+// What is shown, how many sites there are, what is done in turn, and the text that these sites show then.
+pub struct Example {
+    pub name: &'static str,
+    pub sites: u8,
+    pub moves: &'static [(Do, Told)],
+    pub text: &'static str,
+    pub shown_at: &'static [u8],
 }
 
+fn dot(number: u8, seq: u32) -> Result<Dot, Fail> {
+    let site = Site::new(number).ok_or("a site")?;
+    Ok(Dot::new(site, seq).ok_or("a dot")?)
+}
+
+fn atom(letter: u8) -> Result<Atom, Fail> {
+    Ok(Atom::new(&[letter]).ok().ok_or("an atom")?)
+}
+
+// What is asked, and of which site, where it is a request.
 fn request(what: Do) -> Result<Option<(u8, Request)>, Fail> {
     Ok(Some(match what {
         Do::Type(at, index, letter) => {
-            let atom = Atom::new(&[letter]).ok().ok_or("an atom")?;
+            let atom = atom(letter)?;
             (at, Request::Insert { index, atom })
         }
         Do::Delete(at, index) => (at, Request::Delete { index }),
         Do::ProposeRoot(at) => (at, Request::Propose { slot: Slot::Root }),
         Do::Propose(at, index, bit) => (at, Request::ProposeAt { index, bit }),
         Do::Cancel(at, seq) => {
-            let proposal = Dot::new(site(at)?, seq).ok_or("a dot")?;
+            let proposal = dot(at, seq)?;
             (at, Request::Cancel { proposal })
         }
-        Do::Give(..) | Do::GiveAll(..) | Do::Settle => return Ok(None),
+        Do::Give(..) | Do::Offer(..) | Do::GiveAll(..) | Do::Settle => return Ok(None),
     }))
 }
 
@@ -95,50 +113,79 @@ fn of_given(given: Given) -> Told {
 }
 
 // The site, where the world has it.
-pub fn site_in(rt: &impl Abort, world: &World<Rows>, number: u8) -> Result<Site, Fail>
+fn site_in(world: &World<Rows>, number: u8) -> Result<Site, Fail>
     ensures { IfOk result (λ site. site ≤ size world.now) }
 {
-    let at = site(number)?;
-    assert!(rt; at.number() <= world.size());
-    Ok(at)
+    match Site::new(number) {
+        Some(site) if site.number() <= world.size() => Ok(site),
+        _ => Err("a site".into()),
+    }
 }
 
-fn tell(rt: &impl Abort, alloc: Global, world: &mut World<Rows>, what: Do) -> Result<Told, Fail> {
+fn give_all(alloc: Global, world: &mut World<Rows>, number: u8) -> Result<Told, Fail> {
+    let to = site_in(world, number)?;
+    Ok(Told::Gave(world.give_all(alloc, to)?.len() as u64))
+}
+
+fn of_offered(given: Option<Given>) -> Told {
+    match given {
+        Some(given) => of_given(given),
+        None => Told::NotGiven,
+    }
+}
+
+fn tell(alloc: Global, world: &mut World<Rows>, what: Do) -> Result<Told, Fail> {
     if let Some((at, request)) = request(what)? {
-        let at = site_in(rt, world, at)?;
+        let at = site_in(world, at)?;
         return Ok(of_reply(world.call(at, request)?));
     }
     match what {
         Do::Give(to, number) => {
-            let to = site_in(rt, world, to)?;
+            let to = site_in(world, to)?;
             Ok(of_given(world.give(to, number)?))
         }
-        Do::GiveAll(to) => {
-            let to = site_in(rt, world, to)?;
-            Ok(Told::Gave(world.give_all(alloc, to)?.len() as u64))
+        Do::Offer(to, number) => {
+            let to = site_in(world, to)?;
+            Ok(of_offered(world.offer(to, number)?))
         }
+        Do::GiveAll(to) => give_all(alloc, world, to),
         _ => Ok(Told::Gave(world.settle()?)),
     }
 }
 
-// In a new world of n sites the table is played, and then all sites of which the text is told show it.
-pub fn plays(
+fn shows(alloc: Global, world: &World<Rows>, number: u8, text: &str) -> Result<bool, Fail> {
+    let at = site_in(world, number)?;
+    Ok(world.replica(at).text(alloc)?.as_slice() == text.as_bytes())
+}
+
+fn plays(
     rt: &impl Abort,
     alloc: Global,
-    n: u8,
-    table: &[(Do, Told)],
-    text: &str,
-    sites: &[u8],
+    world: &mut World<Rows>,
+    example: &Example,
 ) -> Result<(), Fail> {
-    assert!(rt; 1 <= n);
-    assert!(rt; n <= MAX_SITE);
-    let mut world = World::new(alloc, n)?;
-    for (what, told) in table {
-        assert_eq!(rt; tell(rt, alloc, &mut world, *what)?, *told);
+    let name = example.name;
+    for (what, told) in example.moves {
+        assert_eq!(rt; tell(alloc, world, *what)?, *told, "{name}");
     }
-    for number in sites {
-        let at = site_in(rt, &world, *number)?;
-        assert_eq!(rt; world.replica(at).text(alloc)?.as_slice(), text.as_bytes());
+    for number in example.shown_at {
+        assert!(rt; shows(alloc, world, *number, example.text)?, "{name}");
+    }
+    Ok(())
+}
+
+fn world(alloc: Global, n: u8) -> Result<World<Rows>, Fail> {
+    if n == 0 || n > MAX_SITE {
+        return Err("1 to 64 sites".into());
+    }
+    Ok(World::new(alloc, n)?)
+}
+
+/// Each is played in a new world.
+pub fn all_play(rt: &impl Abort, alloc: Global, examples: &[Example]) -> Result<(), Fail> {
+    for example in examples {
+        let mut world = world(alloc, example.sites)?;
+        plays(rt, alloc, &mut world, example)?;
     }
     Ok(())
 }

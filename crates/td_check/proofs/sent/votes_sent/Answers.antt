@@ -14,7 +14,8 @@ loop-place-preserved g c = λ (v : Vote).
     slice_get-get_or c.args.seats.now c.loop-place.place m (omega (arith, c.loop-place-test.true))
     ∙ ap Some (sym c.index-seats-place.is) in
     c.in_ok-add_votes.ensures v
-    ∙ ap (λ (b : Bool). b || (v.voter - 1 == c.loop-place.place && list_any (is_vote v) m.sent)) (c.loop-place.invariant v)
+    ∙ ap (λ (b : Bool). b || (v.voter - 1 == c.loop-place.place && list_any (is_vote v) m.sent))
+    (c.loop-place.invariant v)
     ∙ sent_next c.args.seats.now c.loop-place.place m here v
 
 pub returns : goal.returns

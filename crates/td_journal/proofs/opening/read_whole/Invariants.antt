@@ -6,6 +6,7 @@ abbrev pub invariant-loop-bytes : goal.invariant-loop-bytes
 invariant-loop-bytes g l = record {
   front : l.bytes ≡ take (length l.bytes) (g.K.Disk.reads l.fn.disk);
   within : length l.bytes ≤ length (g.K.Disk.reads l.fn.disk);
+  same : l.disk ≡ l.fn.disk;
   reads : g.K.Disk.reads l.disk ≡ g.K.Disk.reads l.fn.disk;
   sound : g.K.Disk.is_sound l.disk ≡ g.K.Disk.is_sound l.fn.disk;
   crash : (c : List ℕ) → g.K.Disk.leaves l.disk c → g.K.Disk.leaves l.fn.disk c;

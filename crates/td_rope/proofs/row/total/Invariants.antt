@@ -1,6 +1,7 @@
-use Rattle.std.proofs.Common.{◌≡◌, length, take}
+use Rattle.std.proofs.Common.{take}
 use Rattle.std.specs.List.{flat_map}
+use Rattle.td_rope.specs.Sizes.{IsSize}
 use Rattle.td_rope.proofs.row.total.Given as goal
 
 abbrev pub invariant-loop-part : goal.invariant-loop-part
-invariant-loop-part g l = l.total ≡ length (flat_map g.P.Part.atoms (take l.part-index l.parts))
+invariant-loop-part g l = IsSize (flat_map g.P.Part.atoms (take l.part-index l.parts)) l.total

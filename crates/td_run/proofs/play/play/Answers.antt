@@ -18,7 +18,8 @@ loop-command-init g c =
     let n : ℕ = c.args.script.now.sites in
     record {
       way = begins n c.as_slice-commands.result.now (g.K.Sink.held c.args.sink.now) c.in_ok-player.player
-          c.in_ok-player.ensures (new_length n n 1) (length-map-range_with_len _ 1 n) (λ are. new_is_world n c.requires.some c.requires.few);
+          c.in_ok-player.ensures (new_length n n 1) (length-map-range_with_len _ 1 n)
+          (λ are. new_is_world n c.requires.some c.requires.few);
       count = omega arith;
     }
 

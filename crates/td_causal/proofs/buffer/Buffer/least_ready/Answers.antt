@@ -1,4 +1,5 @@
-use Rattle.std.proofs.Common.{◌≡◌, ◌<◌, ◌+◌, ℕ, sym, ap, ◌∙◌, subst, length, find, Option, None, is_some, false, refl, Some, List, arith}
+use Rattle.std.proofs.Common.{◌≡◌, ◌<◌, ◌+◌, ℕ, List, length, find, Option, Some, None, is_some, false}
+use Rattle.std.proofs.Common.{refl, sym, ap, ◌∙◌, subst, arith}
 use Rattle.td_op.specs.Op.{OpValue}
 use Rattle.td_causal.specs.Waiting.{ops_waiting, is_ready_of}
 use Rattle.td_causal.specs.BufferParts.{AreEntries}

@@ -1,5 +1,7 @@
-use Rattle.td_disk.proofs.Moments.{joined}
-use Rattle.td_disk.proofs.Growing.{behind_put, gate_put, both_put}
+use Rattle.std.proofs.Common.{ℕ, ◌+◌, List, true, false, inl, inr, subst}
+use Rattle.td_disk.specs.Calls.{Puts}
+use Rattle.td_disk.proofs.Moments.{joined, at_err}
+use Rattle.td_disk.proofs.Growing.{all_but_first, behind_put, gate_put, both_put}
 use Rattle.td_disk.proofs.gated.Gated.grow.Goals as goal
 
 pub returns-in_err-put-clause-any_moment : goal.returns-in_err-put-clause-any_moment
@@ -37,3 +39,27 @@ returns-clause-settled g c =
     c.requires.settled.shut c.requires.piece c.put.new.disk c.put-2.new.disk c.in_ok-put.ensures.written
     c.in_ok-put-2.ensures.written in
     record { within = now.within; shut = now.shut; synced = c.in_ok-put-2.ensures.synced }
+
+pub returns-clause-done : goal.returns-clause-done
+returns-clause-done g c = (
+  c.put.new.disk,
+  subst (λ (l : List ℕ). Puts g.D.Disk c.args.self.now.disk (c.args.self.now.end + 1) l true c.put.new.disk)
+      (all_but_first c.args.bytes.now) c.in_ok-put.ensures.done,
+  c.in_ok-put-2.ensures.done,
+)
+
+pub returns-in_err-put-clause-not_done : goal.returns-in_err-put-clause-not_done
+returns-in_err-put-clause-not_done g c =
+    at_err c.from_residual.result _
+    (inl (subst (λ (l : List ℕ). Puts g.D.Disk c.args.self.now.disk (c.args.self.now.end + 1) l false c.put.new.disk)
+    (all_but_first c.args.bytes.now) c.in_err-put.ensures.not_done))
+
+pub returns-in_err-put-2-clause-not_done : goal.returns-in_err-put-2-clause-not_done
+returns-in_err-put-2-clause-not_done g c =
+    at_err c.from_residual-in_err-put-2.result _
+    (inr (
+      c.put.new.disk,
+      subst (λ (l : List ℕ). Puts g.D.Disk c.args.self.now.disk (c.args.self.now.end + 1) l true c.put.new.disk)
+          (all_but_first c.args.bytes.now) c.in_ok-put.ensures.done,
+      c.in_err-put-2.ensures.not_done,
+    ))

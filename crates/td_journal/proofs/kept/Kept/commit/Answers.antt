@@ -1,4 +1,6 @@
-use Rattle.std.proofs.Common.{rules, ◌≡◌, ◌≤◌, ◌+◌, ℕ, List, [], ◌∷◌, ◌++◌, length, sym, ◌∙◌, ap, arith, length-append}
+use Rattle.std.proofs.Common.{rules, ◌≡◌, ◌≢◌, ◌≤◌, ◌+◌, ℕ, List, [], ◌∷◌, ◌++◌, length, true, false}
+use Rattle.std.proofs.Common.{sym, ◌∙◌, ap, subst, arith, length-append}
+use Rattle.td_disk.specs.Calls.{Grows}
 use Rattle.td_disk.specs.Gated.{disk_of, end_of, front_of, piece_of, IsSettled}
 use Rattle.td_disk.specs.declared.disk.TheConstants.{MAX_DISK_LEN}
 use Rattle.td_journal.specs.Check.{bytes_of}
@@ -7,7 +9,7 @@ use Rattle.td_journal.specs.Kept.{acknowledged_of, staged_of}
 use Rattle.td_journal.proofs.Growing.{inputs_split}
 use Rattle.td_journal.proofs.Pieces.{piece_is}
 use Rattle.td_journal.proofs.Keeping.{at_rest, either_journal, staged_piece, all_counted}
-use Rattle.td_journal.proofs.Keeping.{leaves_all, kept_all, counted_all, ok_part}
+use Rattle.td_journal.proofs.Keeping.{leaves_all, kept_all, counted_all, none_left, ok_part, err_part}
 use Rattle.td_journal.proofs.kept.Kept.commit.Goals as goal
 
 -- nothing is staged
@@ -34,7 +36,34 @@ returns-then-len-eq0-clause-leaves g c =
     (all_counted g.K.Disk s.check.format s.replica s.acknowledged s.journal (bytes_of s.check) s.staged k
     s.counted.within (search rules))
 
+pub returns-then-len-eq0-clause-staged : goal.returns-then-len-eq0-clause-staged
+returns-then-len-eq0-clause-staged g c = none_left c.args.self.now.staged (search rules)
+
+pub returns-then-len-eq0-clause-done : goal.returns-then-len-eq0-clause-done
+returns-then-len-eq0-clause-done g c = λ some. absurd (some (none_left c.args.self.now.staged (search rules)))
+
 -- something is
+
+pub returns-clause-nothing : goal.returns-clause-nothing
+returns-clause-nothing g c = λ none.
+    let some : length c.args.self.now.staged ≢ 0 = search rules in
+    absurd (some (ap length none))
+
+pub returns-clause-done : goal.returns-clause-done
+returns-clause-done g c = λ some.
+    let j = c.args.self.now.journal in
+    subst (λ (l : List ℕ). Grows g.K.Disk (disk_of j) (end_of j) l true (disk_of c.grow.new.self)) c.bytes.ensures
+    (ok_part c.grow.result
+    (Grows g.K.Disk (disk_of j) (end_of j) c.bytes.result.now true (disk_of c.grow.new.self))
+    (sym c.is_err.ensures.value ∙ c.if-is_err.false) c.grow.ensures.done)
+
+pub returns-then-is_err-clause-not_done : goal.returns-then-is_err-clause-not_done
+returns-then-is_err-clause-not_done g c = λ failed.
+    let j = c.args.self.now.journal in
+    subst (λ (l : List ℕ). Grows g.K.Disk (disk_of j) (end_of j) l false (disk_of c.grow.new.self)) c.bytes.ensures
+    (err_part c.grow.result
+    (Grows g.K.Disk (disk_of j) (end_of j) c.bytes.result.now false (disk_of c.grow.new.self))
+    (sym c.is_err.ensures.value ∙ c.if-is_err.true) c.grow.ensures.not_done)
 
 pub grow-requires-clause-piece : goal.grow-requires-clause-piece
 grow-requires-clause-piece g c =

@@ -1,10 +1,11 @@
-use Rattle.std.proofs.Common.{◌+◌, ◌∙◌, sym, ap, length}
+use Rattle.std.proofs.Common.{ℕ, List, ◌+◌, ◌++◌, ◌∷◌, [], true, false, ◌∙◌, sym, ap, subst, length}
 use Rattle.td_io.specs.Count.{Rose}
+use Rattle.td_disk.specs.Calls.{Puts}
 use Rattle.td_disk.specs.Gated.{disk_of}
 use Rattle.td_journal.specs.Journal.{head_bytes}
 use Rattle.td_journal.specs.Seen.{journal_of}
 use Rattle.td_journal.proofs.Finding.{journal_new, left_on, begun}
-use Rattle.td_journal.proofs.Keeping.{err_part}
+use Rattle.td_journal.proofs.Keeping.{err_part, ok_part, puts_on}
 use Rattle.td_journal.proofs.kept.Kept.create.Goals as goal
 
 pub returns-then-is_err-clause-disk : goal.returns-then-is_err-clause-disk
@@ -23,4 +24,19 @@ pub returns-clause-any_moment : goal.returns-clause-any_moment
 returns-clause-any_moment g c =
     begun g.K.Disk c.args.disk c.begin.new.disk (disk_of (journal_of c.of.result)) (length c.as_slice.result.now)
     (length (head_bytes c.args.format c.args.site c.args.n) + 1) c.of.ensures.disk
-    (ap length c.as_slice.ensures ∙ c.in-Ok.ensures.head) c.begin.ensures.any_moment
+    (ap length c.as_slice.ensures ∙ c.in-Ok.ensures.long) c.begin.ensures.any_moment
+
+pub returns-clause-done : goal.returns-clause-done
+returns-clause-done g c =
+    puts_on g.K.Disk c.args.disk c.begin.new.disk (disk_of (journal_of c.of.result)) c.as_slice.result.now
+    (head_bytes c.args.format c.args.site c.args.n ++ 0 ∷ []) (c.as_slice.ensures ∙ c.in-Ok.ensures.head)
+    c.of.ensures.disk
+    (ok_part c.begin.result (Puts g.K.Disk c.args.disk 0 c.as_slice.result.now true c.begin.new.disk)
+    (sym c.is_err.ensures.value ∙ c.if-is_err.false) c.begin.ensures.done)
+
+pub returns-then-is_err-clause-not_done : goal.returns-then-is_err-clause-not_done
+returns-then-is_err-clause-not_done g c = λ failed.
+    subst (λ (l : List ℕ). Puts g.K.Disk c.args.disk 0 l false c.begin.new.disk)
+    (c.as_slice.ensures ∙ c.in-Ok.ensures.head)
+    (err_part c.begin.result (Puts g.K.Disk c.args.disk 0 c.as_slice.result.now false c.begin.new.disk)
+    (sym c.is_err.ensures.value ∙ c.if-is_err.true) c.begin.ensures.not_done)

@@ -4,6 +4,7 @@ use Rattle.td_replica.specs.Replica.{ReplicaValue}
 use Rattle.td_journal.specs.Journal.{inputs_of}
 use Rattle.td_journal.specs.Seen.{journal_of}
 use Rattle.td_journal.proofs.Finding.{left_on, restored, not_bad}
+use Rattle.td_journal.proofs.Keeping.{syncs_on}
 use Rattle.td_journal.proofs.kept.Kept.open.Goals as goal
 
 pub returns-in-Ok-clause-leaves : goal.returns-in-Ok-clause-leaves
@@ -23,3 +24,8 @@ returns-in-Ok-clause-restores g c = λ f inputs can j.
 pub returns-in-Err-clause-not_bad : goal.returns-in-Err-clause-not_bad
 returns-in-Err-clause-not_bad g c = λ f inputs can j at is_bad.
     not_bad c.args.site c.args.n (g.K.Disk.reads c.args.disk) f inputs can j at (c.in-Err.ensures.bad at is_bad)
+
+pub returns-in-Ok-clause-done : goal.returns-in-Ok-clause-done
+returns-in-Ok-clause-done g c =
+    syncs_on g.K.Disk c.args.disk c.find.new.disk (disk_of (journal_of c.of.result)) c.of.ensures.disk
+    c.in-Ok.ensures.done

@@ -7,7 +7,7 @@ use Rattle.td_replica.specs.Replica.{ReplicaValue}
 use Rattle.td_journal.specs.Check.{bytes_of}
 use Rattle.td_journal.specs.Journal.{record_bytes, inputs_of}
 use Rattle.td_journal.specs.Kept.{IsCounted, AreIndexed}
-use Rattle.td_journal.proofs.Keeping.{counted_after, kept_after, kept_same, after_stays}
+use Rattle.td_journal.proofs.Keeping.{as_long, counted_after, kept_after, kept_same, after_stays}
 use Rattle.td_journal.proofs.Writable.{indexed_after}
 use Rattle.td_journal.proofs.kept.Kept.stage.Goals as goal
 
@@ -78,3 +78,28 @@ pub returns-in_default-clause-place : goal.returns-in_default-clause-place
 returns-in_default-clause-place g c =
     let same : c.step_on.new.self ≡ c.args.self.now.replica = search rules in
     (ap (λ (r : ReplicaValue). r.machine.site) same, ap (λ (r : ReplicaValue). r.machine.size) same)
+
+pub returns-in_err-record-clause-long : goal.returns-in_err-record-clause-long
+returns-in_err-record-clause-long g c = λ is_open.
+    let s = c.args.self.now in
+    as_long g.K.Disk s.replica s.journal s.check s.staged s.acknowledged (s.kept is_open)
+
+pub returns-then-as_slice-end-clause-long : goal.returns-then-as_slice-end-clause-long
+returns-then-as_slice-end-clause-long g c = λ is_open.
+    let s = c.args.self.now in
+    as_long g.K.Disk s.replica s.journal s.check s.staged s.acknowledged (s.kept is_open)
+
+pub returns-in_err-push-clause-long : goal.returns-in_err-push-clause-long
+returns-in_err-push-clause-long g c = λ is_open.
+    let s = c.args.self.now in
+    as_long g.K.Disk s.replica s.journal s.check s.staged s.acknowledged (s.kept is_open)
+
+pub returns-in_default-clause-long : goal.returns-in_default-clause-long
+returns-in_default-clause-long g c = λ is_open.
+    let s = c.args.self.now in
+    as_long g.K.Disk s.replica s.journal s.check s.staged s.acknowledged (s.kept is_open)
+
+pub returns-clause-long : goal.returns-clause-long
+returns-clause-long g c = λ is_open.
+    let s = c.args.self.now in
+    as_long g.K.Disk s.replica s.journal s.check s.staged s.acknowledged (s.kept is_open)

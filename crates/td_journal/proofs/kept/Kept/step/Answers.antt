@@ -38,3 +38,12 @@ returns-clause-any_moment g c = λ is_open.
     c.in_ok-reply.ensures.ok s.counted.within (record
     { site = c.stage.ensures.place.0; size = c.stage.ensures.place.1 })
     (c.commit.ensures.any_moment (o.4 ∙ is_open))
+
+pub returns-in_err-reply-clause-long : goal.returns-in_err-reply-clause-long
+returns-in_err-reply-clause-long g c = c.stage.ensures.long
+
+pub returns-in_err-commit-clause-long : goal.returns-in_err-commit-clause-long
+returns-in_err-commit-clause-long g c = c.stage.ensures.long
+
+pub returns-clause-long : goal.returns-clause-long
+returns-clause-long g c = c.stage.ensures.long

@@ -27,9 +27,9 @@ total-requires c =
     omega (
       arith,
       ap (λ (ls : List ℕ). sum (take c.args.index ls)) c.deref.ensures.value,
-      start_is lens bytes c.args.index c.self.invariant.whole,
+      start_is lens bytes c.args.index c.self.invariant.parts.whole,
       within,
-      ap length (piece_bytes lens bytes c.self.invariant.whole),
+      ap length (piece_bytes lens bytes c.self.invariant.parts.whole),
       c.self.inside.bytes.ok.0,
       c.self.inside.bytes.ok.1,
       c.self.inside.bytes.small,
@@ -40,5 +40,5 @@ returns c =
     let lens = c.self.inside.lengths.items in
     let bytes = c.self.inside.bytes.items in
     c.total.ensures ∙ ap (λ (ls : List ℕ). sum (take c.args.index ls)) c.deref.ensures.value
-    ∙ start_is lens bytes c.args.index c.self.invariant.whole
+    ∙ start_is lens bytes c.args.index c.self.invariant.parts.whole
     ∙ ap (λ (atoms : List (List ℕ)). length (concat (take c.args.index atoms))) c.self.view_is

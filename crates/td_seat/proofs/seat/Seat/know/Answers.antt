@@ -43,8 +43,8 @@ returns-in-Repeat-clause-reply g c =
     let is : c.in_ok-offer.field-0 ≡ offer_answer r.machine.have x (is_kept x.dot w) =
     c.in_ok-offer.ensures.answer
     ∙ ap (λ (have : List ℕ). offer_answer have x (is_kept x.dot w)) c.have-2.ensures in
-    absurd (not_again r.machine o.ops w x c.in_ok-offer.field-0 r.machine.size c.self.invariant.stored sized had quiet apart low is
-    c.in-Repeat.is)
+    absurd (not_again r.machine o.ops w x c.in_ok-offer.field-0 r.machine.size c.self.invariant.stored
+    sized had quiet apart low is c.in-Repeat.is)
 
 pub returns-in-Repeat-clause-ok : goal.returns-in-Repeat-clause-ok
 returns-in-Repeat-clause-ok g c not_new =
@@ -60,8 +60,8 @@ returns-in-Repeat-clause-ok g c not_new =
     let is : c.in_ok-offer.field-0 ≡ offer_answer r.machine.have x (is_kept x.dot w) =
     c.in_ok-offer.ensures.answer
     ∙ ap (λ (have : List ℕ). offer_answer have x (is_kept x.dot w)) c.have-2.ensures in
-    absurd (not_again r.machine o.ops w x c.in_ok-offer.field-0 r.machine.size c.self.invariant.stored sized had quiet apart low is
-    c.in-Repeat.is)
+    absurd (not_again r.machine o.ops w x c.in_ok-offer.field-0 r.machine.size c.self.invariant.stored
+    sized had quiet apart low is c.in-Repeat.is)
 
 pub returns-in-Later-clause-ok : goal.returns-in-Later-clause-ok
 returns-in-Later-clause-ok g c not_new =

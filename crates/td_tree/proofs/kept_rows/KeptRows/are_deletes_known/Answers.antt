@@ -24,7 +24,9 @@ returns c =
     get_or_read_under c.self.inside.rows.items c.args.row (length c.self.inside.rows.items) c.index.result.now no_row
     c.index.ensures low refl in
     c.are_dots_known.ensures
-    ∙ ap (λ (x : TreeRow). list_all (vector_has c.args.v.now) (deletes_of (several_at c.self.inside.several c.args.row) x.deleted)) row
+    ∙ ap (λ (x : TreeRow). list_all (vector_has c.args.v.now)
+    (deletes_of (several_at c.self.inside.several c.args.row) x.deleted)) row
     ∙ sym (ap (λ (e : Entry). list_all (vector_has c.args.v.now) (e.deletes))
     (entry_of (several_at c.self.inside.several) c.self.inside.rows.items c.args.row low))
-    ∙ ap (λ (k : Column). list_all (vector_has c.args.v.now) ((get_or k.entries c.args.row nobody.entry).deletes)) c.self.view_is
+    ∙ ap (λ (k : Column). list_all (vector_has c.args.v.now)
+    ((get_or k.entries c.args.row nobody.entry).deletes)) c.self.view_is

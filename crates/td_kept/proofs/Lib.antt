@@ -1,0 +1,10 @@
+pub mod Inputs
+pub mod Moving
+pub mod Failing
+pub mod Restored
+pub mod Seating
+pub mod Staging
+pub mod Places
+pub mod Leaving
+pub mod Wholes
+pub mod Calling

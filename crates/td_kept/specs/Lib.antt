@@ -1,0 +1,3 @@
+pub mod KeptWorld
+pub mod Sites
+pub mod Seats

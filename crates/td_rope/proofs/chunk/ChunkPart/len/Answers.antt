@@ -1,6 +1,0 @@
-use Rattle.std.proofs.Common.{arith}
-use Rattle.td_rope.proofs.Pieces.{count_pieces}
-use Rattle.td_rope.proofs.chunk.ChunkPart.len.Goals as goal
-
-pub returns : goal.returns
-returns c = rw (← c.self.view_is) (omega (arith, count_pieces c.self.inside.lengths.items c.self.inside.bytes.items))

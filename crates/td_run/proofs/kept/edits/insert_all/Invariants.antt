@@ -1,0 +1,15 @@
+use Rattle.std.proofs.Common.{◌≡◌, ◌+◌, length}
+use Rattle.td_world.specs.World.{size}
+use Rattle.td_run.specs.Asking.{inserts}
+use Rattle.td_run.specs.KeptAsking.{ask_kept, done_before_kept}
+use Rattle.td_run.proofs.kept.edits.insert_all.Given as goal
+
+abbrev pub invariant-loop-atom : goal.invariant-loop-atom
+invariant-loop-atom g l = record {
+  can : (goal.iterator-loop-atom g).can_next l.atom-iterator;
+  ends : (goal.iterator-loop-atom g).is_finite l.atom-iterator;
+  same : size l.world.world ≡ size l.fn.world.world;
+  asked : ask_kept l.site (inserts l.fn.index l.atoms) l.fn.world.world
+      ≡ done_before_kept l.done (ask_kept l.site (inserts l.index l.atom-iterator) l.world.world);
+  counted : l.done + length l.atom-iterator ≡ length l.atoms;
+}

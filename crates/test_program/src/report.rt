@@ -1,4 +1,0 @@
-mod documents;
-mod lines;
-mod marks;
-mod trace;

@@ -1,4 +1,0 @@
-mod atom_list;
-mod clusters;
-mod live;
-mod script;

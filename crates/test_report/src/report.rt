@@ -1,0 +1,5 @@
+mod documents;
+mod kept;
+mod lines;
+mod marks;
+mod trace;
