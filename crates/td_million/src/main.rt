@@ -51,20 +51,25 @@ const MIDDLE: u32 = 500_000;
 // 500,000th atom pasted, stands at 500,001, and one further with the letter in the middle before it.
 fn main(rt: HostRuntime) -> anyhow::Result<()> {
     let mut writer = Writer::new(rt.alloc(), Site::new(1).ok_or(Fault::NoValue)?)?;
-    paste(&mut writer, RUNS)?;
-    print_tally(&rt, "pasted", writer.doc())?;
+    write(&rt, &mut writer)
+}
+
+// Each step, and what there is after it.
+fn write(rt: &impl Print, writer: &mut Writer) -> anyhow::Result<()> {
+    paste(writer, RUNS)?;
+    print_tally(rt, "pasted", writer.doc())?;
     writer.next_site()?;
-    type_letters(&mut writer, EDITS)?;
-    print_tally(&rt, "typed", writer.doc())?;
+    type_letters(writer, EDITS)?;
+    print_tally(rt, "typed", writer.doc())?;
     writer.next_site()?;
-    delete_letters(&mut writer, EDITS)?;
-    print_tally(&rt, "deleted", writer.doc())?;
+    delete_letters(writer, EDITS)?;
+    print_tally(rt, "deleted", writer.doc())?;
     writer.flatten()?;
-    print_tally(&rt, "flattened", writer.doc())?;
+    print_tally(rt, "flattened", writer.doc())?;
     writer.next_site()?;
-    type_letter(&mut writer, MIDDLE)?;
-    print_tally(&rt, "typed in the middle", writer.doc())?;
-    print_places(&rt, writer.doc())
+    type_letter(writer, MIDDLE)?;
+    print_tally(rt, "typed in the middle", writer.doc())?;
+    print_places(rt, writer.doc())
 }
 
 fn print_tally(rt: &impl Print, step: &str, doc: &Tree) -> io::Result<()> {

@@ -1,5 +1,4 @@
-ghost use Rattle.std.specs.Prelude.{◌≤◌, ◌+◌, ◌^◌};
-
+use std::process::Abort;
 use std::test::Fail;
 use td_base::{AtomId, Dot, Site};
 use td_clock::Vector;
@@ -10,42 +9,56 @@ fn dot(site: u8, seq: u32) -> Result<Dot, Fail> {
     Ok(Dot::new(site, seq).ok_or("a dot")?)
 }
 
-fn id(site: u8, seq: u32, offset: u8) -> Result<AtomId, Fail> {
+// An identity by the numbers of its site and its operation, and its place there.
+type Named = (u8, u32, u8);
+
+fn id((site, seq, offset): Named) -> Result<AtomId, Fail> {
     Ok(AtomId::new(dot(site, seq)?, offset).ok_or("an identity")?)
 }
 
-fn put(identities: &mut Identities, id: AtomId, first: u32, count: u8) -> Result<(), Fail>
-    requires { first + count ≤ 2 ^ 32 }
-{
+// From an identity on the first number, and how many there are. The last two are none that a replica would make: in
+// the middle of an insert, and again.
+const PUT: [(Named, u16, u8); 4] = [
+    ((1, 7, 0), 100, 3),
+    ((64, 2, 0), 103, 1),
+    ((64, 2, 5), 104, 2),
+    ((1, 7, 1), 200, 1),
+];
+
+const NUMBERS: [(Named, Option<u32>); 10] = [
+    ((1, 7, 0), Some(100)),
+    ((1, 7, 1), Some(200)),
+    ((1, 7, 2), Some(102)),
+    ((1, 7, 3), None),
+    ((1, 6, 0), None),
+    ((2, 7, 0), None),
+    ((64, 2, 0), Some(103)),
+    ((64, 2, 4), None),
+    ((64, 2, 5), Some(104)),
+    ((64, 2, 6), Some(105)),
+];
+
+fn put(identities: &mut Identities, named: Named, first: u16, count: u8) -> Result<(), Fail> {
+    let id = id(named)?;
     identities.make_room(id.dot)?;
-    identities.put(id, first, count);
+    identities.put(id, u32::from(first), count);
+    Ok(())
+}
+
+fn all_lead(rt: &impl Abort, identities: &mut Identities) -> Result<(), Fail> {
+    for (named, first, count) in &PUT {
+        put(identities, *named, *first, *count)?;
+    }
+    for (named, number) in &NUMBERS {
+        assert_eq!(rt; identities.number(id(*named)?), *number);
+    }
     Ok(())
 }
 
 #[test]
 fn identities_lead_to_their_latest_numbers(rt: HostRuntime) -> Result<(), Fail> {
     let mut identities = Identities::empty(rt.alloc());
-    put(&mut identities, id(1, 7, 0)?, 100, 3)?;
-    put(&mut identities, id(64, 2, 0)?, 103, 1)?;
-    // none that a replica would make: in the middle of an insert, and again
-    put(&mut identities, id(64, 2, 5)?, 104, 2)?;
-    put(&mut identities, id(1, 7, 1)?, 200, 1)?;
-    let expected = [
-        (id(1, 7, 0)?, Some(100)),
-        (id(1, 7, 1)?, Some(200)),
-        (id(1, 7, 2)?, Some(102)),
-        (id(1, 7, 3)?, None),
-        (id(1, 6, 0)?, None),
-        (id(2, 7, 0)?, None),
-        (id(64, 2, 0)?, Some(103)),
-        (id(64, 2, 4)?, None),
-        (id(64, 2, 5)?, Some(104)),
-        (id(64, 2, 6)?, Some(105)),
-    ];
-    for (id, number) in expected {
-        assert_eq!(rt; identities.number(id), number);
-    }
-    Ok(())
+    all_lead(&rt, &mut identities)
 }
 
 #[test]

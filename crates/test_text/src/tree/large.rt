@@ -28,16 +28,20 @@ fn tally(doc: &Tree) -> (u32, u32, u32) {
     (doc.rows(), doc.live(), doc.nodes())
 }
 
+fn flattened_and_opened(rt: &impl Abort, doc: &mut Tree) -> Result<(), Fail> {
+    type_letters(rt, doc)?;
+    same(rt, tally(doc), (LETTERS, LETTERS, LETTERS));
+    doc.flatten(Slot::Root)?;
+    same(rt, tally(doc), (LETTERS, LETTERS, 0));
+    for (seq, by, live, nodes) in DELETES {
+        delete(doc, seq, by)?;
+        same(rt, tally(doc), (LETTERS, live, nodes));
+    }
+    Ok(())
+}
+
 #[test]
 fn a_large_document_is_flattened_and_opened_again(rt: HostRuntime) -> Result<(), Fail> {
     let mut doc = Tree::empty(rt.alloc())?;
-    type_letters(&rt, &mut doc)?;
-    same(&rt, tally(&doc), (LETTERS, LETTERS, LETTERS));
-    doc.flatten(Slot::Root)?;
-    same(&rt, tally(&doc), (LETTERS, LETTERS, 0));
-    for (seq, by, live, nodes) in DELETES {
-        delete(&mut doc, seq, by)?;
-        same(&rt, tally(&doc), (LETTERS, live, nodes));
-    }
-    Ok(())
+    flattened_and_opened(&rt, &mut doc)
 }
