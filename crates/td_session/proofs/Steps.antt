@@ -1,6 +1,6 @@
 -- The atoms beside a replica are those that it shows, from step to step.
 use Rattle.std.proofs.Common.{◌≡◌, ◌∙◌, ℕ, List, Option, Some, None, ap, sym}
-use Rattle.std.specs.Prelude.{IfSome, MatchOption}
+use Rattle.std.specs.Prelude.{IfSome}
 use Rattle.td_doc.specs.Document.{live_atoms}
 use Rattle.td_machine.specs.Shown.{changed_by}
 use Rattle.td_machine.proofs.Changes.{changes}
@@ -19,13 +19,11 @@ goes_on old new input change atoms heard is valid shown stepped told hears =
     ∙ sym (changes old.machine input (reached old is) valid)
     ∙ ap (λ (r : ReplicaValue). live_atoms r.machine.doc) (sym stepped)
 
--- and so are those of a rope that follows, where there is one
-pub follows : (old new : ReplicaValue) (input : Input) (change : Option Change) (rope heard : Option (List (List ℕ)))
-    → IsReplica old → IsInput input → IfSome rope (λ atoms. atoms ≡ live_atoms old.machine.doc)
-    → new ≡ after_step input old → change ≡ new.change
-    → IfSome heard (λ now. MatchOption rope ⊥ (λ atoms. now ≡ changed_by change atoms))
-    → IfSome heard (λ atoms. atoms ≡ live_atoms new.machine.doc)
-follows old new input change rope None is valid shown stepped told hears = tt
-follows old new input change None (Some heard) is valid shown stepped told hears = absurd hears
-follows old new input change (Some atoms) (Some heard) is valid shown stepped told hears =
+-- and so are those of a rope that follows
+pub follows : (old new : ReplicaValue) (input : Input) (change : Option Change) (atoms : List (List ℕ))
+    (heard : Option (List (List ℕ))) → IsReplica old → IsInput input → atoms ≡ live_atoms old.machine.doc
+    → new ≡ after_step input old → change ≡ new.change → IfSome heard (λ now. now ≡ changed_by change atoms)
+    → IfSome heard (λ now. now ≡ live_atoms new.machine.doc)
+follows old new input change atoms None is valid shown stepped told hears = tt
+follows old new input change atoms (Some heard) is valid shown stepped told hears =
     goes_on old new input change atoms heard is valid shown stepped told hears

@@ -105,7 +105,9 @@ impl Session {
         input.is_in_range();
         let _entries = self.replica.entries();
         let reply = self.replica.step_on(input)?;
-        self.rope = followed(self.rope.take(), self.replica.last_change());
+        if let Some(rope) = self.rope.take() {
+            self.rope = followed(rope, self.replica.last_change());
+        }
         Ok(reply)
     }
 

@@ -23,11 +23,11 @@ pub fn rope_of<D: Doc>(alloc: Global, doc: &D) -> Result<Rope, Memory>
     Ok(rope)
 }
 
-/// The rope, if there is one, after a change. None too where it finds no memory for that.
-pub fn followed(rope: Option<Rope>, change: Option<Change>) -> Option<Rope>
-    ensures { IfSome result (λ new. MatchOption rope ⊥ (λ old. new ≡ changed_by change old)) }
+/// The rope after a change. None where it finds no memory for that.
+pub fn followed(rope: Rope, change: Option<Change>) -> Option<Rope>
+    ensures { IfSome result (λ new. new ≡ changed_by change rope) }
 {
-    let mut rope = rope?;
+    let mut rope = rope;
     let Some(change) = change else {
         return Some(rope);
     };
