@@ -28,29 +28,79 @@ fn atom(text: &str) -> Result<Atom, Fail> {
     Ok(Atom::new(text.as_bytes()).ok().ok_or("an atom")?)
 }
 
+fn insert() -> Result<Request, Fail> {
+    let atom = atom("a")?;
+    Ok(Request::Insert { index: 0, atom })
+}
+
+// A site makes 1.1, takes 2.1, and makes 1.2.
+fn entries() -> Result<[TraceEntry; 3], Fail> {
+    let (first, taken, second) = (dot(1, 1)?, dot(2, 1)?, dot(1, 2)?);
+    let request = insert()?;
+    Ok([
+        TraceEntry {
+            told: ToldInput::Asked(request),
+            reply: Reply::Made { dot: first },
+        },
+        TraceEntry {
+            told: ToldInput::TookOp { dot: taken },
+            reply: Reply::New,
+        },
+        TraceEntry {
+            told: ToldInput::Asked(request),
+            reply: Reply::Made { dot: second },
+        },
+    ])
+}
+
+fn count_all(counted: &mut Counted, entries: &[TraceEntry]) -> Result<(), Fail> {
+    for entry in entries {
+        counted.count(entry)?;
+    }
+    Ok(())
+}
+
+fn made(alloc: Global, own: Site, entries: &[TraceEntry]) -> Result<Made, Fail>
+    requires { own ≡ 1 }
+{
+    let mut counted = Counted::new(alloc, own, 2);
+    count_all(&mut counted, entries)?;
+    let mut made = Made::new(alloc);
+    made.push(counted)?;
+    Ok(made)
+}
+
+// The number of a site and the number of an operation, and the dependencies that are found of it.
+const DEPS: [((u8, u32), Option<[u16; 2]>); 4] = [
+    ((1, 1), Some([0, 0])),
+    ((1, 2), Some([1, 1])),
+    ((1, 3), None),
+    ((2, 1), None),
+];
+
+fn has_deps(made: &Made, dot: Dot, deps: Option<[u16; 2]>) -> bool {
+    match (made.deps(dot), deps) {
+        (Some(found), Some(told)) => found.numbers() == told.as_slice(),
+        (found, told) => found.is_none() && told.is_none(),
+    }
+}
+
+fn all_have_deps(rt: &impl Abort, made: &Made) -> Result<(), Fail> {
+    for (numbers, deps) in &DEPS {
+        let (number, seq) = *numbers;
+        assert!(rt;
+            has_deps(made, dot(number, seq)?, *deps),
+            "of {number}.{seq}"
+        );
+    }
+    Ok(())
+}
+
 #[test]
 fn what_entries_tell_of_an_operation(rt: HostRuntime) -> Result<(), Fail> {
-    let mut counted = Counted::new(rt.alloc(), site(1)?, 2);
-    let request = Request::Insert {
-        index: 0,
-        atom: atom("a")?,
-    };
-    let entries = [
-        (ToldInput::Asked(request), Reply::Made { dot: dot(1, 1)? }),
-        (ToldInput::TookOp { dot: dot(2, 1)? }, Reply::New),
-        (ToldInput::Asked(request), Reply::Made { dot: dot(1, 2)? }),
-    ];
-    for (told, reply) in entries {
-        counted.count(&TraceEntry { told, reply })?;
-    }
-    let mut made = Made::new(rt.alloc());
-    made.push(counted)?;
-    for (seq, deps) in [(1, [0, 0]), (2, [1, 1])] {
-        let found = made.deps(dot(1, seq)?).ok_or("an operation")?;
-        assert_eq!(rt; found.numbers(), deps.as_slice());
-    }
-    assert!(rt; made.deps(dot(1, 3)?).is_none() && made.deps(dot(2, 1)?).is_none());
-    Ok(())
+    let (own, entries) = (site(1)?, entries()?);
+    let made = made(rt.alloc(), own, &entries)?;
+    all_have_deps(&rt, &made)
 }
 
 // A site of two at the beginning.
