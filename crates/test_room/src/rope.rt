@@ -22,11 +22,7 @@ fn text(alloc: Global, rope: &Rope, from: u32, to: u32) -> Result<(Bytes, Bytes)
     Ok((all, part))
 }
 
-#[test]
-fn atoms_and_runs_are_put_at_the_front_in_the_middle_and_at_the_end(
-    rt: HostRuntime,
-) -> Result<(), Fail> {
-    let mut rope = Rope::new(rt.alloc());
+fn put_all(rt: &impl Abort, alloc: Global, rope: &mut Rope) -> Result<(), Fail> {
     assert_eq!(rt; (rope.is_empty(), rope.atom(0)), (true, None));
     let run = Run::new(&[atom(b'b', 1)?, atom(b'c', 2)?]).map_err(|_| "a run")?;
     for edit in [(0, b'd'), (0, b'a'), (2, b'e')] {
@@ -35,26 +31,41 @@ fn atoms_and_runs_are_put_at_the_front_in_the_middle_and_at_the_end(
     }
     assert!(rt; rope.len() == 3);
     assert_eq!(rt; rope.put_run(1, &run), Ok(()));
-    let told = text(rt.alloc(), &rope, 1, 3)?;
-    assert_eq!(rt;
-        (told.0.as_slice(), told.1.as_slice()),
-        (b"abccde".as_slice(), b"bcc".as_slice())
-    );
     assert_eq!(rt;
         (rope.atom(2), rope.atom(4), rope.atom(5)),
         (Some(atom(b'c', 2)?), Some(atom(b'e', 1)?), None)
+    );
+    let told = text(alloc, rope, 1, 3)?;
+    assert_eq!(rt;
+        (told.0.as_slice(), told.1.as_slice()),
+        (b"abccde".as_slice(), b"bcc".as_slice())
     );
     Ok(())
 }
 
 #[test]
-fn a_range_goes_as_far_as_the_text(rt: HostRuntime) -> Result<(), Fail> {
-    let rope = letters(&rt, rt.alloc(), 3, 1)?.0;
-    for (from, to, len) in [(0, 9, 3), (2, 9, 1), (3, 9, 0), (9, 12, 0), (2, 1, 0)] {
-        let told = text(rt.alloc(), &rope, from, to)?;
-        assert_eq!(rt; told.1.as_slice().len(), len);
+fn atoms_and_runs_are_put_at_the_front_in_the_middle_and_at_the_end(
+    rt: HostRuntime,
+) -> Result<(), Fail> {
+    let mut rope = Rope::new(rt.alloc());
+    put_all(&rt, rt.alloc(), &mut rope)
+}
+
+// Of a text of three letters the ranges from an index up to another, and how many letters these have.
+const RANGES: [(u32, u32, usize); 5] = [(0, 9, 3), (2, 9, 1), (3, 9, 0), (9, 12, 0), (2, 1, 0)];
+
+fn has_ranges(rt: &impl Abort, alloc: Global, rope: &Rope) -> Result<(), Fail> {
+    for (from, to, len) in &RANGES {
+        let told = text(alloc, rope, *from, *to)?;
+        assert_eq!(rt; told.1.as_slice().len(), *len);
     }
     Ok(())
+}
+
+#[test]
+fn a_range_goes_as_far_as_the_text(rt: HostRuntime) -> Result<(), Fail> {
+    let (rope, _) = letters(&rt, rt.alloc(), 3, 1)?;
+    has_ranges(&rt, rt.alloc(), &rope)
 }
 
 // A text of so many atoms, each put where its number says, and the letters of these in a plain list.
@@ -63,6 +74,19 @@ fn letters(rt: &impl Abort, alloc: Global, count: u32, len: usize) -> Result<(Ro
 {
     let mut rope = Rope::new(alloc);
     let mut plain: Vec<u8> = Vec::new(alloc);
+    fill(rt, &mut rope, &mut plain, count, len)?;
+    Ok((rope, plain))
+}
+
+fn fill(
+    rt: &impl Abort,
+    rope: &mut Rope,
+    plain: &mut Vec<u8>,
+    count: u32,
+    len: usize,
+) -> Result<(), Fail>
+    requires { count < 10000 }
+{
     for number in 0..count {
         assert!(rt; rope.len() < 10000);
         let letter = (number % 200) as u8;
@@ -71,7 +95,7 @@ fn letters(rt: &impl Abort, alloc: Global, count: u32, len: usize) -> Result<(Ro
         rope.put(index, atom(letter % 128, len)?)?;
         plain.insert(index as usize, letter % 128)?;
     }
-    Ok((rope, plain))
+    Ok(())
 }
 
 // Takes so many atoms out, here and there, and their letters out of the plain list.
@@ -102,28 +126,36 @@ fn spells(rope: &Rope, plain: &[u8]) -> bool
     rope.len() as usize == plain.len()
 }
 
-#[test]
-fn some_thousand_letters_stand_as_in_a_plain_list(rt: HostRuntime) -> Result<(), Fail> {
-    let (rope, plain) = letters(&rt, rt.alloc(), 5000, 1)?;
-    let told = text(rt.alloc(), &rope, 700, 2700)?;
-    assert!(rt; told.0.as_slice() == plain.as_slice());
+fn stands_as(rt: &impl Abort, alloc: Global, rope: &Rope, plain: &[u8]) -> Result<(), Fail> {
+    let told = text(alloc, rope, 700, 2700)?;
+    assert!(rt; told.0.as_slice() == plain);
     assert_eq!(rt; plain.len(), 5000);
     assert!(rt; told.1.as_slice() == &plain[700..2700]);
     Ok(())
 }
 
 #[test]
-fn long_atoms_fill_rows_and_are_cut_down_to_nothing(rt: HostRuntime) -> Result<(), Fail> {
-    let (mut rope, mut plain) = letters(&rt, rt.alloc(), 2000, 64)?;
+fn some_thousand_letters_stand_as_in_a_plain_list(rt: HostRuntime) -> Result<(), Fail> {
+    let (rope, plain) = letters(&rt, rt.alloc(), 5000, 1)?;
+    stands_as(&rt, rt.alloc(), &rope, &plain)
+}
+
+fn is_cut_down(rt: &impl Abort, rope: &mut Rope, plain: &mut Vec<u8>) -> Result<(), Fail> {
     assert!(rt; plain.len() == 2000);
-    assert!(rt; spells(&rope, &plain));
-    thin(&rt, &mut rope, &mut plain, 1900);
+    assert!(rt; spells(rope, plain));
+    thin(rt, rope, plain, 1900);
     assert!(rt; plain.len() == 100);
-    assert!(rt; spells(&rope, &plain));
-    thin(&rt, &mut rope, &mut plain, 100);
+    assert!(rt; spells(rope, plain));
+    thin(rt, rope, plain, 100);
     assert_eq!(rt; (rope.is_empty(), plain.len()), (true, 0));
     assert!(rt; rope.len() == 0);
     assert_eq!(rt; rope.put(0, atom(b'a', 64)?), Ok(()));
     assert_eq!(rt; rope.atom(0), Some(atom(b'a', 64)?));
     Ok(())
+}
+
+#[test]
+fn long_atoms_fill_rows_and_are_cut_down_to_nothing(rt: HostRuntime) -> Result<(), Fail> {
+    let (mut rope, mut plain) = letters(&rt, rt.alloc(), 2000, 64)?;
+    is_cut_down(&rt, &mut rope, &mut plain)
 }

@@ -102,9 +102,22 @@ fn each_step_is_shown_and_a_refused_request_too(rt: HostRuntime) -> Result<(), F
     Ok(())
 }
 
-fn write(replica: &mut Replica<Rows>, index: u32, letter: u8) -> Result<(), Fail> {
-    replica.step_on(&Input::Local(put(index, letter)?))?;
+fn write(replica: &mut Replica<Rows>, text: &[u8]) -> Result<(), Fail> {
+    for (letter, index) in text.iter().zip(0..) {
+        replica.step_on(&Input::Local(put(index, *letter)?))?;
+    }
     Ok(())
+}
+
+// The replica of the second site of two, which has typed three letters. In a list, since what is dropped where a test
+// ends is proved with it, and a replica is much.
+fn typist(alloc: Global) -> Result<Vec<Replica<Rows>>, Fail> {
+    let mut replicas = Vec::new(alloc);
+    replicas.push(replica(alloc, 2)?)?;
+    for replica in &mut replicas {
+        write(replica, b"xyz")?;
+    }
+    Ok(replicas)
 }
 
 // The site takes this message of the replica with this reply, and then what it may take and shows it all.
@@ -123,18 +136,27 @@ fn take<R: Wait + Abort>(
     assert_eq!(rt; site.catch_up(rt), Ok(()));
 }
 
+fn take_all<R: Wait + Abort>(
+    rt: &R,
+    site: &mut Site<Rows>,
+    reader: &mut Reader,
+    from: &Replica<Rows>,
+)
+    requires { site.old.late ≡ false }
+{
+    take(rt, site, from, 3, Reply::Later);
+    take(rt, site, from, 2, Reply::Later);
+    reads(rt, reader, 2, "");
+    take(rt, site, from, 1, Reply::New);
+    reads(rt, reader, 5, "xyz");
+}
+
 #[test]
 fn what_waited_is_taken_and_shown(rt: HostRuntime) -> Result<(), Fail> {
-    let mut other = replica(rt.alloc(), 2)?;
-    write(&mut other, 0, b'x')?;
-    write(&mut other, 1, b'y')?;
-    write(&mut other, 2, b'z')?;
+    let others = typist(rt.alloc())?;
     let (mut site, mut reader) = open(&rt, rt.alloc())?;
-    take(&rt, &mut site, &other, 3, Reply::Later);
-    take(&rt, &mut site, &other, 2, Reply::Later);
-    reads(&rt, &mut reader, 2, "");
-    take(&rt, &mut site, &other, 1, Reply::New);
-    reads(&rt, &mut reader, 5, "xyz");
+    let other = others.first().expect(&rt, "a replica");
+    take_all(&rt, &mut site, &mut reader, other);
     site.quit(&rt);
     Ok(())
 }

@@ -75,15 +75,15 @@ const ROWS: [Row; 6] = [
 #[test]
 fn lines_ask_for_their_calls_as_they_are_answered(rt: HostRuntime) -> Result<(), Fail> {
     for row in &ROWS {
-        let done = all_done(&rt, rt.alloc(), row)?;
+        let mut agenda = Agenda::new(lines_of(&rt, rt.alloc(), row.lines)?);
+        let done = all_done(rt.alloc(), &mut agenda, row)?;
         assert_eq!(rt; done.as_str(), row.done, "{}", row.name);
     }
     Ok(())
 }
 
 // What is done of the lines, in words.
-fn all_done(rt: &impl Abort, alloc: Global, row: &Row) -> Result<String, Fail> {
-    let mut agenda = Agenda::new(lines_of(rt, alloc, row.lines)?);
+fn all_done(alloc: Global, agenda: &mut Agenda, row: &Row) -> Result<String, Fail> {
     let mut replies = row.made.iter();
     let mut done = String::new(alloc);
     for number in 1..9 {
@@ -109,12 +109,22 @@ fn all_done(rt: &impl Abort, alloc: Global, row: &Row) -> Result<String, Fail> {
 // The lines of one editor.
 pub fn lines_of(rt: &impl Abort, alloc: Global, lines: &[Line]) -> Result<EditorLines, Fail> {
     let mut all = EditorLines::new(alloc);
+    push_all(rt, alloc, &mut all, lines)?;
+    Ok(all)
+}
+
+fn push_all(
+    rt: &impl Abort,
+    alloc: Global,
+    all: &mut EditorLines,
+    lines: &[Line],
+) -> Result<(), Fail> {
     for line in lines {
         let line = line_of(alloc, line)?;
         assert!(rt; all.calls() < 1000 && line.calls() < 1000);
         all.push(line)?;
     }
-    Ok(all)
+    Ok(())
 }
 
 fn line_of(alloc: Global, line: &Line) -> Result<EditorLine, Fail> {
