@@ -1,0 +1,13 @@
+pub mod Staged
+pub mod Keeping
+pub mod Putting
+pub mod NextEdits
+pub mod Going
+pub mod Wanting
+pub mod Told
+pub mod Packets
+pub mod ReadAs
+pub mod Longer
+pub mod Heard
+pub mod Members
+pub mod UnderWay

@@ -1,0 +1,8 @@
+use Rattle.std.proofs.Common.{◌≡◌, ◌++◌}
+use Rattle.td_shell.specs.Sending.{events_behind}
+use Rattle.td_shell.proofs.sending.push_events.Given as goal
+
+abbrev pub invariant-loop-number : goal.invariant-loop-number
+invariant-loop-number g l =
+    l.text ++ events_behind l.number l.replica.machine.sent
+    ≡ l.fn.text ++ events_behind l.before l.replica.machine.sent

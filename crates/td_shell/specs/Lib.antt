@@ -1,0 +1,11 @@
+pub mod Wanting
+pub mod Asking
+pub mod Taking
+pub mod Sending
+pub mod Answers
+pub mod Staging
+pub mod Lines
+pub mod Talk
+pub mod Opening
+pub mod Running
+pub mod Number
