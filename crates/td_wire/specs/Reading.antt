@@ -236,10 +236,13 @@ vote_at f bytes = do
 abbrev pub format_of : ℕ → Format
 format_of digit = if digit == DIGIT_ONE then One else Two
 
+abbrev pub operation_at : Format → ℕ → List ℕ → Read Message
+operation_at f kind bytes = op_at f kind bytes >>= λ o. Ok (Op o.0, o.1)
+
 abbrev pub message_of_kind : Format → ℕ → List ℕ → Read Message
 message_of_kind f kind bytes =
     if kind == VOTE then (vote_at f bytes >>= λ v. Ok (Vote v.0, v.1)) else
-    (op_at f kind bytes >>= λ o. Ok (Op o.0, o.1))
+    operation_at f kind bytes
 
 unfoldable pub message_at : List ℕ → Read Message
 message_at bytes = do

@@ -1,45 +1,46 @@
-ghost use Rattle.std.specs.Prelude.{◌≡◌, ◌≤◌};
+ghost use Rattle.std.specs.Prelude.{◌≡◌, ◌≤◌, length};
 ghost use Rattle.td_base.specs.declared.site.TheConstants.{MAX_SITE};
 ghost use Rattle.td_wire.specs.declared.format.TheConstants.{ABORT, INSERT};
-ghost use Rattle.td_wire.specs.Reading.{Gives, op_at, deps_at, dep_least, dep_most, body_at};
+ghost use Rattle.td_wire.specs.Reading.{Gives, Passes, operation_at, deps_at, dep_least, dep_most, body_at};
 
 use crate::format::{COMMIT, DELETE, Format, INSERT, PROPOSE};
 use crate::reader::{Fault, MAX_NUMBER, Reader};
 use td_base::{Dot, Site};
 use td_clock::Vector;
-use td_op::{Body, Op};
+use td_op::{Body, Message, Op};
 
 impl Reader<'_> {
+    // Made only where all of it is read, so that nothing large is handed on before.
     #[tactic(auto, unfolding(crate::specs::Reading::op_at))]
-    pub(crate) fn op(&mut self, format: Format, kind: u8) -> Result<Op, Fault>
+    pub(crate) fn op(&mut self, format: Format, kind: u8) -> Result<Message, Fault>
         requires least { INSERT ≤ kind }
         requires most { kind ≤ ABORT }
-        ensures { Gives result self.new.rest.now (op_at format kind self.old.rest.now) }
+        ensures { Gives result self.new.rest.now (operation_at format kind self.old.rest.now) }
     {
         let max_site = format.max_site();
         let own = self.dot(max_site)?;
         let n = self.byte(own.site.number(), max_site)?;
-        let deps = self.deps(own, n)?;
+        let mut deps = Vector::new(n);
+        self.deps(own, n, &mut deps)?;
         let body = self.body(format, kind, n)?;
-        Ok(Op::new(own, deps, body).unwrap())
+        Ok(Message::Op(Op::of(own, &deps, &body)))
     }
 
-    // The numbers of n sites, of which that of the dot's site is the one before the dot's.
-    fn deps(&mut self, own: Dot, n: u8) -> Result<Vector, Fault>
-        requires some { 1 ≤ n }
+    // The numbers of n sites, of which that of the dot's site is the one before the dot's, into a vector of so many.
+    fn deps(&mut self, own: Dot, n: u8, deps: &mut Vector) -> Result<(), Fault>
         requires few { n ≤ MAX_SITE }
-        ensures { Gives result self.new.rest.now (deps_at own 1 n self.old.rest.now) }
+        requires size { length deps.old ≡ n }
+        ensures { Passes result self.new.rest.now (deps_at own 1 n self.old.rest.now) deps.new }
     {
-        let mut deps = Vector::new(n);
         // another reader, which stays in registers
         let mut numbers = Reader { rest: self.rest };
         for i in 0..n {
             let (least, most) = dep_range(own, i + 1);
             let known = numbers.number(least, most)?;
-            deps.set(Site::new(i + 1).unwrap(), u32::from(known));
+            deps.set(Site::at(i), u32::from(known));
         }
         self.rest = numbers.rest;
-        Ok(deps)
+        Ok(())
     }
 
     #[tactic(auto, unfolding(crate::specs::Reading::body_at, crate::specs::Reading::insert_at))]

@@ -52,8 +52,7 @@ impl Reader<'_> {
             let vote = self.vote(format)?;
             Ok(Message::Vote(vote))
         } else {
-            let op = self.op(format, kind)?;
-            Ok(Message::Op(op))
+            self.op(format, kind)
         }
     }
 

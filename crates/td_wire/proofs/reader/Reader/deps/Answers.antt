@@ -1,4 +1,4 @@
-use Rattle.std.proofs.Common.{◌≡◌, ℕ, List, ◌+◌, ◌-◌, ◌++◌, Ok, Err, length, take, subst, sym, ap, ◌∙◌, arith, rules}
+use Rattle.std.proofs.Common.{◌≡◌, ℕ, List, ◌+◌, ◌-◌, ◌++◌, Ok, Err, length, take, subst, sym, ap, ◌∙◌, arith}
 use Rattle.std.specs.Prelude.{slice_set}
 use Rattle.std.proofs.lemmas.Result.{err_from_is_err_and}
 use Rattle.std.proofs.lemmas.List.{length-set}
@@ -19,8 +19,8 @@ returns-in_err-known c =
 pub loop-i-preserved : goal.loop-i-preserved
 loop-i-preserved c =
     let i : ℕ = c.loop-i.i in
-    let site : c.unwrap.result ≡ i + 1 = search rules in
-    let place : c.unwrap.result - 1 ≡ i = omega (arith, site) in
+    let site : c.at.result ≡ i + 1 = c.at.ensures in
+    let place : c.at.result - 1 ≡ i = omega (arith, site) in
     let set : c.set.new.self ≡ slice_set c.loop-i.deps i c.in_ok-known.known =
     c.set.ensures ∙ ap (λ n. slice_set c.loop-i.deps n c.from.result) place
     ∙ ap (slice_set c.loop-i.deps i) c.from.ensures in
