@@ -3,7 +3,9 @@ use Rattle.std.specs.Prelude.{◌≡◌, ◌≢◌, ℕ, List, [], ◌∷◌, �
 use Rattle.std.specs.Prelude.{if◌then◌else◌, length, Option, Some, None, IsNone, IsTrue}
 use Rattle.std.specs.Option.{option_map, is_some}
 use Rattle.std.specs.List.{AllByRecursion}
+use Rattle.std.specs.Ordering.{is_lt}
 use Rattle.td_base.specs.Value.{DotValue, AtomIdValue}
+use Rattle.td_path.specs.Infix.{path_cmp}
 use Rattle.td_path.specs.Slot.{slot_atom}
 use Rattle.td_path.specs.declared.slot.Slot.{Slot}
 use Rattle.td_path.specs.declared.slot.Slot.TheVariants.{Root, At}
@@ -46,6 +48,15 @@ IsSlotFault rows slot Memory = Unit {0}
 abbrev pub IsAtomFault : List DocRow → AtomIdValue → DocFault → Type 0
 IsAtomFault rows x (Gone id) = (id ≡ x) × IsNone (find_row x rows)
 IsAtomFault rows x Memory = Unit {0}
+
+abbrev pub is_found_before : Option DocRow → Option DocRow → Bool
+is_found_before None s = false
+is_found_before (Some r) None = false
+is_found_before (Some r) (Some s) = is_lt (path_cmp r.path s.path)
+
+-- whether both are rows, and x stands before y in infix order
+abbrev pub stands_before : List DocRow → AtomIdValue → AtomIdValue → Bool
+stands_before rows x y = is_found_before (find_row x rows) (find_row y rows)
 
 -- how many live rows stand before the row x
 abbrev pub live_before : AtomIdValue → List DocRow → ℕ

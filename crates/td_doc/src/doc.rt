@@ -7,6 +7,7 @@ ghost use Rattle.td_doc.specs.Insertion.{insert_atom, insert_run};
 ghost use Rattle.td_doc.specs.Deletion.{delete, delete_at};
 ghost use Rattle.td_doc.specs.Flatten.{flatten};
 ghost use Rattle.td_doc.specs.Answers.{IsRow, IsFresh, IsSlotFault, IsAtomFault, is_row, is_live_id, is_rooted, row_told};
+ghost use Rattle.td_doc.specs.Answers.{stands_before};
 
 use crate::containment::contains_slot;
 use std::alloc::Global;
@@ -125,6 +126,10 @@ pub trait Doc: Sized + Drop {
     /// Whether the atom is a row in the slot.
     fn within(&self, id: AtomId, slot: Slot) -> bool
         ensures { result ≡ is_within (rows self.now) id slot };
+
+    /// Whether both atoms are rows, and the first stands before the second in infix order.
+    fn stands_before(&self, first: AtomId, second: AtomId) -> bool
+        ensures { result ≡ stands_before (rows self.now) first second };
 
     /// Whether one of the two slots contains the other.
     final fn overlaps(&self, a: Slot, b: Slot) -> bool

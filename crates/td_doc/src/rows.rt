@@ -16,7 +16,7 @@ use std::alloc::Global;
 use std::marker::Model;
 use td_base::{Atom, AtomId, Bytes, Dot, Memory, NamedAtom, Run};
 use td_clock::Vector;
-use td_path::Slot;
+use td_path::{Slot, infix};
 
 /// The plain document: a vector of rows with whole paths, in infix order. Each call looks through all rows, so it is
 /// for small documents and for comparison.
@@ -115,6 +115,13 @@ impl Doc for Rows {
 
     fn within(&self, id: AtomId, slot: Slot) -> bool {
         is_within(&self.rows, id, &slot)
+    }
+
+    fn stands_before(&self, first: AtomId, second: AtomId) -> bool {
+        match (find_row(&self.rows, first), find_row(&self.rows, second)) {
+            (Some(a), Some(b)) => infix(&a.path, &b.path).is_lt(),
+            _ => false,
+        }
     }
 
     fn known(&self, slot: Slot, v: &Vector) -> bool {

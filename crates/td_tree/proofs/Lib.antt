@@ -17,6 +17,7 @@ pub mod Places
 pub mod RowPlaces
 pub mod NodeParts
 pub mod Orders
+pub mod RowOrder
 pub mod Weighed
 pub mod ItemKinds
 pub mod LeafParts

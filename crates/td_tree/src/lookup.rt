@@ -2,7 +2,7 @@
 ghost use Rattle.std.specs.Prelude.{◌≡◌, ◌≢◌, ◌<◌, length, None, IfSome, IfNone};
 ghost use Rattle.td_doc.specs.Document.{find_row};
 ghost use Rattle.td_doc.specs.Slots.{is_within};
-ghost use Rattle.td_doc.specs.Answers.{live_before};
+ghost use Rattle.td_doc.specs.Answers.{live_before, stands_before};
 ghost use Rattle.td_tree.specs.declared.tree_row.RowState.TheVariants.{Gone};
 ghost use Rattle.td_tree.specs.Parts.{state_at, table, doc_rows};
 
@@ -60,6 +60,18 @@ impl Tree {
                 Some(node) => self.tokens.is_on_side(row, node, bit),
                 None => false,
             },
+        }
+    }
+
+    /// Whether a row stands before that of an atom.
+    pub(crate) fn is_row_before(&self, row: u32, other: AtomId) -> bool
+        requires row { row < length self.now.rows }
+        requires stands { state_at self.now row ≢ Gone }
+        ensures { result ≡ stands_before (doc_rows self.now) (table self.now row).id other }
+    {
+        match self.number(other) {
+            Some(second) => self.tokens.is_row_before(row, second),
+            None => false,
         }
     }
 }

@@ -3,7 +3,8 @@ ghost use Rattle.std.specs.Prelude.{◌≡◌, ◌≢◌, ◌<◌, ◌^◌, leng
 ghost use Rattle.td_base.specs.Lists.{In};
 ghost use Rattle.td_list.specs.Items.{Item, IsItem};
 ghost use Rattle.td_tree.specs.declared.tree_row.RowState.TheVariants.{Gone};
-ghost use Rattle.td_tree.specs.Parts.{state_at, IsTree};
+ghost use Rattle.td_doc.specs.Answers.{stands_before};
+ghost use Rattle.td_tree.specs.Parts.{state_at, table, doc_rows, IsTree};
 ghost use Rattle.td_tree.specs.Reading.{shown_at, StandsAt};
 
 use crate::tokens::Tokens;
@@ -39,6 +40,24 @@ impl Tokens {
                 name: 3 * row + 1,
                 rest: 0,
             },
+        }
+    }
+
+    /// Whether a row stands before another.
+    pub fn is_row_before(&self, row: u32, other: u32) -> bool
+        requires tree { IsTree self.now }
+        requires row { row < length self.now.rows }
+        requires stands { state_at self.now row ≢ Gone }
+        requires other { other < length self.now.rows }
+        requires other_stands { state_at self.now other ≢ Gone }
+        ensures { result ≡ stands_before (doc_rows self.now) (table self.now row).id (table self.now other).id }
+    {
+        let first = self.place_of(row);
+        let second = self.place_of(other);
+        if first.name == second.name {
+            first.rest < second.rest
+        } else {
+            self.list.is_before(first.name, second.name)
         }
     }
 

@@ -214,6 +214,13 @@ impl Doc for Tree {
         }
     }
 
+    fn stands_before(&self, first: AtomId, second: AtomId) -> bool {
+        match self.number(first) {
+            Some(row) => self.is_row_before(row, second),
+            None => false,
+        }
+    }
+
     /// A vector that has all dots seen has those of the rows in the slot too, and no row is looked at.
     fn known(&self, slot: Slot, v: &Vector) -> bool {
         if self.seen.is_known(v) {
