@@ -10,10 +10,11 @@ use Rattle.std.specs.Option.{SomeIff}
 use Rattle.std.specs.Result.{result_ok}
 use Rattle.td_base.specs.Run.{IsRun, pieces}
 use Rattle.td_base.proofs.RunPieces.{piece_lengths, piece_bytes, pieces_again, length_concat}
-use Rattle.std.proofs.lemmas.List.Elements.{recursion_from_All}
+use Rattle.std.proofs.lemmas.List.Elements.{recursion_from_All, All-nil, All-cons}
 use Rattle.std.proofs.lemmas.List.{append-nil, length-append, length-take-le, length-drop, take_all, drop_all, take_at}
 use Rattle.std.proofs.lemmas.List.{take-append-drop}
 use Rattle.std.proofs.lemmas.Str.{IsUtf8-from_ascii, IsAscii-take, IsAscii-drop}
+use Rattle.std.proofs.lemmas.Str.Ascii.{IsAscii-nil, IsAscii-cons}
 use Rattle.std.specs.Str.{IsUtf8, IsAscii}
 use Rattle.std.specs.List.{AllByRecursion}
 use Rattle.td_wire.specs.Spelling.{number_bytes}
@@ -22,7 +23,8 @@ use Rattle.std.proofs.Math.Seq.{take-suc-set, drop-cons}
 use Rattle.td_base.specs.Value.{DotValue}
 use Rattle.td_wire.specs.Reading.{Read, ◌>>=◌, byte_at, number_at, character_len, second_least, second_most, lead_at}
 use Rattle.td_wire.specs.Reading.{continuations_at, character_at, text_at, atom_at, lengths_at, atoms_at, dep_least}
-use Rattle.td_wire.specs.Reading.{dep_most, deps_at}
+use Rattle.td_wire.specs.Reading.{dep_most, deps_at, run_at}
+use Rattle.td_wire.specs.declared.format.Format.TheVariants.{Two}
 use Rattle.td_wire.proofs.Bytes.{InRange, passing_sound, number_is, number_reads}
 use Rattle.td_wire.proofs.Exact.{ok, ok_is}
 use Rattle.td_wire.proofs.Texts.{character_reads}
@@ -438,6 +440,29 @@ ascii_cut lens xs len len_is within ascii some each together =
           ∙ (atoms_reads lens).again atoms front (drop len xs)
           (record { can = read; is = sym (piece_bytes lens front whole) });
     }
+
+-- a letter is cut as it is
+pub letter_cut : (b : ℕ) (xs : List ℕ) → b < 128 → IsCut (1 ∷ []) (b ∷ xs) (b ∷ []) xs
+letter_cut b xs small =
+    let ascii : IsAscii (b ∷ []) = IsAscii-cons b [] small IsAscii-nil in
+    let each : All (λ l. 1 ≤ l) (1 ∷ []) = All-cons (λ l. 1 ≤ l) 1 [] (omega arith) (All-nil (λ l. 1 ≤ l)) in
+    ascii_cut (1 ∷ []) (b ∷ xs) 1 refl (omega arith) ascii (omega arith) each (omega arith)
+
+pub letter_read : (b : ℕ) (xs : List ℕ) → b < 128
+    → run_at Two (1 ∷ 1 ∷ b ∷ xs) ≡ Ok (pieces (1 ∷ []) (b ∷ []), xs)
+unfolding run_at lengths_at
+letter_read b xs small = (letter_cut b xs small).read
+
+-- what begins with a run of one letter
+pub letter_begins : (xs : List ℕ) → 3 ≤ length xs → get_or xs 0 0 ≡ 1 → get_or xs 1 0 ≡ 1
+    → xs ≡ 1 ∷ 1 ∷ get_or xs 2 0 ∷ take (length xs - 3) (drop 3 xs)
+letter_begins [] l e f = absurd (omega arith)
+letter_begins (x ∷ []) l e f = absurd (omega arith)
+letter_begins (x ∷ y ∷ []) l e f = absurd (omega arith)
+letter_begins (x ∷ y ∷ z ∷ rest) l e f =
+    let whole : take (length (x ∷ y ∷ z ∷ rest) - 3) rest ≡ rest = take_all (length (x ∷ y ∷ z ∷ rest) - 3) rest
+    (omega arith) in
+    λ i. e i ∷ f i ∷ z ∷ sym whole i
 
 -- the value of an answer that is Ok
 pub ok_value : {A E : Type 0} (r : Result A E) (o : Option A) (u v : A) → o ≡ result_ok r → r ≡ Ok v → o ≡ Some u

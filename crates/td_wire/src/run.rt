@@ -1,5 +1,6 @@
 ghost use Rattle.std.specs.Prelude.{◌≡◌, ◌<◌, ◌≤◌, length, sum, All, IfOk, MatchResult};
 ghost use Rattle.td_base.specs.declared.run.TheConstants.{MAX_RUN_LEN};
+ghost use Rattle.td_wire.specs.declared.format.Format.TheVariants.{Two};
 ghost use Rattle.td_wire.specs.Reading.{Gives, run_at, lengths_at, atoms_at};
 
 use crate::format::Format;
@@ -21,12 +22,24 @@ impl<'a> Reader<'a> {
                 let atom = self.atom(len)?;
                 Ok(Run::one(atom))
             }
-            Format::Two => {
-                let count = self.byte(1, MAX_LEN)?;
-                let lengths = self.lengths(count)?;
-                self.atoms(lengths)
-            }
+            Format::Two => match self.rest {
+                [1, 1, letter, rest @ ..] if *letter < 0x80 => {
+                    self.rest = rest;
+                    Ok(Run::cut(&[*letter], &[1]))
+                }
+                _ => self.counted(),
+            },
         }
+    }
+
+    // How many atoms, and these.
+    #[tactic(auto, unfolding(crate::specs::Reading::run_at))]
+    fn counted(&mut self) -> Result<Run, Fault>
+        ensures { Gives result self.new.rest.now (run_at Two self.old.rest.now) }
+    {
+        let count = self.byte(1, MAX_LEN)?;
+        let lengths = self.lengths(count)?;
+        self.atoms(lengths)
     }
 
     // So many lengths of atoms that have at most `MAX_LEN` bytes together.
