@@ -45,6 +45,7 @@ pub mod GivenBack
 pub mod Wholes
 pub mod LeafNodes
 pub mod SlotItems
+pub mod OneLeaf
 pub mod FlatWholes
 pub mod FreshRows
 pub mod LastRow

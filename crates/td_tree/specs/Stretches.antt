@@ -1,12 +1,13 @@
 -- A stretch of the tokens of a tree, gathered in one leaf.
-use Rattle.std.specs.Prelude.{◌≡◌, ◌+◌, ◌/◌, ◌<◌, ◌++◌, ℕ, List, [], ◌∷◌, length, get_or, Option, Some, None}
+use Rattle.std.specs.Prelude.{◌≡◌, ◌≢◌, ◌+◌, ◌/◌, ◌%◌, ◌<◌, ◌++◌, ℕ, List, [], ◌∷◌, length, get_or, Option, Some, None}
 use Rattle.td_path.specs.declared.slot.Slot.{Slot}
 use Rattle.td_doc.specs.Flatten.{flatten}
-use Rattle.td_list.specs.Items.{Item, items_before}
+use Rattle.td_list.specs.Items.{Item, items_before, items_after, first_name}
 use Rattle.td_brackets.specs.Brackets.{Token, Open, Atom, Close, Leaf, rows_of, IsWord}
 use Rattle.td_brackets.specs.Laws.{live_number, live_numbers, leaf_word}
 use Rattle.td_brackets.specs.RowNumbers.{row_numbers_at, row_numbers}
-use Rattle.td_tree.specs.Parts.{Parts, table, tokens_of, doc_rows, atom_item}
+use Rattle.td_tree.specs.declared.tree_row.RowState.TheVariants.{Node}
+use Rattle.td_tree.specs.Parts.{Parts, state_at, table, tokens_of, doc_rows, atom_item}
 use Rattle.td_tree.specs.Walks.{IsStretch}
 
 -- the rows with brackets among some tokens
@@ -46,6 +47,12 @@ items_up_to (Some x) items = items_before x items
 abbrev pub leaf_of : List ℕ → List Item
 leaf_of [] = []
 leaf_of (r ∷ rs) = atom_item (get_or (r ∷ rs) (length (r ∷ rs) / 2) 0) (length (r ∷ rs)) ∷ []
+
+-- the items from one on up to an end are one leaf
+pub record IsOneLeaf (p : Parts) (first : ℕ) (end : Option ℕ) : Type 0 where
+  pub row : first % 3 ≡ 1
+  pub leaf : state_at p (first / 3) ≢ Node
+  pub next : first_name (items_after first p.items) ≡ end
 
 -- the items of a slot, from one on up to an end: with the leaf of their live rows in their place the rows are those of
 -- the flatten

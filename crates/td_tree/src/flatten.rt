@@ -1,12 +1,12 @@
 // A slot made one leaf.
-ghost use Rattle.std.specs.Prelude.{◌≡◌, ◌≢◌, ◌⊎◌, ◌<◌, ◌≤◌, ◌+◌, ◌^◌, ◌++◌, ◌∷◌, [], ℕ, length, get_or, vec_len, vec_capacity, OnOk, OnErr, Option, Some, None};
+ghost use Rattle.std.specs.Prelude.{◌≡◌, ◌≢◌, ◌⊎◌, ◌<◌, ◌≤◌, ◌+◌, ◌^◌, ◌++◌, ◌∷◌, [], ℕ, length, get_or, vec_len, vec_capacity, IfOk, OnOk, OnErr, IsTrue, Option, Some, None};
 ghost use Rattle.std.specs.Option.{ForSome};
 ghost use Rattle.td_path.specs.declared.slot.Slot.{Slot};
 ghost use Rattle.td_path.specs.declared.slot.Slot.TheVariants.{Root, At};
 ghost use Rattle.td_list.specs.Items.{IsItem, AreNew, items_before, items_from_end, first_name, place_of, replace, weight_of};
 ghost use Rattle.td_tree.specs.declared.tree_row.RowState.TheVariants.{Node};
 ghost use Rattle.td_tree.specs.Parts.{state_at, table, tokens_of, nodes_of, IsTree, IsFlattened, AreInLast, IsSameTree};
-ghost use Rattle.td_tree.specs.Stretches.{leaf_of, IsSlotItems, IsSlotStretch};
+ghost use Rattle.td_tree.specs.Stretches.{leaf_of, IsOneLeaf, IsSlotItems, IsSlotStretch};
 ghost use Rattle.td_tree.specs.Walks.{IsStretch};
 
 use crate::item_of::atom_item;
@@ -14,7 +14,7 @@ use crate::kept_state::MOST_ARRAYS;
 use crate::side::{side_end, side_start};
 use crate::states::{bury, gather};
 use crate::tokens::Tokens;
-use crate::tree_row::Array;
+use crate::tree_row::{Array, RowState};
 use std::alloc::Global;
 use td_base::{Bit, Memory};
 use td_list::{List, Sequence, reserve_by_quarter};
@@ -28,8 +28,9 @@ impl Tokens {
         ensures err { OnErr result (self.new ≡ self.old) }
     {
         let first = self.first();
-        self.flatten_stretch(first, None)?;
-        self.give_arrays_back();
+        if self.flatten_stretch(first, None)? {
+            self.give_arrays_back();
+        }
         Ok(())
     }
 
@@ -57,40 +58,42 @@ impl Tokens {
         Ok(())
     }
 
-    // The same for the tokens of a slot, from one on up to an end.
-    fn flatten_stretch(&mut self, first: Option<u32>, end: Option<u32>) -> Result<(), Memory>
+    // The same for the tokens of a slot, from one on up to an end. Whether that changed them.
+    fn flatten_stretch(&mut self, first: Option<u32>, end: Option<u32>) -> Result<bool, Memory>
         requires tree { IsTree self.old }
         requires items { (slot : Slot) × IsSlotItems self.old slot first end }
         ensures ok { OnOk result ((slot : Slot) → IsSlotItems self.old slot first end
             → IsFlattened self.old self.new slot) }
         ensures nodes { OnOk result ((s : IsStretch self.old first end)
             → self.new.nodes + nodes_of (tokens_of self.old s.inner) ≡ self.old.nodes) }
-        ensures last { OnOk result (first ≡ first_name self.old.items → end ≡ None → AreInLast self.new) }
+        ensures last { IfOk result (λ changed. IsTrue changed → first ≡ first_name self.old.items → end ≡ None
+            → AreInLast self.new) }
         ensures err { OnErr result (self.new ≡ self.old) }
     {
         if first == end {
-            return Ok(());
+            return Ok(false);
         }
         match first {
-            Some(name) => {
-                self.flatten_between(name, end)?;
-                Ok(())
-            }
-            None => Ok(()),
+            Some(name) => self.flatten_between(name, end),
+            None => Ok(false),
         }
     }
 
-    // The same where there are some, from a token on up to another or to the end.
-    fn flatten_between(&mut self, first: u32, end: Option<u32>) -> Result<(), Memory>
+    // The same where there are some, from a token on up to another or to the end. One leaf is left as it is.
+    fn flatten_between(&mut self, first: u32, end: Option<u32>) -> Result<bool, Memory>
         requires tree { IsTree self.old }
         requires stretch { (slot : Slot) × IsSlotStretch self.old slot first end }
         ensures ok { OnOk result ((slot : Slot) → IsSlotStretch self.old slot first end
             → IsFlattened self.old self.new slot) }
         ensures nodes { OnOk result ((s : IsStretch self.old (Some first) end)
             → self.new.nodes + nodes_of (tokens_of self.old s.inner) ≡ self.old.nodes) }
-        ensures last { OnOk result (items_before first self.old.items ≡ [] → end ≡ None → AreInLast self.new) }
+        ensures last { IfOk result (λ changed. IsTrue changed → items_before first self.old.items ≡ [] → end ≡ None
+            → AreInLast self.new) }
         ensures err { OnErr result (self.new ≡ self.old) }
     {
+        if self.is_one_leaf(first, end) {
+            return Ok(false);
+        }
         let found = self.found_in(Some(first), end)?;
         if self.arrays.len() >= MOST_ARRAYS as usize {
             return Err(Memory);
@@ -102,7 +105,16 @@ impl Tokens {
         self.nodes -= found.nodes.len() as u32;
         self.count -= found.dead;
         push_array(&mut self.arrays, found.live);
-        Ok(())
+        Ok(true)
+    }
+
+    // Whether the tokens from one on up to an end are one leaf.
+    fn is_one_leaf(&self, first: u32, end: Option<u32>) -> bool
+        requires tree { IsTree self.now }
+        requires first { IsItem first self.now.items }
+        ensures { IsTrue result → IsOneLeaf self.now first end }
+    {
+        first % 3 == 1 && self.state(first / 3) != RowState::Node && self.next(first) == end
     }
 }
 

@@ -15,6 +15,7 @@ use Rattle.td_tree.proofs.Opening.{more_nodes}
 use Rattle.td_tree.proofs.SlotStretches.{live_below, live_few, live_places, first_there, end_there, leaf_new}
 use Rattle.td_tree.proofs.SlotStretches.{open_below, opens_few, dead_below, flattened, opens_long}
 use Rattle.td_tree.proofs.GivenBack.{in_array}
+use Rattle.td_tree.proofs.OneLeaf.{one_flat, one_has_no_nodes}
 use Rattle.td_tree.proofs.tokens.Tokens.flatten_between.Goals as goal
 use Rattle.td_tree.proofs.tokens.Tokens.flatten_between.Goals.{After-deref, After-deref-3}
 
@@ -216,7 +217,7 @@ returns-clause-nodes c = λ s.
     omega arith
 
 pub returns-clause-last : goal.returns-clause-last
-returns-clause-last c = λ starts ends r a i l e.
+returns-clause-last c = λ u starts ends r a i l e.
     let p : Parts = c.args.self.now in
     let s = c.requires.stretch in
     let f = c.in_ok-found.ensures s.1.stretch in
@@ -254,3 +255,17 @@ returns-clause-last c = λ starts ends r a i l e.
   where
     below : (n : ℕ) → 0 < n → n / 2 < n
     below n h = omega arith
+
+pub returns-then-is_one_leaf-clause-ok : goal.returns-then-is_one_leaf-clause-ok
+returns-then-is_one_leaf-clause-ok c = λ slot s.
+    one_flat c.args.self.now c.requires.tree c.args.first c.args.end (c.is_one_leaf.ensures c.if-is_one_leaf.true) slot s
+
+pub returns-then-is_one_leaf-clause-nodes : goal.returns-then-is_one_leaf-clause-nodes
+returns-then-is_one_leaf-clause-nodes c = λ s.
+    one_has_no_nodes c.args.self.now c.requires.tree c.args.first c.args.end (c.is_one_leaf.ensures c.if-is_one_leaf.true)
+    s
+
+pub is_one_leaf-requires-clause-first : goal.is_one_leaf-requires-clause-first
+is_one_leaf-requires-clause-first c =
+    let s = c.requires.stretch in
+    first_there c.args.self.now c.requires.tree s.0 c.args.first c.args.end s.1

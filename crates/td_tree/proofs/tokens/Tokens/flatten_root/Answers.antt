@@ -1,4 +1,4 @@
-use Rattle.std.proofs.Common.{◌∙◌, ap, sym, subst, refl, arith, ℕ, List, [], length, get_or, Option, None}
+use Rattle.std.proofs.Common.{◌≡◌, ◌∙◌, ap, sym, subst, refl, arith, ℕ, List, [], length, get_or, Option, None}
 use Rattle.std.proofs.lemmas.List.{append-nil}
 use Rattle.td_list.specs.Items.{first_name}
 use Rattle.td_tree.specs.Parts.{RowValue, Parts, nobody, IsFlattened}
@@ -6,7 +6,7 @@ use Rattle.td_path.specs.declared.slot.Slot.TheVariants.{Root}
 use Rattle.td_tree.specs.Stretches.{IsSlotItems}
 use Rattle.td_tree.proofs.SlotItems.{root_items}
 use Rattle.td_tree.proofs.tokens.Tokens.flatten_root.Goals as goal
-use Rattle.td_tree.proofs.tokens.Tokens.flatten_root.Goals.{After-give_arrays_back}
+use Rattle.td_tree.proofs.tokens.Tokens.flatten_root.Goals.{In_ok-flatten_stretch}
 
 pub flatten_stretch-requires-clause-items : goal.flatten_stretch-requires-clause-items
 flatten_stretch-requires-clause-items c = (
@@ -15,22 +15,23 @@ flatten_stretch-requires-clause-items c = (
       (sym c.first-first.ensures) (root_items c.args.self.now c.requires),
 )
 
-flattened : (c : After-give_arrays_back) → IsFlattened c.args.self.now c.flatten_stretch.new.self Root
+flattened : (c : In_ok-flatten_stretch) → IsFlattened c.args.self.now c.flatten_stretch.new.self Root
 flattened c = c.in_ok-flatten_stretch.ensures.ok Root
     (subst (λ (o : Option ℕ). IsSlotItems c.args.self.now Root o None) (sym c.first-first.ensures)
     (root_items c.args.self.now c.requires))
 
 pub give_arrays_back-requires-clause-last : goal.give_arrays_back-requires-clause-last
-give_arrays_back-requires-clause-last c = c.in_ok-flatten_stretch.ensures.last c.first-first.ensures refl
+give_arrays_back-requires-clause-last c =
+    c.in_ok-flatten_stretch.ensures.last c.if-branch.true c.first-first.ensures refl
 
 pub give_arrays_back-requires-clause-tree : goal.give_arrays_back-requires-clause-tree
 give_arrays_back-requires-clause-tree c = (c.in_ok-flatten_stretch.ensures.ok Root
     (subst (λ (o : Option ℕ). IsSlotItems c.args.self.now Root o None) (sym c.first-first.ensures)
     (root_items c.args.self.now c.requires))).tree
 
-pub returns-clause-ok : goal.returns-clause-ok
-returns-clause-ok c =
-    let f = flattened c in
+pub returns-then-branch-clause-ok : goal.returns-then-branch-clause-ok
+returns-then-branch-clause-ok c =
+    let f = flattened (goal.at.returns-then-branch-clause-ok c).In_ok-flatten_stretch in
     let s = c.give_arrays_back.ensures in
     record {
       tree = s.tree;
@@ -41,8 +42,12 @@ returns-clause-ok c =
       nodes = let n = f.nodes in omega (arith, s.nodes);
     }
 
-pub returns-clause-none : goal.returns-clause-none
-returns-clause-none c =
+pub returns-else-branch-clause-ok : goal.returns-else-branch-clause-ok
+returns-else-branch-clause-ok c = flattened (goal.at.returns-else-branch-clause-ok c).In_ok-flatten_stretch
+
+-- no node is left
+none : (c : In_ok-flatten_stretch) → c.flatten_stretch.new.self.nodes ≡ 0
+none c =
     let p : Parts = c.args.self.now in
     let all = c.in_ok-flatten_stretch.ensures.nodes
     (record {
@@ -54,4 +59,11 @@ returns-clause-none c =
       ends = refl;
     }) in
     let counted = c.requires.counted in
-    omega (arith, c.give_arrays_back.ensures.nodes)
+    omega arith
+
+pub returns-then-branch-clause-none : goal.returns-then-branch-clause-none
+returns-then-branch-clause-none c =
+    c.give_arrays_back.ensures.nodes ∙ none (goal.at.returns-then-branch-clause-none c).In_ok-flatten_stretch
+
+pub returns-else-branch-clause-none : goal.returns-else-branch-clause-none
+returns-else-branch-clause-none c = none (goal.at.returns-else-branch-clause-none c).In_ok-flatten_stretch
