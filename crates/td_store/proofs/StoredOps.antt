@@ -13,7 +13,7 @@ use Rattle.td_clock.specs.Vector.{vector_get, vector_set}
 use Rattle.td_op.specs.declared.body.Body.TheVariants.{Insert as InsertBody}
 use Rattle.td_op.specs.Op.{OpValue, IsOp}
 use Rattle.td_store.specs.declared.compact_body.CompactBody.{CompactBody}
-use Rattle.td_store.specs.declared.compact_body.CompactBody.TheVariants.{Insert, Delete, Propose, Commit, Abort}
+use Rattle.td_store.specs.declared.compact_body.CompactBody.TheVariants.{Insert, Letter, Delete, Propose, Commit, Abort}
 use Rattle.td_store.specs.declared.ops.CompactOp.{CompactOp}
 use Rattle.td_store.specs.Compact.{slot_of}
 use Rattle.td_store.specs.Lists.{RunsValue, VectorsValue}
@@ -75,6 +75,7 @@ body_stays runs more (Insert slot run) has = (
   ap (InsertBody (slot_of slot))
       (get_or_append_left runs more [] run has),
 )
+body_stays runs more (Letter slot letter) has = (has, refl)
 body_stays runs more (Delete target) has = (tt, refl)
 body_stays runs more (Propose slot) has = (tt, refl)
 body_stays runs more (Commit proposal) has = (tt, refl)

@@ -1,7 +1,8 @@
 -- How `Ops` keeps its operations: as records whose runs and dependencies stand in a list of runs and a list of
--- vectors. Operations share a vector: at the site of an operation its number counts for nothing, since of its own site
--- an operation knows exactly those before it.
-use Rattle.std.specs.Prelude.{◌≡◌, ◌≤◌, ◌<◌, ◌+◌, ◌-◌, ◌^◌, ℕ, List, [], length, slice_index_or, All}
+-- vectors; a letter stands in the record itself. Operations share a vector: at the site of an operation its number
+-- counts for nothing, since of its own site an operation knows exactly those before it.
+use Rattle.std.specs.Prelude.{◌≡◌, ◌≤◌, ◌<◌, ◌+◌, ◌-◌, ◌^◌, ℕ, List, [], ◌∷◌, length, slice_index_or, All}
+use Rattle.td_base.specs.Atom.{IsAtom}
 use Rattle.td_base.specs.Value.{DotValue}
 use Rattle.td_base.specs.declared.site.TheConstants.{MAX_SITE}
 use Rattle.td_clock.specs.Vector.{vector_set}
@@ -10,6 +11,7 @@ use Rattle.td_op.specs.declared.body.Body.TheVariants.{Insert, Delete, Propose, 
 use Rattle.td_op.specs.Op.{OpValue, IsOp}
 use Rattle.td_store.specs.declared.compact_body.CompactBody.{CompactBody}
 use Rattle.td_store.specs.declared.compact_body.CompactBody.TheVariants.{Insert as CompactInsert}
+use Rattle.td_store.specs.declared.compact_body.CompactBody.TheVariants.{Letter as CompactLetter}
 use Rattle.td_store.specs.declared.compact_body.CompactBody.TheVariants.{Delete as CompactDelete}
 use Rattle.td_store.specs.declared.compact_body.CompactBody.TheVariants.{Propose as CompactPropose}
 use Rattle.td_store.specs.declared.compact_body.CompactBody.TheVariants.{Commit as CompactCommit}
@@ -21,14 +23,16 @@ use Rattle.td_store.specs.Lists.{RunsValue, VectorsValue}
 -- the body that a compact one stands for, with its run from the list
 abbrev pub body_of : List (List (List ℕ)) → CompactBody → Body
 body_of runs (CompactInsert slot run) = Insert (slot_of slot) (slice_index_or runs run [])
+body_of runs (CompactLetter slot letter) = Insert (slot_of slot) ((letter ∷ []) ∷ [])
 body_of runs (CompactDelete target) = Delete target
 body_of runs (CompactPropose slot) = Propose (slot_of slot)
 body_of runs (CompactCommit proposal) = Commit proposal
 body_of runs (CompactAbort proposal) = Abort proposal
 
--- its run is in the list
+-- its run is in the list, or is a letter
 abbrev pub HasRun : List (List (List ℕ)) → CompactBody → Type 0
 HasRun runs (CompactInsert slot run) = run < length runs
+HasRun runs (CompactLetter slot letter) = IsAtom (letter ∷ [])
 HasRun runs (CompactDelete target) = Unit {0}
 HasRun runs (CompactPropose slot) = Unit {0}
 HasRun runs (CompactCommit proposal) = Unit {0}

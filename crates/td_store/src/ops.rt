@@ -9,6 +9,7 @@ use crate::runs::Runs;
 use crate::vectors::Vectors;
 use std::alloc::Global;
 use std::marker::Model;
+use std::mem::size_of;
 use td_base::{Dot, MAX_SITE, Memory};
 use td_clock::Vector;
 use td_op::{Body, Op};
@@ -16,8 +17,8 @@ use td_op::{Body, Op};
 const SITES: usize = MAX_SITE as usize;
 
 /// The operations of a replica for a buffer of so many sites, in the order in which they were pushed. One takes 20
-/// bytes and its run; operations that follow one another at a site with nothing taken between share the vector of
-/// their dependencies. Room for more is made by `reserve` and used up by `push`.
+/// bytes, and its run where that is more than a letter; operations that follow one another at a site with nothing taken
+/// between share the vector of their dependencies. Room for more is made by `reserve` and used up by `push`.
 #[derive(Debug, Drop)]
 pub struct Ops {
     size: u8,
@@ -36,6 +37,8 @@ struct CompactOp {
     row: u32,
     body: CompactBody,
 }
+
+const _: () = prove!(size_of::<CompactOp>() == 20);
 
 impl Model for Ops {
     ghost use Rattle.std.specs.Prelude.{map, vec_capacity};

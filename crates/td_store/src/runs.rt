@@ -94,16 +94,6 @@ impl Runs {
         read_stored(&self.bytes[start as usize..])
     }
 
-    // The byte of the run at a place that there is, where it is a letter.
-    pub(crate) fn letter(&self, k: u32) -> Option<u8>
-        requires { k < length self.now.runs }
-        ensures run { IfSome result (λ byte. slice_index_or self.now.runs k [] ≡ (byte ∷ []) ∷ []) }
-        ensures atom { IfSome result (λ byte. IsAtom (byte ∷ [])) }
-    {
-        let start = self.starts[k as usize];
-        stored_letter(&self.bytes[start as usize..])
-    }
-
     /// How many runs there are.
     pub fn len(&self) -> u32
         ensures { result ≡ length self.now.runs }
@@ -122,12 +112,6 @@ fn push_stored(bytes: &mut Vec<u8>, run: &Run)
     let count = run.len();
     let atoms = run.bytes();
     bytes.push(count).unwrap();
-    if count == 1 && atoms.len() == 1 {
-        // a letter: no call that copies is made for two bytes
-        bytes.push(1).unwrap();
-        bytes.push(atoms[0]).unwrap();
-        return;
-    }
     bytes
         .extend_from_slice(&run.lengths()[..count as usize])
         .unwrap();
@@ -141,19 +125,6 @@ fn read_stored(bytes: &[u8]) -> Run
 {
     let (lengths, atoms) = bytes[1..].split_at(bytes[0] as usize);
     Run::cut(&atoms[..total(lengths)], lengths)
-}
-
-// The byte of the run that the bytes begin with, where it is a letter.
-fn stored_letter(bytes: &[u8]) -> Option<u8>
-    requires { BeginsWithRun bytes.now }
-    ensures run { IfSome result (λ byte. stored_run bytes.now ≡ (byte ∷ []) ∷ []) }
-    ensures atom { IfSome result (λ byte. IsAtom (byte ∷ [])) }
-{
-    if bytes[0] == 1 && bytes[1] == 1 {
-        Some(bytes[2])
-    } else {
-        None
-    }
 }
 
 fn total(lengths: &[u8]) -> usize
