@@ -1,10 +1,12 @@
 ghost use Rattle.std.specs.Prelude.{◌≡◌, ◌<◌, ◌≤◌, ◌+◌, ◌++◌, length, IfOk, IfSome, OnOk, Some};
 ghost use Rattle.std.specs.List.{find, slice_get};
-ghost use Rattle.std.specs.Option.{is_some, option_and_then};
+ghost use Rattle.std.specs.Option.{is_some, option_and_then, option_map};
 ghost use Rattle.td_base.specs.declared.site.TheConstants.{MAX_SITE};
 ghost use Rattle.td_machine.specs.Counts.{ops_of};
 ghost use Rattle.td_machine.specs.Log.{decision, proposed_slot};
 ghost use Rattle.td_machine.specs.Ready.{is_dot_of};
+ghost use Rattle.td_op.specs.Op.{IsOp, OpValue};
+ghost use Rattle.td_store.specs.Inserting.{inserting};
 ghost use Rattle.td_history.specs.Past.{IsAsBefore, empty_past, kept, resumed, with_taken, with_made, voted, entered};
 ghost use Rattle.td_history.specs.Past.{IsNextIn, IsDoneAs};
 ghost use Rattle.td_base.specs.Lists.{kth};
@@ -16,8 +18,9 @@ use crate::ramps::Ramps;
 use crate::vote::CompactVote;
 use std::alloc::Global;
 use std::marker::Model;
-use td_base::{Dot, Memory, Site};
-use td_op::{Entry, Input, Message, Op, Reply};
+use td_base::{Dot, Memory, Run, Site};
+use td_clock::Vector;
+use td_op::{Body, Entry, Input, Message, Op, Reply};
 use td_path::Slot;
 use td_store::Ops;
 
@@ -107,6 +110,20 @@ impl History {
         self.room -= 1;
     }
 
+    /// Notes an insertion made here, by its parts, which is sent.
+    pub fn make_insertion(&mut self, dot: Dot, deps: &Vector, slot: &Slot, run: &Run)
+        requires room { 1 ≤ self.old.room }
+        requires op { IsOp (inserting dot deps.now slot.now run.now) }
+        requires next { IsNextIn self.old.size self.old.room_site self.old.log
+            (inserting dot deps.now slot.now run.now) }
+        requires own { dot.site ≡ self.old.site }
+        ensures { self.new ≡ with_made (inserting dot deps.now slot.now run.now) self.old }
+    {
+        let number = self.log.add_insertion(dot, deps, slot, run);
+        self.sent.push(CompactMessage::Op { number });
+        self.room -= 1;
+    }
+
     /// Notes an operation taken.
     pub fn take(&mut self, op: &Op)
         requires room { 1 ≤ self.old.room }
@@ -180,6 +197,20 @@ impl History {
         ensures { result ≡ slice_get self.now.ops number }
     {
         self.log.op(number)
+    }
+
+    /// The dot of the operation of a number.
+    pub fn dot(&self, number: u32) -> Option<Dot>
+        ensures { result ≡ option_map (λ (op : OpValue). op.dot) (slice_get self.now.ops number) }
+    {
+        self.log.dot(number)
+    }
+
+    /// What the operation of a number does.
+    pub fn body(&self, number: u32) -> Option<Body>
+        ensures { result ≡ option_map (λ (op : OpValue). op.body) (slice_get self.now.ops number) }
+    {
+        self.log.body(number)
     }
 
     /// The number of the operation with this dot that was made or taken.

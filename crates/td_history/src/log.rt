@@ -6,7 +6,8 @@ ghost use Rattle.td_base.specs.declared.site.TheConstants.{MAX_SITE};
 ghost use Rattle.td_machine.specs.Counts.{ops_of};
 ghost use Rattle.td_machine.specs.Log.{decision, proposed_slot};
 ghost use Rattle.td_machine.specs.Ready.{is_dot_of};
-ghost use Rattle.td_op.specs.Op.{OpValue};
+ghost use Rattle.td_op.specs.Op.{IsOp, OpValue};
+ghost use Rattle.td_store.specs.Inserting.{inserting};
 ghost use Rattle.td_history.specs.Texts.{run_at};
 ghost use Rattle.td_history.specs.Logs.{IsFoundAs};
 ghost use Rattle.td_history.specs.Standing.{Agree};
@@ -18,6 +19,7 @@ use crate::ramps::Ramps;
 use std::alloc::Global;
 use std::marker::Model;
 use td_base::{Dot, Memory, Run, Site};
+use td_clock::Vector;
 use td_op::{Body, Op};
 use td_path::Slot;
 use td_store::Ops;
@@ -135,6 +137,27 @@ impl Log {
         number
     }
 
+    /// The same of an insertion, by its parts.
+    pub fn add_insertion(&mut self, dot: Dot, deps: &Vector, slot: &Slot, run: &Run) -> u32
+        requires room { 1 ≤ self.old.room }
+        requires op { IsOp (inserting dot deps.now slot.now run.now) }
+        requires next { IsNextIn self.old.size self.old.room_site self.old.log
+            (inserting dot deps.now slot.now run.now) }
+        ensures number { result ≡ length self.old.ops }
+        ensures log { self.new ≡ record self.old {
+          ops = self.old.ops ++ inserting dot deps.now slot.now run.now ∷ [];
+          log = inserting dot deps.now slot.now run.now ∷ self.old.log;
+          room = self.old.room - 1;
+        } }
+    {
+        let number = self.ops.len();
+        self.ops.push_insertion(dot, deps, slot, run);
+        self.numbers.push(number);
+        self.index.push(number);
+        self.room -= 1;
+        number
+    }
+
     /// How many operations are kept.
     pub fn len(&self) -> u32
         ensures { result ≡ length self.now.ops }
@@ -169,6 +192,13 @@ impl Log {
         ensures { slice_get self.now.ops number ≡ Some result }
     {
         self.ops.at(number)
+    }
+
+    /// What the operation of a number does.
+    pub fn body(&self, number: u32) -> Option<Body>
+        ensures { result ≡ option_map (λ (op : OpValue). op.body) (slice_get self.now.ops number) }
+    {
+        self.ops.body(number)
     }
 
     /// The text that the operation of a number inserts.

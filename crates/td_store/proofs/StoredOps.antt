@@ -9,6 +9,7 @@ use Rattle.std.proofs.lemmas.List.{length-map, map-append, take-append-drop, get
 use Rattle.std.proofs.lemmas.List.Elements.{All-tail, All-push}
 use Rattle.std.proofs.lemmas.Option.{slice_get-map, slice_get-get_or, slice_get_read}
 use Rattle.std.proofs.Math.Seq.{get_or-append_seam}
+use Rattle.td_base.specs.Value.{DotValue}
 use Rattle.td_clock.specs.Vector.{vector_get, vector_set}
 use Rattle.td_op.specs.declared.body.Body.TheVariants.{Insert as InsertBody}
 use Rattle.td_op.specs.Op.{OpValue, IsOp}
@@ -22,20 +23,20 @@ use Rattle.td_store.specs.OpsParts.{body_of, HasRun, deps_of, op_of, IsKept, Are
 -- ---- the row of an operation
 
 -- a row that has the dependencies but at the site itself
-pub found_row : (rows : List (List ℕ)) (k : ℕ) (op : OpValue) (deps : List ℕ) (site : ℕ) → IsOp op
-    → deps ≡ op.deps → site ≡ op.dot.site
+pub found_row : (rows : List (List ℕ)) (k : ℕ) (dot : DotValue) (deps : List ℕ) (site : ℕ)
+    → vector_get deps dot.site + 1 ≡ dot.seq → site ≡ dot.site
     → IfSome (slice_get rows k) (λ row. vector_set row site (vector_get deps site) ≡ deps) × (k < length rows)
-    → deps_of (get_or rows k []) op.dot ≡ op.deps
-found_row rows k op deps site is same own found =
-    let before : op.dot.seq - 1 ≡ vector_get op.deps op.dot.site = omega (arith, is.next) in
-    rw before (rw (same, own) at (rw (slice_get-get_or rows k [] found.1) at found.0))
+    → deps_of (get_or rows k []) dot ≡ deps
+found_row rows k dot deps site next own found =
+    let before : dot.seq - 1 ≡ vector_get deps dot.site = omega (arith, next) in
+    rw before (rw own at (rw (slice_get-get_or rows k [] found.1) at found.0))
 
 -- the dependencies of an operation, as a row
-pub added_row : (rows : List (List ℕ)) (k : ℕ) (op : OpValue) → IsOp op → k ≡ length rows
-    → deps_of (get_or (rows ++ op.deps ∷ []) k []) op.dot ≡ op.deps
-added_row rows k op is at =
-    let before : op.dot.seq - 1 ≡ get_or op.deps (op.dot.site - 1) 0 = omega (arith, is.next) in
-    rw (at, get_or-append_seam rows op.deps [] [], before) (set-get_or op.deps (op.dot.site - 1) 0)
+pub added_row : (rows : List (List ℕ)) (k : ℕ) (dot : DotValue) (deps : List ℕ) → vector_get deps dot.site + 1 ≡ dot.seq
+    → k ≡ length rows → deps_of (get_or (rows ++ deps ∷ []) k []) dot ≡ deps
+added_row rows k dot deps next at =
+    let before : dot.seq - 1 ≡ get_or deps (dot.site - 1) 0 = omega (arith, next) in
+    rw (at, get_or-append_seam rows deps [] [], before) (set-get_or deps (dot.site - 1) 0)
 
 -- ---- reading
 

@@ -1,6 +1,8 @@
 ghost use Rattle.std.specs.Prelude.{◌≡◌, ◌≤◌, ◌<◌, ◌+◌, ◌∷◌, ◌++◌, [], length, take, slice_get, slice_index_or, OnErr, OnOk, Some};
 ghost use Rattle.std.specs.Option.{option_map};
-ghost use Rattle.td_op.specs.Op.{OpValue};
+ghost use Rattle.td_clock.specs.Vector.{vector_get};
+ghost use Rattle.td_op.specs.Op.{IsOp, OpValue};
+ghost use Rattle.td_store.specs.Inserting.{inserting};
 ghost use Rattle.td_store.specs.OpsParts.{deps_of};
 
 use crate::compact_body::CompactBody;
@@ -10,9 +12,10 @@ use crate::vectors::Vectors;
 use std::alloc::Global;
 use std::marker::Model;
 use std::mem::size_of;
-use td_base::{Dot, MAX_SITE, Memory};
+use td_base::{Dot, MAX_SITE, Memory, Run};
 use td_clock::Vector;
 use td_op::{Body, Op};
+use td_path::Slot;
 
 const SITES: usize = MAX_SITE as usize;
 
@@ -100,10 +103,26 @@ impl Ops {
         ensures ops { self.new.ops ≡ self.old.ops ++ op.now ∷ [] }
         ensures room { self.new.room + 1 ≡ self.old.room }
     {
-        let row = row_for(&mut self.rows, &mut self.last_rows, op);
+        let row = row_for(&mut self.rows, &mut self.last_rows, op.dot(), op.deps());
         let body = CompactBody::of(op.body_ref(), &mut self.runs);
         let dot = CompactDot::of(op.dot());
-        self.ops.push(CompactOp { dot, row, body }).unwrap();
+        self.ops.push_reserved(CompactOp { dot, row, body });
+        self.room -= 1;
+    }
+
+    /// Adds an insertion at the end, by its parts: an operation has some 240 bytes. Takes no memory.
+    pub fn push_insertion(&mut self, dot: Dot, deps: &Vector, slot: &Slot, run: &Run)
+        requires op { IsOp (inserting dot deps.now slot.now run.now) }
+        requires size { length deps.now ≡ self.old.size }
+        requires room { 1 ≤ self.old.room }
+        ensures size { self.new.size ≡ self.old.size }
+        ensures ops { self.new.ops ≡ self.old.ops ++ inserting dot deps.now slot.now run.now ∷ [] }
+        ensures room { self.new.room + 1 ≡ self.old.room }
+    {
+        let row = row_for(&mut self.rows, &mut self.last_rows, dot, deps);
+        let body = CompactBody::insertion(slot, run, &mut self.runs);
+        let dot = CompactDot::of(dot);
+        self.ops.push_reserved(CompactOp { dot, row, body });
         self.room -= 1;
     }
 
@@ -161,21 +180,23 @@ impl Ops {
     }
 }
 
-// The row with the dependencies of the operation: the last one of its site where that has them, and else a new one.
-fn row_for(rows: &mut Vectors, last_rows: &mut [u32; SITES], op: &Op) -> u32
-    requires size { length op.now.deps ≡ rows.old.size }
+// The row with the dependencies of an operation with this dot: the last one of its site where that has them, and else a
+// new one.
+fn row_for(rows: &mut Vectors, last_rows: &mut [u32; SITES], dot: Dot, deps: &Vector) -> u32
+    requires next { vector_get deps.now dot.site + 1 ≡ dot.seq }
+    requires site { dot.site ≤ rows.old.size }
+    requires size { length deps.now ≡ rows.old.size }
     requires room { 1 ≤ rows.old.room }
     ensures within { result < length rows.new.rows }
-    ensures deps { deps_of (slice_index_or rows.new.rows result []) op.now.dot ≡ op.now.deps }
+    ensures deps { deps_of (slice_index_or rows.new.rows result []) dot ≡ deps.now }
     ensures rows { take (length rows.old.rows) rows.new.rows ≡ rows.old.rows }
     ensures size { rows.new.size ≡ rows.old.size }
     ensures room { rows.old.room ≤ rows.new.room + 1 }
 {
-    let site = op.dot().site;
-    let last = &mut last_rows[site.place()];
-    if !rows.has_but_at(*last, op.deps(), site) {
+    let last = &mut last_rows[dot.site.place()];
+    if !rows.has_but_at(*last, deps, dot.site) {
         *last = rows.len();
-        rows.push(op.deps());
+        rows.push(deps);
     }
     *last
 }
