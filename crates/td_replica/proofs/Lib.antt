@@ -8,3 +8,4 @@ pub mod Told
 pub mod Verdicts
 pub mod Waiters
 pub mod Legal
+pub mod Putting

@@ -2,6 +2,7 @@
 use Rattle.std.proofs.Common.{◌≡◌, ◌≤◌, ◌+◌, ◌-◌, ◌||◌, ℕ, List, [], ◌∷◌, Bool, true, false, not, length, nat_eq}
 use Rattle.std.proofs.Common.{nat_lt, if◌then◌else◌, Option, Some, None, refl, sym, ap, ◌∙◌, subst, arith}
 use Rattle.std.proofs.lemmas.Bool.{ltb-false}
+use Rattle.std.proofs.lemmas.Option.{same_Some}
 use Rattle.std.specs.Prelude.{Result, Ok, Err, IfOk, IfSome, find}
 use Rattle.td_base.specs.declared.memory.Memory.{Memory}
 use Rattle.td_base.specs.Value.{DotValue, AtomIdValue}
@@ -39,7 +40,7 @@ use Rattle.td_machine.specs.Parts.{Anything, RoomFor, IsBuilt, MayMake, IsPropos
 use Rattle.td_machine.proofs.Room.{room}
 use Rattle.td_machine.proofs.Turns.{placed}
 use Rattle.td_history.specs.Past.{IsDoneAs}
-use Rattle.td_history.specs.Texts.{run_of, run_at, run_asked}
+use Rattle.td_history.specs.Texts.{run_at, run_asked}
 use Rattle.td_replica.specs.declared.done.Done.{Done}
 use Rattle.td_replica.specs.declared.requests.Verdict.{Verdict}
 use Rattle.td_replica.specs.declared.requests.Verdict.TheVariants.{Answer, Put, Delete as DeleteRow, Propose, Cancel}
@@ -284,11 +285,10 @@ module _ (request : Request) (m : Machine) where
 
 -- ---- the text of what is made
 
--- the body of an insert with the text of its request
-pub is_insert : {request : Request} {m : Machine} {slot : Slot} (k : IsPut request m slot) (body : Body)
-    → IfSome (run_asked request) (λ run. body ≡ Insert slot run) → body ≡ Insert slot k.run
-is_insert {slot = slot} k body h =
-    subst (λ (text : Option (List (List ℕ))). IfSome text (λ run. body ≡ Insert slot run)) k.text h
+-- what a request asks to put is put
+pub run_is : {request : Request} {m : Machine} {slot : Slot} (k : IsPut request m slot) (run : List (List ℕ))
+    → run_asked request ≡ Some run → run ≡ k.run
+run_is k run asked = same_Some run k.run (sym asked ∙ k.text)
 
 -- an insert has the text of its request
 put_as : {request : Request} {m : Machine} {slot : Slot} (k : IsPut request m slot) (ops : List OpValue)
@@ -298,13 +298,14 @@ put_as k ops None h = tt
 put_as k ops (Some n) h =
     subst (λ (text : Option (List (List ℕ))). IfSome text (λ t. run_at ops n ≡ Some t)) (sym k.text) h
 
-pub put_done : {request : Request} {m : Machine} {slot : Slot} (k : IsPut request m slot) (body : Body)
-    → body ≡ Insert slot k.run → (ops : List OpValue) (r : Result Done Memory)
-    → IfOk r (λ done. IfSome done.number (λ n. run_at ops n ≡ run_of body))
+pub put_done : {request : Request} {m : Machine} {slot : Slot} (k : IsPut request m slot) (run : List (List ℕ))
+    → run ≡ k.run → (ops : List OpValue) (r : Result Done Memory)
+    → IfOk r (λ done. IfSome done.number (λ n. run_at ops n ≡ Some run))
     → IfOk r (λ done. IfSome done.number (IsDoneAs ops (Local request)))
-put_done k body is ops (Err e) h = tt
-put_done k body is ops (Ok done) h =
-    put_as k ops done.number (subst (λ (c : Body). IfSome done.number (λ n. run_at ops n ≡ run_of c)) is h)
+put_done k run is ops (Err e) h = tt
+put_done k run is ops (Ok done) h =
+    put_as k ops done.number
+    (subst (λ (text : List (List ℕ)). IfSome done.number (λ n. run_at ops n ≡ Some text)) is h)
 
 -- a delete puts none
 deleted_as : {request : Request} {m : Machine} {x : AtomIdValue} (k : IsDelete request m x) (ops : List OpValue)

@@ -42,10 +42,10 @@ impl<D: Doc> State<D> {
         ensures { result ≡ option_and_then (λ (x : OpValue). put_by x.dot x.body self.now.machine.doc)
             (slice_get self.now.ops number) }
     {
-        let op = self.past.op(number)?;
-        match op.body_ref() {
+        let dot = self.past.dot(number)?;
+        match &self.past.body(number)? {
             Body::Insert { run, .. } => {
-                let index = live_before(&self.doc, AtomId::of(op.dot()));
+                let index = live_before(&self.doc, AtomId::of(dot));
                 Some(put_at(index, run))
             }
             Body::Delete { .. } | Body::Propose { .. } => None,

@@ -1,6 +1,6 @@
 // What a replica makes: edits, proposals and decisions.
 ghost use Rattle.std.specs.Prelude.{◌≡◌, ◌≢◌, ◌<◌, ◌≤◌, Some, None, true, false, IfOk, OnErr, IfSome, IsTrue};
-ghost use Rattle.td_op.specs.declared.body.Body.TheVariants.{Commit, Abort, Delete as DeleteOf};
+ghost use Rattle.td_op.specs.declared.body.Body.TheVariants.{Commit, Abort, Delete as DeleteOf, Insert as InsertOf};
 ghost use Rattle.td_op.specs.declared.input.Input.TheVariants.{Local};
 ghost use Rattle.td_op.specs.declared.reply.Reply.TheVariants.{Made, Cancelled, New};
 ghost use Rattle.td_op.specs.Input.{IsRequest};
@@ -20,9 +20,9 @@ ghost use Rattle.td_replica.specs.Verdict.{verdict};
 
 use crate::done::Done;
 use crate::last_change::LastChange;
-use crate::requests::{Verdict, insert_in};
+use crate::requests::{Verdict, run_in};
 use crate::state::{Origin, State};
-use td_base::{AtomId, Dot, Memory};
+use td_base::{AtomId, Dot, Memory, Run};
 use td_doc::Doc;
 use td_op::{Body, Reply, Request, Vote};
 use td_path::Slot;
@@ -77,7 +77,29 @@ impl<D: Doc> State<D> {
         ensures number { IfOk result (λ done. IfSome done.number (IsDoneAs self.new.ops (Local request.now))) }
         ensures err { OnErr result (IsAsBefore self.old self.new) }
     {
-        self.make(&insert_in(slot, request))
+        self.put(&slot, &run_in(request))
+    }
+
+    // A run is put in a slot: as `make` does it, but by the parts of the insertion, as an operation has some 240 bytes.
+    fn put(&mut self, slot: &Slot, run: &Run) -> Result<Done, Memory>
+        requires built { IsBuilt Anything self.old.machine.site self.old.machine.size self.old.machine }
+        requires may { MayMake (InsertOf slot.now run.now) self.old.machine }
+        ensures ok { IfOk result (λ done.
+            IsStep (stepped (Made (next_dot self.old.machine)) (make (InsertOf slot.now run.now) self.old.machine))
+            self.old self.new done) }
+        ensures number { IfOk result (λ done. IfSome done.number (λ k. run_at self.new.ops k ≡ Some run.now)) }
+        ensures err { OnErr result (IsAsBefore self.old self.new) }
+    {
+        self.reserve(self.site)?;
+        let number = self.past.kept();
+        let dot = self.next_dot();
+        self.put_run(slot, dot, run)?;
+        self.note_insertion(slot, dot, run);
+        Ok(Done {
+            reply: Reply::Made { dot },
+            change: LastChange::Put { number },
+            number: Some(number),
+        })
     }
 
     // A row is deleted.

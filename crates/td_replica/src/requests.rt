@@ -1,7 +1,6 @@
 // What a request of the site's editor comes to.
-ghost use Rattle.std.specs.Prelude.{◌≡◌, ◌≤◌, ◌+◌, ℕ, List, Option, IfSome, IsSome};
+ghost use Rattle.std.specs.Prelude.{◌≡◌, ◌≤◌, ◌+◌, ℕ, List, Option, IsSome};
 ghost use Rattle.td_base.specs.declared.dot.TheConstants.{MAX_SEQ};
-ghost use Rattle.td_op.specs.declared.body.Body.TheVariants.{Insert as InsertIn};
 ghost use Rattle.td_op.specs.declared.request.Request.TheVariants.{Cancel as CancelOf};
 ghost use Rattle.td_op.specs.declared.reply.Reply.TheVariants.{Position};
 ghost use Rattle.td_replica.specs.declared.requests.Verdict.TheVariants.{Answer};
@@ -18,7 +17,7 @@ use crate::state::State;
 use td_base::{AtomId, Bit, Dot, MAX_SEQ, Run};
 use td_coord::Counted;
 use td_doc::{Doc, alloc_slot};
-use td_op::{Body, Reply, Request};
+use td_op::{Reply, Request};
 use td_path::Slot;
 
 /// What a request comes to.
@@ -180,18 +179,17 @@ impl<D: Doc> State<D> {
     }
 }
 
-// The insert that the request asks for, in this slot.
-pub(crate) fn insert_in(slot: Slot, request: &Request) -> Body
+// The run that the request asks to put.
+pub(crate) fn run_in(request: &Request) -> Run
     requires { IsSome (run_asked request.now) }
-    ensures { IfSome (run_asked request.now) (λ run. result ≡ InsertIn slot run) }
+    ensures { run_asked request.now ≡ Some result }
 {
-    let run = match request {
+    match request {
         Request::Insert { atom, .. } | Request::InsertAfter { atom, .. } => Run::one(*atom),
         Request::Paste { run, .. } | Request::PasteAfter { run, .. } => *run,
         Request::Delete { .. } | Request::DeleteAtom { .. } => unreachable!(),
         Request::Propose { .. } | Request::ProposeAt { .. } | Request::Cancel { .. } => {
             unreachable!()
         }
-    };
-    Body::Insert { slot, run }
+    }
 }

@@ -6,10 +6,14 @@ ghost use Rattle.td_op.specs.Op.{OpValue, body_site};
 ghost use Rattle.td_doc.specs.Answers.{IsFresh, is_live_id, live_before};
 ghost use Rattle.td_doc.specs.Document.{IsDocument, live_id_at};
 ghost use Rattle.td_doc.specs.Deletion.{delete};
+ghost use Rattle.td_doc.specs.Insertion.{insert_run};
+ghost use Rattle.td_path.specs.Slot.{slot_site};
+ghost use Rattle.td_store.specs.Inserting.{inserting};
+ghost use Rattle.td_replica.specs.declared.state.Origin.TheVariants.{Here};
 ghost use Rattle.td_op.specs.declared.body.Body.TheVariants.{Delete};
 ghost use Rattle.td_machine.specs.Counts.{IsNext};
 ghost use Rattle.td_machine.specs.Log.{committed};
-ghost use Rattle.td_machine.specs.Machine.{Machine, made, next_op, start};
+ghost use Rattle.td_machine.specs.Machine.{Machine, made, next_dot, next_op, start};
 ghost use Rattle.td_machine.specs.Making.{effect};
 ghost use Rattle.td_machine.specs.Shown.{change_by, put_at_index};
 ghost use Rattle.td_machine.specs.Making.{holds_after};
@@ -31,7 +35,7 @@ ghost use Rattle.td_replica.specs.Parts.{StateValue, IsAsBefore, HasRoomFor, Com
 use crate::last_change::LastChange;
 use std::alloc::Global;
 use std::marker::Model;
-use td_base::{AtomId, Dot, Memory, Site};
+use td_base::{AtomId, Dot, Memory, Run, Site};
 use td_causal::{Buffer, Waiting};
 use td_clock::Vector;
 use td_coord::Tally;
@@ -117,8 +121,15 @@ impl<D: Doc> State<D> {
         requires named { IfSome (body_site body.now) (λ site. site ≤ self.now.machine.size) }
         ensures { result ≡ next_op self.now.machine body.now }
     {
-        let dot = Dot::new(self.site, self.made() + 1).unwrap();
-        Op::of(dot, &self.have, body)
+        Op::of(self.next_dot(), &self.have, body)
+    }
+
+    // Its dot.
+    pub(crate) fn next_dot(&self) -> Dot
+        requires { made self.now.machine < MAX_SEQ }
+        ensures { result ≡ next_dot self.now.machine }
+    {
+        Dot::new(self.site, self.made() + 1).unwrap()
     }
 
     // Does to the document what the operation does to it, and tells what that does to the atoms shown, where the
@@ -147,6 +158,16 @@ impl<D: Doc> State<D> {
         }
     }
 
+    // Puts the run in a slot of the document, as an insert with this dot does.
+    pub(crate) fn put_run(&mut self, slot: &Slot, dot: Dot, run: &Run) -> Result<(), Memory>
+        requires { IsFresh self.old.machine.doc dot }
+        ensures ok { OnOk result (self.new ≡ with_machine
+            (record self.old.machine { doc = insert_run slot.now dot run.now self.old.machine.doc }) self.old) }
+        ensures err { OnErr result (self.new ≡ self.old) }
+    {
+        self.doc.insert_run(*slot, dot, *run).map_err(memory)
+    }
+
     // Notes an operation that is made or taken: all that it does but to the document and to the ballots.
     pub(crate) fn note(&mut self, op: &Op, origin: Origin)
         requires next { IsNext self.old.machine.have op.now }
@@ -169,6 +190,23 @@ impl<D: Doc> State<D> {
         end_hold(&mut self.holds, &self.past, op);
         self.have.bump(op.dot().site);
         log(&mut self.past, op, origin);
+    }
+
+    // Notes an insertion that is made here, by its parts, in the same way.
+    pub(crate) fn note_insertion(&mut self, slot: &Slot, dot: Dot, run: &Run)
+        requires next { IsNext self.old.machine.have (inserting dot self.old.machine.have slot.now run.now) }
+        requires named { IfSome (slot_site slot.now) (λ site. site ≤ self.old.machine.size) }
+        requires own { dot.site ≡ self.old.machine.site }
+        requires things { 1 ≤ self.old.room.things }
+        requires site { self.old.room.site ≡ dot.site }
+        ensures machine { self.new.machine
+            ≡ with_note Here (inserting dot self.old.machine.have slot.now run.now) self.old.machine }
+        ensures entries { self.new.entries ≡ self.old.entries }
+        ensures ops { self.new.ops ≡ self.old.ops ++ inserting dot self.old.machine.have slot.now run.now ∷ [] }
+        ensures things { self.new.room.things + 1 ≡ self.old.room.things }
+    {
+        self.past.make_insertion(dot, &self.have, slot, run);
+        self.have.bump(dot.site);
     }
 
     // Flattens the slot of the document.
