@@ -88,22 +88,22 @@ fn next_call<R: Wait>(rt: &R, asks: &mut Rx<Ask>) -> Option<u32> {
 // One call, from its request to a look, of an editor that may make no more.
 fn call_once<R: Wait + Abort>(
     rt: &R,
-    alloc: Global,
     writer: &mut Writer,
-    reader: Reader,
+    asks: &mut Rx<Ask>,
+    answers: &mut Tx<Report>,
+    editor: &mut Editor,
 ) -> Result<(), Fail>
-    requires views { reader.views ≡ writer.old.views }
+    requires mark { answers.old.mark ≡ Some writer.old.views }
     requires start { (writer.old.owed ≡ None) × (writer.old.shown.upto ≡ 0) }
 {
-    let (mut asks, mut answers, mut editor) = editor_of(alloc, reader, 1)?;
     assert_eq!(rt; editor.poll(rt), None);
     assert_eq!(rt; editor.submit(rt, ASKED), Ok(1));
     assert_eq!(rt; editor.submit(rt, ASKED), Err(NotSent::Busy { pending: 1 }));
-    assert_eq!(rt; next_call(rt, &mut asks), Some(1));
+    assert_eq!(rt; next_call(rt, asks), Some(1));
     if !publish(rt, writer, 7) {
         return Err("memory".into());
     }
-    assert!(rt; answer(rt, writer, &mut answers, 1, 7));
+    assert!(rt; answer(rt, writer, answers, 1, 7));
     assert_eq!(rt;
         editor.poll(rt),
         Some(Answer {
@@ -121,7 +121,12 @@ fn call_once<R: Wait + Abort>(
 #[test]
 fn a_call_is_answered_and_what_it_did_is_looked_at(rt: HostRuntime) -> Result<(), Fail> {
     let (mut writer, reader) = opened(&rt, rt.alloc())?;
-    let called = call_once(&rt, rt.alloc(), &mut writer, reader);
+    let called = match editor_of(rt.alloc(), reader, 1) {
+        Ok((mut asks, mut answers, mut editor)) => {
+            call_once(&rt, &mut writer, &mut asks, &mut answers, &mut editor)
+        }
+        Err(fail) => Err(fail),
+    };
     writer.quit(&rt);
     called
 }
@@ -129,17 +134,16 @@ fn a_call_is_answered_and_what_it_did_is_looked_at(rt: HostRuntime) -> Result<()
 // Two calls that are answered though nobody took their requests, and so a third that finds no place.
 fn call_thrice<R: Wait + Abort>(
     rt: &R,
-    alloc: Global,
     writer: &Writer,
-    reader: Reader,
+    answers: &mut Tx<Report>,
+    editor: &mut Editor,
 ) -> Result<(), Fail>
-    requires views { reader.views ≡ writer.now.views }
+    requires { answers.old.mark ≡ Some writer.now.views }
 {
-    let (_asks, mut answers, mut editor) = editor_of(alloc, reader, 3)?;
     assert_eq!(rt; editor.submit(rt, ASKED), Ok(1));
-    assert!(rt; answer(rt, writer, &mut answers, 1, 0) && editor.poll(rt).is_some());
+    assert!(rt; answer(rt, writer, answers, 1, 0) && editor.poll(rt).is_some());
     assert_eq!(rt; editor.submit(rt, ASKED), Ok(2));
-    assert!(rt; answer(rt, writer, &mut answers, 2, 0) && editor.poll(rt).is_some());
+    assert!(rt; answer(rt, writer, answers, 2, 0) && editor.poll(rt).is_some());
     assert_eq!(rt; editor.submit(rt, ASKED), Err(NotSent::Full));
     Ok(())
 }
@@ -147,7 +151,12 @@ fn call_thrice<R: Wait + Abort>(
 #[test]
 fn a_queue_of_two_places_takes_no_third_request(rt: HostRuntime) -> Result<(), Fail> {
     let (writer, reader) = opened(&rt, rt.alloc())?;
-    let called = call_thrice(&rt, rt.alloc(), &writer, reader);
+    let called = match editor_of(rt.alloc(), reader, 3) {
+        Ok((_asks, mut answers, mut editor)) => {
+            call_thrice(&rt, &writer, &mut answers, &mut editor)
+        }
+        Err(fail) => Err(fail),
+    };
     writer.quit(&rt);
     called
 }

@@ -201,68 +201,90 @@ fn answers() -> Result<[Answer; 4], Fail> {
     ])
 }
 
+// Each call by itself, after a turn with nothing to do.
+fn in_turn<R: Wait + Abort>(
+    rt: &R,
+    ends: &mut Ends,
+    requests: &[Request; 4],
+    answers: &[Answer; 4],
+) {
+    let gate = Counts::new();
+    ends.turn(rt, &gate);
+    assert_eq!(rt; (ends.poll(rt), gate.so_far()), (None, (0, 0)));
+    for (request, answer) in requests.iter().zip(answers) {
+        ends.ask(rt, *request);
+        ends.turn(rt, &gate);
+        assert_eq!(rt; ends.poll(rt), Some(*answer));
+        assert_eq!(rt; ends.upto(), Some(answer.entry));
+        assert_eq!(rt; gate.so_far(), (answer.entry, answer.entry));
+    }
+}
+
 #[test]
 fn each_request_is_one_entry_is_shown_and_answered(rt: HostRuntime) -> Result<(), Fail> {
     let requests = requests()?;
     let answers = answers()?;
-    let gate = Counts::new();
     let mut ends = open(&rt, rt.alloc(), 4)?;
-    ends.turn(&rt, &gate);
-    assert_eq!(rt; (ends.poll(&rt), gate.so_far()), (None, (0, 0)));
-    for (request, answer) in requests.iter().zip(&answers) {
-        ends.ask(&rt, *request);
-        ends.turn(&rt, &gate);
-        assert_eq!(rt; ends.poll(&rt), Some(*answer));
-        assert_eq!(rt; ends.upto(), Some(answer.entry));
-        assert_eq!(rt; gate.so_far(), (answer.entry, answer.entry));
-    }
+    in_turn(&rt, &mut ends, &requests, &answers);
     assert_eq!(rt; ends.end(&rt, rt.alloc())?.len(), 4);
     Ok(())
 }
 
-#[test]
-fn no_request_is_taken_while_an_answer_is_owed(rt: HostRuntime) -> Result<(), Fail> {
-    let [first, second, third, fourth] = requests()?;
-    let answers = answers()?;
+// Two calls are asked for at once, and two more while the first has no answer polled.
+fn owed<R: Wait + Abort>(rt: &R, ends: &mut Ends, requests: &[Request; 4], answers: &[Answer; 4]) {
+    let [first, second, third, fourth] = *requests;
     let gate = Counts::new();
-    let mut ends = open(&rt, rt.alloc(), 4)?;
-    ends.ask(&rt, first);
-    ends.ask(&rt, second);
-    ends.turn(&rt, &gate);
-    ends.turn(&rt, &gate);
+    ends.ask(rt, first);
+    ends.ask(rt, second);
+    ends.turn(rt, &gate);
+    ends.turn(rt, &gate);
     assert_eq!(rt; gate.so_far(), (2, 2));
-    ends.ask(&rt, third);
-    ends.ask(&rt, fourth);
-    ends.turn(&rt, &gate);
-    ends.turn(&rt, &gate);
+    ends.ask(rt, third);
+    ends.ask(rt, fourth);
+    ends.turn(rt, &gate);
+    ends.turn(rt, &gate);
     assert_eq!(rt; gate.so_far(), (3, 2));
-    assert_eq!(rt; ends.poll(&rt), Some(answers[0]));
-    ends.turn(&rt, &gate);
+    assert_eq!(rt; ends.poll(rt), Some(answers[0]));
+    ends.turn(rt, &gate);
     assert_eq!(rt; gate.so_far(), (4, 3));
     assert_eq!(rt;
-        (ends.poll(&rt), ends.poll(&rt)),
+        (ends.poll(rt), ends.poll(rt)),
         (Some(answers[1]), Some(answers[2]))
     );
-    ends.turn(&rt, &gate);
-    assert_eq!(rt; (ends.poll(&rt), ends.upto()), (Some(answers[3]), Some(4)));
+    ends.turn(rt, &gate);
+    assert_eq!(rt; (ends.poll(rt), ends.upto()), (Some(answers[3]), Some(4)));
+}
+
+#[test]
+fn no_request_is_taken_while_an_answer_is_owed(rt: HostRuntime) -> Result<(), Fail> {
+    let requests = requests()?;
+    let answers = answers()?;
+    let mut ends = open(&rt, rt.alloc(), 4)?;
+    owed(&rt, &mut ends, &requests, &answers);
     assert_eq!(rt; ends.end(&rt, rt.alloc())?.as_slice(), answers.as_slice());
     Ok(())
 }
 
+// Three calls are done, of which two are answered, and a fourth is asked for.
+fn left_open<R: Wait + Abort>(rt: &R, ends: &mut Ends, requests: &[Request; 4]) {
+    let [first, second, third, fourth] = *requests;
+    let gate = Counts::new();
+    ends.ask(rt, first);
+    ends.ask(rt, second);
+    ends.turn(rt, &gate);
+    ends.turn(rt, &gate);
+    ends.ask(rt, third);
+    ends.turn(rt, &gate);
+    ends.ask(rt, fourth);
+    assert_eq!(rt; gate.so_far(), (3, 2));
+}
+
 #[test]
 fn the_end_does_what_was_asked_and_keeps_all_answers(rt: HostRuntime) -> Result<(), Fail> {
-    let [first, second, third, fourth] = requests()?;
+    let requests = requests()?;
     let answers = answers()?;
-    let gate = Counts::new();
     let mut ends = open(&rt, rt.alloc(), 4)?;
-    ends.ask(&rt, first);
-    ends.ask(&rt, second);
-    ends.turn(&rt, &gate);
-    ends.turn(&rt, &gate);
-    ends.ask(&rt, third);
-    ends.turn(&rt, &gate);
-    ends.ask(&rt, fourth);
-    assert_eq!(rt; gate.so_far(), (3, 2));
+    left_open(&rt, &mut ends, &requests);
     assert_eq!(rt; ends.end(&rt, rt.alloc())?.as_slice(), answers.as_slice());
     Ok(())
 }
