@@ -3,10 +3,7 @@ use Rattle.std.specs.Prelude.{◌-◌, ℕ, List, [], ◌∷◌, length, map, re
 use Rattle.td_base.specs.Value.{DotValue, AtomIdValue}
 use Rattle.td_op.specs.declared.request.Request.{Request}
 use Rattle.td_op.specs.declared.request.Request.TheVariants.{Insert, InsertAfter, Paste, PasteAfter, Delete}
-use Rattle.td_op.specs.declared.request.Request.TheVariants.{Propose, ProposeAt, Cancel}
-use Rattle.td_path.specs.declared.slot.Slot.TheVariants.{Root as RootSlot}
-use Rattle.td_script.specs.declared.command.Place.{Place}
-use Rattle.td_script.specs.declared.command.Place.TheVariants.{Root, Beside}
+use Rattle.td_op.specs.declared.request.Request.TheVariants.{Cancel}
 use Rattle.td_script.specs.declared.live.editor_line.EditorLine.{EditorLine}
 use Rattle.td_script.specs.declared.live.editor_line.EditorLine.TheVariants as Line
 use Rattle.td_text.specs.Runs.{runs_of}
@@ -37,10 +34,6 @@ paste_on before (run ∷ runs) = PasteOn before run ∷ paste_on run runs
 abbrev pub pasted : ℕ → List (List (List ℕ)) → List Ask
 pasted index [] = []
 pasted index (run ∷ runs) = Plain (Paste index run) ∷ paste_on run runs
-
-abbrev pub proposal : Place → Request
-proposal Root = Propose RootSlot
-proposal (Beside index bit) = ProposeAt index bit
 
 -- the calls that a line asks for, as long as each makes an operation
 abbrev pub asks_of : EditorLine → List Ask

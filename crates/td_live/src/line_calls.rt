@@ -8,10 +8,10 @@ ghost use Rattle.td_live.specs.Asking.{asks_of, pasted, typed};
 ghost use Rattle.td_live.specs.LineCalls.{asks_behind};
 
 use crate::ask::Ask;
-use crate::proposing::proposal;
 use std::marker::Model;
 use td_base::Run;
 use td_op::Request;
+use td_report::proposal;
 use td_script::EditorLine;
 use td_text::OwnedAtoms;
 

@@ -1,12 +1,15 @@
-//! The lines that a script of `play` prints, the summary of a generated script, and the trace of a live run, as bytes.
+//! What commands ask for, and the lines that a script of `play` prints, the summary of a generated script, and the trace
+//! of a live run, as bytes.
 //!
 //! Each call answers the lines of its values, each ended by LF, or want of memory. Begin at `specs/Replies.antt` and
 //! `specs/Tree.antt`, which have one definition for each kind of line, over the values that a machine has: replies,
 //! messages, rows; `specs/Marks.antt` has those of marks, and `specs/Kept.antt` those of crashes and full disks.
+//! `specs/Asking.antt` has the requests of a command.
 //! `specs/TraceLines.antt` has what a line of a trace says and how it is written, apart from any replica, and
 //! `specs/Trace.antt` the whole trace. Numbers, dots and texts are written as `td_script` reads them.
 #![tactic(auto)]
 
+mod asking;
 mod count;
 mod edits;
 mod entry;
@@ -22,6 +25,7 @@ mod summary;
 mod trace;
 mod tree;
 
+pub use asking::{Outcome, is_made, proposal};
 pub use count::count_line;
 pub use edits::{del_line, ins_line, paste_line};
 pub use entry::entry_line;

@@ -40,7 +40,8 @@ use Rattle.td_world.specs.World.{IsWorld, WorldValue, machine_of, moved, reply_t
 use Rattle.td_world.specs.Calls.{ask}
 use Rattle.td_world.proofs.Kept.{reached_in}
 use Rattle.td_world.proofs.Moves.{moved_here, size_moved, world_moved}
-use Rattle.td_run.specs.Asking.{Asked, ask_all, deletes, done_before, goes_on, inserts, is_made, pastes}
+use Rattle.td_report.specs.Asking.{deletes, inserts, is_made, pastes}
+use Rattle.td_run.specs.Asking.{Asked, ask_all, done_before, goes_on}
 use Rattle.td_text.specs.Runs.{runs_of}
 use Rattle.td_run.specs.Typing.{IsCut, IsTyped, shown_at}
 use Rattle.td_run.proofs.NextEdits.{made_on}

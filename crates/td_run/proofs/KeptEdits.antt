@@ -4,7 +4,7 @@ use Rattle.std.proofs.Common.{ap, ◌∙◌, arith}
 use Rattle.td_op.specs.declared.request.Request.TheVariants.{Delete}
 use Rattle.td_world.specs.World.{WorldValue}
 use Rattle.td_run.specs.declared.kept.outcome.Refusal.{Refusal}
-use Rattle.td_run.specs.Asking.{deletes}
+use Rattle.td_report.specs.Asking.{deletes}
 use Rattle.td_run.specs.KeptAsking.{KeptAsked, ask_kept, asked_once, done_before_kept, goes_on_kept}
 
 -- edits that were done before others

@@ -13,10 +13,11 @@ use Rattle.td_report.specs.Given.{give_line}
 use Rattle.td_report.specs.Kept.{give_full_line}
 use Rattle.td_run.specs.declared.kept.outcome.Refusal.{Refusal}
 use Rattle.td_run.specs.declared.kept.outcome.Refusal.TheVariants.{Full}
-use Rattle.td_run.specs.Asking.{Edit, deletes, inserts}
+use Rattle.td_report.specs.Asking.{Edit, deletes, inserts}
 use Rattle.td_run.specs.KeptAsking.{KeptAnswer, KeptAsked, ask_kept, asked_once, goes_on_kept, refused_or_done}
 use Rattle.td_run.specs.KeptPrinting.{if_room, kept_effect}
-use Rattle.td_run.specs.Printing.{Effect, Shown, line_and_events, only_line, proposal}
+use Rattle.td_report.specs.Asking.{proposal}
+use Rattle.td_run.specs.Printing.{Effect, Shown, line_and_events, only_line}
 
 asked : (site : ℕ) (request : Request) (w : WorldValue) → size (asked_once site request w).world ≡ size w
 asked site request w = at (has_room (ask site request) w)

@@ -5,7 +5,8 @@ use Rattle.td_op.specs.declared.reply.Reply.{Reply}
 use Rattle.td_op.specs.declared.request.Request.TheVariants.{Delete, Paste}
 use Rattle.td_world.specs.World.{WorldValue, reply_to, moved}
 use Rattle.td_world.specs.Calls.{ask}
-use Rattle.td_run.specs.Asking.{Asked, ask_all, deletes, done_before, goes_on, is_made, pastes}
+use Rattle.td_report.specs.Asking.{deletes, is_made, pastes}
+use Rattle.td_run.specs.Asking.{Asked, ask_all, done_before, goes_on}
 
 -- edits that were done before others
 pub done_twice : (k n : ℕ) (a : Asked) → done_before k (done_before n a) ≡ done_before (k + n) a

@@ -44,11 +44,13 @@ use Rattle.td_world.proofs.Kept.{kth_in}
 use Rattle.td_world.proofs.Moves.{size_after, size_moved, still_sent, world_moved}
 use Rattle.td_world.proofs.Promised.{promised, shown}
 use Rattle.td_world.proofs.Replicas.{new_length}
-use Rattle.td_run.specs.Asking.{Asked, Edit, ask_all, deletes, done_before, goes_on, inserts, is_made, pastes}
+use Rattle.td_report.specs.Asking.{Edit, deletes, inserts, is_made, pastes}
+use Rattle.td_run.specs.Asking.{Asked, ask_all, done_before, goes_on}
 use Rattle.td_run.specs.Outputs.{IsOutputOf}
 use Rattle.td_run.specs.Marking.{Marking, mark, marked_lines, meet}
 use Rattle.td_run.specs.Printing.{Printed, Effect, Prints, PrintsAll, Shown, and_marked, and_then, behind, cancel, del}
-use Rattle.td_run.specs.Printing.{events, flat, flat_slot, give, give_each, ins, own_text, paste, proposal, start_of}
+use Rattle.td_report.specs.Asking.{proposal}
+use Rattle.td_run.specs.Printing.{events, flat, flat_slot, give, give_each, ins, own_text, paste, start_of}
 use Rattle.td_run.specs.Printing.{taken_text, with_line, with_text}
 use Rattle.td_run.proofs.EditsShown.{asked_within, asked_world}
 use Rattle.td_run.proofs.IdleSlots.{best_is_slot}

@@ -25,7 +25,8 @@ use Rattle.td_machine.specs.Taking.{Stepped, stepped}
 use Rattle.td_report.specs.Replies.{body_event, event_line}
 use Rattle.td_world.specs.World.{WorldValue, machine_of, moved, reply_to, sent_by}
 use Rattle.td_world.specs.Calls.{ask}
-use Rattle.td_run.specs.Asking.{Asked, Edit, ask_all, deletes, done_before, inserts, is_made, pastes}
+use Rattle.td_report.specs.Asking.{Edit, deletes, inserts, is_made, pastes}
+use Rattle.td_run.specs.Asking.{Asked, ask_all, done_before}
 use Rattle.td_run.specs.Printing.{Printed, and_then, events, line_and_events, with_line, with_world}
 use Rattle.td_text.specs.Runs.{runs_of}
 

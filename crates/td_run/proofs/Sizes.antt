@@ -14,8 +14,10 @@ use Rattle.td_op.specs.declared.request.Request.TheVariants.{Cancel as GiveUp, P
 use Rattle.td_world.specs.World.{WorldValue, machine_of, moved, moved_all, reply_to, size}
 use Rattle.td_world.specs.Calls.{ask, numbered_moves, passes, wanted_moves}
 use Rattle.td_world.proofs.Moves.{size_after}
-use Rattle.td_run.specs.Asking.{Asked, Edit, ask_all, deletes, done_before, goes_on, inserts, is_made, pastes}
-use Rattle.td_run.specs.Printing.{Printed, Prints, Shown, flat_slot, give_each, proposal}
+use Rattle.td_report.specs.Asking.{Edit, deletes, inserts, is_made, pastes}
+use Rattle.td_run.specs.Asking.{Asked, ask_all, done_before, goes_on}
+use Rattle.td_report.specs.Asking.{proposal}
+use Rattle.td_run.specs.Printing.{Printed, Prints, Shown, flat_slot, give_each}
 use Rattle.td_text.specs.Runs.{runs_of}
 
 one_move : (site : ℕ) (w : WorldValue) (edit : Edit) → size (moved (ask site edit.request) w) ≡ size w

@@ -9,7 +9,7 @@ use Rattle.td_kept.specs.KeptWorld.{has_room, journal_len}
 use Rattle.td_run.specs.declared.kept.outcome.KeptOutcome.{KeptOutcome}
 use Rattle.td_run.specs.declared.kept.outcome.Refusal.{Refusal}
 use Rattle.td_run.specs.declared.kept.outcome.Refusal.TheVariants.{Refused, Full}
-use Rattle.td_run.specs.Asking.{Edit, is_made}
+use Rattle.td_report.specs.Asking.{Edit, is_made}
 
 -- what came of a request: the world behind it, and why it was not done
 pub record KeptAnswer : Type 0 where

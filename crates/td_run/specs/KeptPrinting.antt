@@ -20,9 +20,10 @@ use Rattle.td_world.specs.Promises.{IsPromised}
 use Rattle.td_kept.specs.KeptWorld.{all_fit, crashed, fitting, has_room, journal_len}
 use Rattle.td_run.specs.declared.kept.outcome.Refusal.{Refusal}
 use Rattle.td_run.specs.declared.kept.outcome.Refusal.TheVariants.{Refused, Full}
-use Rattle.td_run.specs.Asking.{deletes, inserts}
+use Rattle.td_report.specs.Asking.{deletes, inserts}
 use Rattle.td_run.specs.KeptAsking.{ask_kept}
-use Rattle.td_run.specs.Printing.{Effect, Shown, in_turn, line_and_events, only_line, own_text, proposal, taken_text}
+use Rattle.td_report.specs.Asking.{proposal}
+use Rattle.td_run.specs.Printing.{Effect, Shown, in_turn, line_and_events, only_line, own_text, taken_text}
 
 -- ---- lines, by why not all was done
 

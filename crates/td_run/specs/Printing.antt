@@ -5,18 +5,16 @@ use Rattle.td_base.specs.Value.{DotValue}
 use Rattle.td_doc.specs.Document.{text_of}
 use Rattle.td_op.specs.declared.message.Message.{Message}
 use Rattle.td_op.specs.declared.request.Request.{Request}
-use Rattle.td_op.specs.declared.request.Request.TheVariants.{Propose, ProposeAt, Cancel as GiveUp}
+use Rattle.td_op.specs.declared.request.Request.TheVariants.{Propose, Cancel as GiveUp}
 use Rattle.td_order.specs.Show.{show}
 use Rattle.td_idle.specs.Best.{best_slot}
 use Rattle.td_marks.specs.Marks.{MarksValue}
 use Rattle.td_path.specs.declared.slot.Slot.{Slot}
-use Rattle.td_path.specs.declared.slot.Slot.TheVariants.{Root as RootSlot}
 use Rattle.td_script.specs.declared.command.Command.{Command}
 use Rattle.td_script.specs.declared.command.Command.TheVariants.{Sites, Ins, Paste, Del, Flat, FlatAuto, Cancel}
 use Rattle.td_script.specs.declared.command.Command.TheVariants.{Give, GiveAll, Settle, Show, Tree, Count}
 use Rattle.td_script.specs.declared.command.Command.TheVariants.{Mark, Meet, Marks}
 use Rattle.td_script.specs.declared.command.Place.{Place}
-use Rattle.td_script.specs.declared.command.Place.TheVariants.{Root, Beside}
 use Rattle.td_script.specs.declared.script.Script.{Script}
 use Rattle.td_base.specs.Lists.{kth}
 use Rattle.td_report.specs.Replies.{ins_line, paste_line, del_line, flat_line, flat_none_line}
@@ -26,7 +24,8 @@ use Rattle.td_report.specs.Tree.{show_line, tree_lines}
 use Rattle.td_report.specs.Numbers.{count_line}
 use Rattle.td_world.specs.World.{WorldValue, machine_of, moved, moved_all, new_world, reply_to}
 use Rattle.td_world.specs.Calls.{ask, is_wanted, numbered_given, numbered_moves, took, wanted_moves, IsSettled}
-use Rattle.td_run.specs.Asking.{ask_all, inserts, pastes, deletes}
+use Rattle.td_report.specs.Asking.{inserts, pastes, deletes}
+use Rattle.td_run.specs.Asking.{ask_all}
 use Rattle.td_run.specs.Marking.{Marking, mark, marked_lines, meet, new_marks}
 use Rattle.td_text.specs.Runs.{runs_of}
 
@@ -103,10 +102,6 @@ abbrev pub del : ℕ → ℕ → ℕ → WorldValue → Effect
 del site index count w =
     let asked = ask_all site (deletes index count) w in
     line_and_events w asked.world (del_line site asked.done count asked.refused)
-
-abbrev pub proposal : Place → Request
-proposal Root = Propose RootSlot
-proposal (Beside index bit) = ProposeAt index bit
 
 abbrev pub proposed_by : ℕ → Request → WorldValue → Effect
 proposed_by site request w =

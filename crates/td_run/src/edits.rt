@@ -2,17 +2,17 @@
 // them are no votes and no decisions, so no event follows their line.
 ghost use Rattle.std.specs.Prelude.{◌≡◌, ◌<◌, ◌≤◌, ◌+◌, ◌^◌, All, length, IfOk, OnOk};
 ghost use Rattle.td_base.specs.Atom.{IsAtom};
-ghost use Rattle.td_run.specs.Asking.{ask_all, asked, deletes, inserts, pastes};
+ghost use Rattle.td_report.specs.Asking.{deletes, inserts, pastes};
+ghost use Rattle.td_run.specs.Asking.{ask_all, asked};
 ghost use Rattle.td_run.specs.Printing.{and_then, del, ins, paste};
 ghost use Rattle.td_text.specs.Runs.{runs_of};
 ghost use Rattle.td_world.specs.World.{size};
 
-use crate::outcome::{Outcome, is_made};
 use crate::player::Player;
 use td_base::{Memory, Site};
 use td_doc::Doc;
 use td_op::Request;
-use td_report::{del_line, ins_line, paste_line};
+use td_report::{Outcome, del_line, ins_line, is_made, paste_line};
 use td_text::{AtomList, runs_of};
 use td_world::World;
 

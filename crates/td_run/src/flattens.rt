@@ -1,6 +1,7 @@
 // The commands `flat` and `cancel`.
 ghost use Rattle.std.specs.Prelude.{◌≡◌, ◌≤◌, OnOk};
-ghost use Rattle.td_run.specs.Printing.{and_then, cancel, flat, flat_auto, proposal, proposed_by};
+ghost use Rattle.td_report.specs.Asking.{proposal};
+ghost use Rattle.td_run.specs.Printing.{and_then, cancel, flat, flat_auto, proposed_by};
 ghost use Rattle.td_world.specs.World.{size};
 
 use crate::player::Player;
@@ -8,8 +9,7 @@ use td_base::{Dot, Memory, Site};
 use td_doc::Doc;
 use td_idle::best;
 use td_op::Request;
-use td_path::Slot;
-use td_report::{cancel_line, flat_line, flat_none_line};
+use td_report::{cancel_line, flat_line, flat_none_line, proposal};
 use td_script::Place;
 
 impl<D: Doc> Player<D> {
@@ -54,14 +54,5 @@ impl<D: Doc> Player<D> {
         let line = cancel_line(self.alloc, site, proposal, reply)?;
         self.print(&line)?;
         self.print_events(before)
-    }
-}
-
-pub(crate) fn proposal(place: Place) -> Request
-    ensures { result ≡ proposal place }
-{
-    match place {
-        Place::Root => Request::Propose { slot: Slot::Root },
-        Place::Beside { index, bit } => Request::ProposeAt { index, bit },
     }
 }

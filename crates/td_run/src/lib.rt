@@ -19,7 +19,6 @@ mod kept;
 mod laws;
 mod limits;
 mod marking;
-mod outcome;
 mod play;
 mod player;
 mod program;

@@ -2,7 +2,8 @@
 ghost use Rattle.std.specs.Prelude.{◌<◌, ◌≤◌, ℕ, List, All};
 ghost use Rattle.td_base.specs.Atom.{IsAtom};
 ghost use Rattle.td_world.specs.World.{WorldValue, IsWorld, size};
-ghost use Rattle.td_run.specs.Asking.{ask_all, deletes, inserts, pastes};
+ghost use Rattle.td_report.specs.Asking.{deletes, inserts, pastes};
+ghost use Rattle.td_run.specs.Asking.{ask_all};
 ghost use Rattle.td_text.specs.Runs.{runs_of};
 ghost use Rattle.td_run.specs.Typing.{IsCut, IsTyped};
 

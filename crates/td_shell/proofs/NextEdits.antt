@@ -4,7 +4,8 @@ use Rattle.std.proofs.Common.{Some, ap, sym, ◌∙◌, arith, if◌then◌else�
 use Rattle.td_op.specs.declared.reply.Reply.{Reply}
 use Rattle.td_op.specs.declared.request.Request.TheVariants.{Delete, Paste}
 use Rattle.td_replica.specs.Replica.{ReplicaValue}
-use Rattle.td_shell.specs.Asking.{Edited, after_request, ask_all, deletes, done_before, goes_on, is_made, pastes}
+use Rattle.td_report.specs.Asking.{deletes, is_made, pastes}
+use Rattle.td_shell.specs.Asking.{Edited, after_request, ask_all, done_before, goes_on}
 use Rattle.td_shell.specs.Asking.{reply_to}
 
 -- edits that were done before others

@@ -25,8 +25,10 @@ use Rattle.td_journal.specs.Seen.{HasWholeLength, check_behind, format_of, input
 use Rattle.td_journal.specs.Seen.{replica_of, staged_bytes}
 use Rattle.td_shell.specs.declared.halt.Halt.{Halt}
 use Rattle.td_shell.specs.declared.halt.Halt.TheVariants as Why
-use Rattle.td_shell.specs.Asking.{Edited, Edit, after_request, ask_all, deletes, done_before, inserts, is_made}
-use Rattle.td_shell.specs.Asking.{pastes, reply_to}
+use Rattle.td_report.specs.Asking.{Edit, deletes, inserts, is_made}
+use Rattle.td_shell.specs.Asking.{Edited, after_request, ask_all, done_before}
+use Rattle.td_report.specs.Asking.{pastes}
+use Rattle.td_shell.specs.Asking.{reply_to}
 use Rattle.td_shell.specs.Taking.{CaughtUp, after_take, nexts, one_more}
 use Rattle.td_shell.specs.Wanting.{HasNoRoom, IsWanting, halt_of}
 use Rattle.td_shell.proofs.Going.{went_before}

@@ -10,24 +10,22 @@ use Rattle.td_op.specs.Message.{is_for}
 use Rattle.td_op.specs.declared.input.Input.TheVariants.{Take}
 use Rattle.td_op.specs.declared.message.Message.{Message}
 use Rattle.td_op.specs.declared.request.Request.{Request}
-use Rattle.td_op.specs.declared.request.Request.TheVariants.{Propose, ProposeAt, Cancel as GiveUp}
+use Rattle.td_op.specs.declared.request.Request.TheVariants.{Propose, Cancel as GiveUp}
 use Rattle.td_machine.specs.Step.{step}
 use Rattle.td_path.specs.declared.slot.Slot.{Slot}
-use Rattle.td_path.specs.declared.slot.Slot.TheVariants.{Root as RootSlot}
 use Rattle.td_replica.specs.Replica.{ReplicaValue, knows_message}
 use Rattle.td_report.specs.Numbers.{count_line}
 use Rattle.td_report.specs.Parts.{line}
 use Rattle.td_report.specs.Replies.{ins_line, paste_line, del_line, flat_line, flat_none_line, cancel_line}
 use Rattle.td_report.specs.Tree.{show_line, tree_lines}
 use Rattle.td_script.specs.ShellFaults.{shell_judged}
-use Rattle.td_script.specs.declared.command.Place.{Place}
-use Rattle.td_script.specs.declared.command.Place.TheVariants.{Root, Beside}
 use Rattle.td_script.specs.declared.kind.Kind.{Kind}
 use Rattle.td_script.specs.declared.shell.command.ShellCommand.{ShellCommand}
 use Rattle.td_script.specs.declared.shell.command.ShellCommand.TheVariants.{Ins, Paste, Del, Flat, FlatAuto, Cancel}
 use Rattle.td_script.specs.declared.shell.command.ShellCommand.TheVariants.{Take as Receive, Send, Show, Tree, Count}
 use Rattle.td_text.specs.Runs.{runs_of}
-use Rattle.td_shell.specs.Asking.{Edited, after_request, ask_all, deletes, inserts, pastes, reply_to}
+use Rattle.td_report.specs.Asking.{deletes, inserts, pastes}
+use Rattle.td_shell.specs.Asking.{Edited, after_request, ask_all, reply_to}
 use Rattle.td_shell.specs.Sending.{cut_answer, events_behind, fault_line, sent_behind}
 use Rattle.td_shell.specs.Taking.{CaughtUp, after_take, message_of, took_part}
 
@@ -64,10 +62,6 @@ abbrev pub del : ℕ → ℕ → ReplicaValue → Effect
 del index count r =
     let a : Edited = ask_all (deletes index count) r in
     edits_effect a (del_line r.machine.site a.done count a.refused)
-
-abbrev pub proposal : Place → Request
-proposal Root = Propose RootSlot
-proposal (Beside index bit) = ProposeAt index bit
 
 abbrev pub proposed_by : Request → ReplicaValue → Effect
 proposed_by request r =

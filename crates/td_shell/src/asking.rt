@@ -3,18 +3,19 @@ ghost use Rattle.std.specs.Prelude.{◌≡◌, ◌<◌, ◌+◌, ◌^◌, All, f
 ghost use Rattle.td_base.specs.Atom.{IsAtom};
 ghost use Rattle.td_journal.specs.Seen.{is_closed, replica_of};
 ghost use Rattle.td_text.specs.Runs.{runs_of};
-ghost use Rattle.td_shell.specs.Asking.{ask_all, edited, deletes, inserts, pastes};
+ghost use Rattle.td_report.specs.Asking.{deletes, inserts, pastes};
+ghost use Rattle.td_shell.specs.Asking.{ask_all, edited};
 ghost use Rattle.td_shell.specs.Staging.{IsStaged};
 ghost use Rattle.td_shell.specs.Wanting.{IsWanting};
 
 use crate::halt::Halt;
-use crate::outcome::{Outcome, is_made};
 use crate::staging::ask;
 use td_base::Memory;
 use td_disk::Disk;
 use td_doc::Doc;
 use td_journal::Kept;
 use td_op::Request;
+use td_report::{Outcome, is_made};
 use td_text::{AtomList, runs_of};
 
 /// Inserts each atom right behind the one before.

@@ -12,7 +12,6 @@ mod asking;
 mod halt;
 mod lines;
 mod opening;
-mod outcome;
 mod replying;
 mod running;
 mod sending;

@@ -4,7 +4,8 @@ ghost use Rattle.td_base.specs.Atom.{IsAtom};
 ghost use Rattle.td_idle.specs.Best.{best_slot};
 ghost use Rattle.td_journal.specs.Seen.{is_closed, replica_of};
 ghost use Rattle.td_script.specs.ShellFaults.{IsFitToPaste};
-ghost use Rattle.td_shell.specs.Answers.{cancel, del, flat_slot, ins, paste, proposal, proposed_by, replied};
+ghost use Rattle.td_report.specs.Asking.{proposal};
+ghost use Rattle.td_shell.specs.Answers.{cancel, del, flat_slot, ins, paste, proposed_by, replied};
 ghost use Rattle.td_shell.specs.Staging.{IsStaged};
 ghost use Rattle.td_shell.specs.Wanting.{IsWanting};
 
@@ -20,11 +21,10 @@ use td_doc::Doc;
 use td_idle::best;
 use td_journal::Kept;
 use td_op::Request;
-use td_path::Slot;
 use td_report::{
-    cancel_line, count_line, del_line, flat_line, flat_none_line, ins_line, paste_line,
+    cancel_line, count_line, del_line, flat_line, flat_none_line, ins_line, paste_line, proposal,
 };
-use td_script::{Place, ShellCommand};
+use td_script::ShellCommand;
 use td_text::AtomList;
 
 /// Does the steps of a command, and answers the line of its reply.
@@ -144,15 +144,6 @@ fn propose_best<D: Doc, K: Disk>(alloc: Global, kept: &mut Kept<D, K>) -> Result
     match best(alloc, kept.replica())? {
         Some(idle) => propose(alloc, kept, Request::Propose { slot: idle.slot }),
         None => Ok(flat_none_line(alloc, kept.replica().site())?),
-    }
-}
-
-fn proposal(place: Place) -> Request
-    ensures { result ≡ proposal place }
-{
-    match place {
-        Place::Root => Request::Propose { slot: Slot::Root },
-        Place::Beside { index, bit } => Request::ProposeAt { index, bit },
     }
 }
 

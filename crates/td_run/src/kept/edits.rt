@@ -1,6 +1,6 @@
 // The commands `ins` and `del`: requests one after another, up to the first that is not done.
 ghost use Rattle.std.specs.Prelude.{◌≡◌, ◌<◌, ◌≤◌, ◌+◌, ◌^◌, length, IfOk, OnOk};
-ghost use Rattle.td_run.specs.Asking.{deletes, inserts};
+ghost use Rattle.td_report.specs.Asking.{deletes, inserts};
 ghost use Rattle.td_run.specs.KeptAsking.{ask_kept, asked_once, kept_asked};
 ghost use Rattle.td_run.specs.KeptPrinting.{kept_del, kept_del_line, kept_ins, kept_ins_line};
 ghost use Rattle.td_run.specs.Printing.{and_then};
@@ -9,14 +9,13 @@ ghost use Rattle.td_world.specs.World.{size};
 use crate::edits::behind;
 use crate::kept::outcome::{KeptOutcome, Refusal};
 use crate::kept::player::KeptPlayer;
-use crate::outcome::is_made;
 use std::alloc::Global;
 use td_base::{Bytes, Memory, Site};
 use td_doc::Doc;
 use td_journal::KeptFault;
 use td_kept::KeptWorld;
 use td_op::Request;
-use td_report::{del_full_line, del_line, ins_full_line, ins_line};
+use td_report::{del_full_line, del_line, ins_full_line, ins_line, is_made};
 use td_text::AtomList;
 
 impl<D: Doc> KeptPlayer<D> {

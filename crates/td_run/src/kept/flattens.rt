@@ -4,13 +4,12 @@ ghost use Rattle.td_run.specs.KeptPrinting.{kept_cancel, kept_flat};
 ghost use Rattle.td_run.specs.Printing.{and_then};
 ghost use Rattle.td_world.specs.World.{size};
 
-use crate::flattens::proposal;
 use crate::kept::player::KeptPlayer;
 use td_base::{Dot, Memory, Site};
 use td_doc::Doc;
 use td_journal::KeptFault;
 use td_op::Request;
-use td_report::{cancel_full_line, cancel_line, flat_full_line, flat_line};
+use td_report::{cancel_full_line, cancel_line, flat_full_line, flat_line, proposal};
 use td_script::Place;
 
 impl<D: Doc> KeptPlayer<D> {

@@ -2,7 +2,8 @@ use Rattle.std.proofs.Common.{◌≡◌, ◌+◌, ◌-◌, true, ap, ◌∙◌, 
 use Rattle.td_op.specs.declared.request.Request.TheVariants.{Delete}
 use Rattle.td_world.specs.World.{WorldValue, moved, reply_to}
 use Rattle.td_world.specs.Calls.{ask}
-use Rattle.td_run.specs.Asking.{ask_all, deletes, done_before, is_made}
+use Rattle.td_report.specs.Asking.{deletes, is_made}
+use Rattle.td_run.specs.Asking.{ask_all, done_before}
 use Rattle.td_run.proofs.NextEdits.{done_twice, made_on, next_delete}
 use Rattle.td_run.proofs.edits.delete_all.Goals as goal
 

@@ -1,6 +1,7 @@
 use Rattle.std.proofs.Common.{◌≡◌, ◌-◌}
 use Rattle.td_world.specs.World.{size}
-use Rattle.td_run.specs.Asking.{ask_all, done_before, deletes}
+use Rattle.td_report.specs.Asking.{deletes}
+use Rattle.td_run.specs.Asking.{ask_all, done_before}
 use Rattle.td_run.proofs.edits.delete_all.Given as goal
 
 abbrev pub invariant-loop-done : goal.invariant-loop-done

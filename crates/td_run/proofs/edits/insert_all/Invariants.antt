@@ -1,6 +1,7 @@
 use Rattle.std.proofs.Common.{◌≡◌, ◌+◌, length}
 use Rattle.td_world.specs.World.{size}
-use Rattle.td_run.specs.Asking.{ask_all, done_before, inserts}
+use Rattle.td_report.specs.Asking.{inserts}
+use Rattle.td_run.specs.Asking.{ask_all, done_before}
 use Rattle.td_run.proofs.edits.insert_all.Given as goal
 
 abbrev pub invariant-loop-atom : goal.invariant-loop-atom

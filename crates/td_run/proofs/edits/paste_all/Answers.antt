@@ -3,7 +3,8 @@ use Rattle.std.specs.List.{flat_map}
 use Rattle.td_op.specs.declared.request.Request.TheVariants.{Paste}
 use Rattle.td_world.specs.World.{moved, reply_to}
 use Rattle.td_world.specs.Calls.{ask}
-use Rattle.td_run.specs.Asking.{ask_all, done_before, is_made, pastes}
+use Rattle.td_report.specs.Asking.{is_made, pastes}
+use Rattle.td_run.specs.Asking.{ask_all, done_before}
 use Rattle.td_text.specs.Runs.{runs_of}
 use Rattle.td_run.proofs.NextEdits.{none_before, pasted}
 use Rattle.td_text.proofs.RunLemmas.{atoms_of_runs}

@@ -1,7 +1,8 @@
 use Rattle.std.proofs.Common.{◌≡◌, ◌+◌, List, ℕ, length}
 use Rattle.std.specs.List.{flat_map}
 use Rattle.td_world.specs.World.{size}
-use Rattle.td_run.specs.Asking.{ask_all, done_before, pastes}
+use Rattle.td_report.specs.Asking.{pastes}
+use Rattle.td_run.specs.Asking.{ask_all, done_before}
 use Rattle.td_text.specs.Runs.{runs_of}
 use Rattle.td_run.proofs.edits.paste_all.Given as goal
 

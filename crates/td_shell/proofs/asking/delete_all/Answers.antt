@@ -3,7 +3,8 @@ use Rattle.std.proofs.lemmas.Result.{err_from_is_err_and}
 use Rattle.td_journal.specs.Seen.{replica_of}
 use Rattle.td_op.specs.declared.request.Request.TheVariants.{Delete}
 use Rattle.td_replica.specs.Replica.{ReplicaValue}
-use Rattle.td_shell.specs.Asking.{after_request, ask_all, deletes, done_before, is_made, reply_to}
+use Rattle.td_report.specs.Asking.{deletes, is_made}
+use Rattle.td_shell.specs.Asking.{after_request, ask_all, done_before, reply_to}
 use Rattle.td_shell.proofs.NextEdits.{done_twice, made_on, next_delete, none_before}
 use Rattle.td_shell.proofs.Staged.{more_staged, none_staged}
 use Rattle.td_shell.proofs.Wanting.{LeadsTo, delete_leads, wanting_on}

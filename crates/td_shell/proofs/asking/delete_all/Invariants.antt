@@ -1,6 +1,7 @@
 use Rattle.std.proofs.Common.{◌≡◌, ◌-◌, false}
 use Rattle.td_journal.specs.Seen.{is_closed, replica_of}
-use Rattle.td_shell.specs.Asking.{ask_all, done_before, deletes}
+use Rattle.td_report.specs.Asking.{deletes}
+use Rattle.td_shell.specs.Asking.{ask_all, done_before}
 use Rattle.td_shell.specs.Staging.{IsStaged}
 use Rattle.td_shell.proofs.asking.delete_all.Given as goal
 

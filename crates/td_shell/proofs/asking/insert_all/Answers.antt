@@ -2,7 +2,8 @@ use Rattle.std.proofs.Common.{◌≡◌, ◌∷◌, ℕ, List}
 use Rattle.std.proofs.lemmas.Result.{err_from_is_err_and}
 use Rattle.td_journal.specs.Seen.{replica_of}
 use Rattle.td_op.specs.declared.request.Request.TheVariants.{Insert}
-use Rattle.td_shell.specs.Asking.{after_request, ask_all, inserts}
+use Rattle.td_report.specs.Asking.{inserts}
+use Rattle.td_shell.specs.Asking.{after_request, ask_all}
 use Rattle.td_shell.proofs.Wanting.{LeadsTo, insert_leads, wanting_on}
 use Rattle.td_shell.proofs.asking.insert_all.Goals as goal
 

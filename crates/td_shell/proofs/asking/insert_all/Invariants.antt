@@ -1,6 +1,7 @@
 use Rattle.std.proofs.Common.{◌≡◌, ◌+◌, false, length}
 use Rattle.td_journal.specs.Seen.{is_closed, replica_of}
-use Rattle.td_shell.specs.Asking.{ask_all, done_before, inserts}
+use Rattle.td_report.specs.Asking.{inserts}
+use Rattle.td_shell.specs.Asking.{ask_all, done_before}
 use Rattle.td_shell.specs.Staging.{IsStaged}
 use Rattle.td_shell.proofs.asking.insert_all.Given as goal
 

@@ -3,7 +3,8 @@ use Rattle.std.specs.List.{flat_map}
 use Rattle.std.proofs.lemmas.Result.{err_from_is_err_and}
 use Rattle.td_journal.specs.Seen.{replica_of}
 use Rattle.td_op.specs.declared.request.Request.TheVariants.{Paste}
-use Rattle.td_shell.specs.Asking.{after_request, ask_all, done_before, is_made, pastes, reply_to}
+use Rattle.td_report.specs.Asking.{is_made, pastes}
+use Rattle.td_shell.specs.Asking.{after_request, ask_all, done_before, reply_to}
 use Rattle.td_text.specs.Runs.{runs_of}
 use Rattle.td_shell.proofs.NextEdits.{none_before, pasted}
 use Rattle.td_shell.proofs.Staged.{more_staged, none_staged}

@@ -1,7 +1,8 @@
 use Rattle.std.proofs.Common.{◌≡◌, ◌+◌, false, List, ℕ, length}
 use Rattle.std.specs.List.{flat_map}
 use Rattle.td_journal.specs.Seen.{is_closed, replica_of}
-use Rattle.td_shell.specs.Asking.{ask_all, done_before, pastes}
+use Rattle.td_report.specs.Asking.{pastes}
+use Rattle.td_shell.specs.Asking.{ask_all, done_before}
 use Rattle.td_shell.specs.Staging.{IsStaged}
 use Rattle.td_text.specs.Runs.{runs_of}
 use Rattle.td_shell.proofs.asking.paste_all.Given as goal

@@ -1,7 +1,7 @@
 use Rattle.std.proofs.Common.{◌≡◌, ◌+◌, ◌-◌, None, ap, ◌∙◌, rules}
 use Rattle.td_op.specs.declared.request.Request.TheVariants.{Delete}
 use Rattle.td_world.specs.World.{WorldValue}
-use Rattle.td_run.specs.Asking.{deletes}
+use Rattle.td_report.specs.Asking.{deletes}
 use Rattle.td_run.specs.KeptAsking.{KeptAnswer, ask_kept, asked_once, done_before_kept}
 use Rattle.td_run.proofs.KeptEdits.{next_kept_delete, once_more}
 use Rattle.td_run.proofs.kept.edits.delete_all.Goals as goal

@@ -1,6 +1,6 @@
 use Rattle.std.proofs.Common.{◌≡◌, ◌-◌}
 use Rattle.td_world.specs.World.{size}
-use Rattle.td_run.specs.Asking.{deletes}
+use Rattle.td_report.specs.Asking.{deletes}
 use Rattle.td_run.specs.KeptAsking.{ask_kept, done_before_kept}
 use Rattle.td_run.proofs.kept.edits.delete_all.Given as goal
 

@@ -1,6 +1,7 @@
 use Rattle.std.proofs.Common.{◌≡◌, ◌∙◌}
 use Rattle.td_report.specs.Replies.{del_line}
-use Rattle.td_run.specs.Asking.{Asked, asked, ask_all, deletes}
+use Rattle.td_report.specs.Asking.{deletes}
+use Rattle.td_run.specs.Asking.{Asked, asked, ask_all}
 use Rattle.td_run.specs.Printing.{Printed, with_line, with_world}
 use Rattle.td_run.proofs.QuietEdits.{no_events_of_deletes, told_quietly}
 use Rattle.td_run.proofs.player.Player.delete.Goals as goal

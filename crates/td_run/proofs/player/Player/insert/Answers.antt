@@ -1,6 +1,7 @@
 use Rattle.std.proofs.Common.{◌≡◌, ◌∙◌, length}
 use Rattle.td_report.specs.Replies.{ins_line}
-use Rattle.td_run.specs.Asking.{Asked, asked, ask_all, inserts}
+use Rattle.td_report.specs.Asking.{inserts}
+use Rattle.td_run.specs.Asking.{Asked, asked, ask_all}
 use Rattle.td_run.specs.Printing.{Printed, with_line, with_world}
 use Rattle.td_run.proofs.QuietEdits.{no_events_of_inserts, told_quietly}
 use Rattle.td_run.proofs.player.Player.insert.Goals as goal

@@ -1,6 +1,7 @@
 use Rattle.std.proofs.Common.{◌≡◌, ◌∙◌, length}
 use Rattle.td_report.specs.Replies.{paste_line}
-use Rattle.td_run.specs.Asking.{Asked, asked, ask_all, pastes}
+use Rattle.td_report.specs.Asking.{pastes}
+use Rattle.td_run.specs.Asking.{Asked, asked, ask_all}
 use Rattle.td_run.specs.Printing.{Printed, with_line, with_world}
 use Rattle.td_text.specs.Runs.{runs_of}
 use Rattle.td_run.proofs.QuietEdits.{no_events_of_pastes, told_quietly}
