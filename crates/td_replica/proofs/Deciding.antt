@@ -11,6 +11,7 @@ use Rattle.std.specs.Option.{option_or}
 use Rattle.td_base.specs.Value.{DotValue}
 use Rattle.td_base.specs.declared.dot.TheConstants.{MAX_SEQ}
 use Rattle.td_base.proofs.Equals.{same_dot_refl}
+use Rattle.td_machine.specs.Hold.{release}
 use Rattle.td_base.proofs.Orders.{dot_lt_from}
 use Rattle.td_clock.specs.Vector.{vector_get, vector_has}
 use Rattle.td_path.specs.declared.slot.Slot.{Slot}
@@ -251,8 +252,22 @@ module _ (m : Machine) (b : IsBuilt Anything m.site m.size m) where
   abbrev pub before_commit : Slot → Machine
   before_commit slot =
       with_ballots (put_ballot (started m.size m.site (next_dot m)) m.ballots)
-      (hold (next_dot m) slot
-      (with_note Here (next_op m (Propose slot)) (record m { doc = flatten slot m.doc })))
+      (with_note Here (next_op m (Propose slot)) (record m { doc = flatten slot m.doc }))
+
+  -- a hold that ends with the commit need not begin
+  commit_ends : (slot : Slot) → release (next_dot m) m.holds
+      ≡ release (next_dot m) ((record { proposal = next_dot m; slot = slot }) ∷ m.holds)
+  commit_ends slot =
+      ap (λ (t : Bool). if not t then (record { proposal = next_dot m; slot = slot }) ∷ release (next_dot m) m.holds
+      else release (next_dot m) m.holds) (sym (same_dot_refl (next_dot m)))
+
+  never_held : (slot : Slot) → with_note Here (next_op (before_commit slot) (Commit (next_dot m))) (before_commit slot)
+      ≡ (λ (k : Machine). with_note Here (next_op k (Commit (next_dot m))) k)
+      (with_ballots (put_ballot (started m.size m.site (next_dot m)) m.ballots)
+      (hold (next_dot m) slot (with_note Here (next_op m (Propose slot)) (record m { doc = flatten slot m.doc }))))
+  never_held slot = λ i.
+      record (with_note Here (next_op (before_commit slot) (Commit (next_dot m))) (before_commit slot))
+      { holds = commit_ends slot i }
 
   alone_at : (slot : Slot) (o : Option Bool) → o ≡ Some true
       → (λ (k : Machine). with_note Here (next_op k (Commit (next_dot m))) k)
@@ -272,7 +287,8 @@ module _ (m : Machine) (b : IsBuilt Anything m.site m.size m) where
   pub proposed_alone : (slot : Slot) → m.size ≡ 1
       → with_note Here (next_op (before_commit slot) (Commit (next_dot m))) (before_commit slot) ≡ propose slot m
   proposed_alone slot alone =
-      ap (λ (bs : List Ballot).
+      never_held slot
+      ∙ ap (λ (bs : List Ballot).
       (λ (k : Machine). with_note Here (next_op k (Commit (next_dot m))) k)
       (with_ballots bs
       (hold (next_dot m) slot

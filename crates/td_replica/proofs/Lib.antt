@@ -9,3 +9,4 @@ pub mod Verdicts
 pub mod Waiters
 pub mod Legal
 pub mod Putting
+pub mod Kept

@@ -33,7 +33,7 @@ use Rattle.td_replica.specs.declared.state.Origin.{Origin}
 use Rattle.td_replica.specs.declared.state.Origin.TheVariants.{Here, There, Waiting as Waited}
 use Rattle.td_replica.specs.Parts.{with_note, machine_of, state_of, waiting_too, ComesFrom}
 use Rattle.td_replica.specs.Parts.{IsFromOutside, number_from, ops_with, IsState, CommitsNamed, logged}
-use Rattle.td_replica.specs.Parts.{commits_with, commits_after, commits_after_body}
+use Rattle.td_replica.specs.Parts.{commits_with, commits_after, commits_after_body, AreKept}
 
 -- the operation may be the next of its site in the log
 pub next_in : (have : List ℕ) (log : List OpValue) (x : OpValue) → have ≡ counts (length have) log
@@ -143,11 +143,12 @@ module _ (log : List OpValue) (x : OpValue) (new : IsNewIn log x) where
 
 -- ---- the state
 
-pub noted : (site : ℕ) (have : List ℕ) (waiting : Numbers) (holds holds2 : HoldsValue) (tally : TallyValue)
-    (past : Past) (origin : Origin) (x : OpValue) → IsState site have waiting holds tally past → IsNext have x
+pub noted : (site : ℕ) (rows : List DocRow) (have : List ℕ) (waiting : Numbers) (holds holds2 : HoldsValue)
+    (tally : TallyValue) (past : Past) (origin : Origin) (x : OpValue)
+    → IsState site rows have waiting holds tally past → IsNext have x
     → IfSome (decided_by x.body) (IsUndecided past.log) → holds2.commits ≡ commits_after x past.log holds.commits
-    → IsState site (vector_bump have x.dot.site) waiting holds2 tally (logged origin x past)
-noted site have waiting holds holds2 tally past origin x s next u cs = at origin
+    → AreKept rows holds2 → IsState site rows (vector_bump have x.dot.site) waiting holds2 tally (logged origin x past)
+noted site rows have waiting holds holds2 tally past origin x s next u cs kept = at origin
   where
     n : ℕ
     n = length have
@@ -163,7 +164,7 @@ noted site have waiting holds holds2 tally past origin x s next u cs = at origin
 
     -- whatever else the past is, where it has this log and these operations
     with_past : (after : Past) → after.site ≡ past.site → after.size ≡ past.size → after.log ≡ x ∷ past.log
-        → AreStored n after.ops waiting → IsState site (vector_bump have x.dot.site) waiting holds2 tally after
+        → AreStored n after.ops waiting → IsState site rows (vector_bump have x.dot.site) waiting holds2 tally after
     with_past after a b c d =
         record {
           some = s.some;
@@ -179,11 +180,12 @@ noted site have waiting holds holds2 tally past origin x s next u cs = at origin
               (subst (IsInTurn n) (sym c) (first, s.in_turn));
           commits = cs ∙ ap (commits_after x past.log) s.commits ∙ sym (commits_noted past.log x fresh s.named u)
               ∙ ap (λ (log : List OpValue). in_order (commits log)) (sym c);
+          kept = kept;
           named = subst CommitsNamed (sym c) (named_more past.log x fresh s.named u);
           stored = subst (λ (k : ℕ). AreStored k after.ops waiting) (sym long) d;
         }
 
-    at : (from : Origin) → IsState site (vector_bump have x.dot.site) waiting holds2 tally (logged from x past)
+    at : (from : Origin) → IsState site rows (vector_bump have x.dot.site) waiting holds2 tally (logged from x past)
     at Here = with_past (with_made x past) refl refl refl (stored-more n past.ops (x ∷ []) waiting s.stored)
     at There = with_past (with_taken x past) refl refl refl (stored-more n past.ops (x ∷ []) waiting s.stored)
     at (Waited number) = with_past (resumed x past) refl refl refl s.stored
@@ -209,9 +211,9 @@ found_from Here x site ops out comes = absurd out
 found_from There x site ops out comes = number_of_new ops x
 found_from (Waited number) x site ops out comes = comes
 
-module _ (site : ℕ) (have : List ℕ) (waiting : Numbers) (holds : HoldsValue) (tally : TallyValue) (past : Past)
-    (s : IsState site have waiting holds tally past) where
-  pub forgotten : (d : DotValue) → IsState site have (others_than d waiting) holds tally past
+module _ (site : ℕ) (rows : List DocRow) (have : List ℕ) (waiting : Numbers) (holds : HoldsValue)
+    (tally : TallyValue) (past : Past) (s : IsState site rows have waiting holds tally past) where
+  pub forgotten : (d : DotValue) → IsState site rows have (others_than d waiting) holds tally past
   forgotten d =
       record {
         some = s.some;
@@ -223,12 +225,13 @@ module _ (site : ℕ) (have : List ℕ) (waiting : Numbers) (holds : HoldsValue)
         counted = s.counted;
         in_turn = s.in_turn;
         commits = s.commits;
+        kept = s.kept;
         named = s.named;
         stored = All-others_than (IsStored (length have) past.ops) d waiting s.stored;
       }
 
   pub waits_too : (x : OpValue) → IsOp x → length x.deps ≡ length have
-      → IsState site have (put_in_order (x.dot, length past.ops) waiting) holds tally (kept x past)
+      → IsState site rows have (put_in_order (x.dot, length past.ops) waiting) holds tally (kept x past)
   waits_too x is sized =
       record {
         some = s.some;
@@ -240,6 +243,7 @@ module _ (site : ℕ) (have : List ℕ) (waiting : Numbers) (holds : HoldsValue)
         counted = s.counted;
         in_turn = s.in_turn;
         commits = s.commits;
+        kept = s.kept;
         named = s.named;
         stored = All-put_in_order (IsStored (length have) (past.ops ++ x ∷ [])) (x.dot, length past.ops) waiting
             (record { op = x; found = number_of_new past.ops x; dot = refl; is = is; size = sized })
@@ -261,49 +265,48 @@ module _ (site : ℕ) (have : List ℕ) (waiting : Numbers) (holds : HoldsValue)
       (stored-more (length have) past.ops (x ∷ []) waiting s.stored) (number_of_new past.ops x)
       ∙ ap (put_waiting x) (ops-more (length have) past.ops (x ∷ []) waiting s.stored)
 
-  module _ (rows : List DocRow) where
-    pub note_machine : (origin : Origin) (x : OpValue) (holds2 : HoldsValue)
-        → holds2.holds ≡ holds_after x.body holds.holds
-        → machine_of site rows (vector_bump have x.dot.site) waiting holds2 tally (logged origin x past)
-        ≡ with_note origin x (machine_of site rows have waiting holds tally past)
-    note_machine origin x holds2 held = at origin
-      where
-        long : length (vector_bump have x.dot.site) ≡ length have
-        long = length-set have (x.dot.site - 1) (vector_get have x.dot.site + 1)
+  pub note_machine : (origin : Origin) (x : OpValue) (holds2 : HoldsValue)
+      → holds2.holds ≡ holds_after x.body holds.holds
+      → machine_of site rows (vector_bump have x.dot.site) waiting holds2 tally (logged origin x past)
+      ≡ with_note origin x (machine_of site rows have waiting holds tally past)
+  note_machine origin x holds2 held = at origin
+    where
+      long : length (vector_bump have x.dot.site) ≡ length have
+      long = length-set have (x.dot.site - 1) (vector_get have x.dot.site + 1)
 
-        at : (from : Origin)
-            → machine_of site rows (vector_bump have x.dot.site) waiting holds2 tally (logged from x past)
-            ≡ with_note from x (machine_of site rows have waiting holds tally past)
-        at Here = λ i.
-            record (machine_of site rows (vector_bump have x.dot.site) waiting holds2 tally (with_made x past))
-            { size = long i; waiting = waits_on Here x i; holds = held i }
-        at There = λ i.
-            record (machine_of site rows (vector_bump have x.dot.site) waiting holds2 tally (with_taken x past))
-            { size = long i; waiting = waits_on There x i; holds = held i }
-        at (Waited number) = λ i.
-            record (machine_of site rows (vector_bump have x.dot.site) waiting holds2 tally (resumed x past))
-            { size = long i; holds = held i }
+      at : (from : Origin)
+          → machine_of site rows (vector_bump have x.dot.site) waiting holds2 tally (logged from x past)
+          ≡ with_note from x (machine_of site rows have waiting holds tally past)
+      at Here = λ i.
+          record (machine_of site rows (vector_bump have x.dot.site) waiting holds2 tally (with_made x past))
+          { size = long i; waiting = waits_on Here x i; holds = held i }
+      at There = λ i.
+          record (machine_of site rows (vector_bump have x.dot.site) waiting holds2 tally (with_taken x past))
+          { size = long i; waiting = waits_on There x i; holds = held i }
+      at (Waited number) = λ i.
+          record (machine_of site rows (vector_bump have x.dot.site) waiting holds2 tally (resumed x past))
+          { size = long i; holds = held i }
 
-    pub forget_state : (d : DotValue)
-        → state_of site rows have (others_than d waiting) holds tally past
-        ≡ record (state_of site rows have waiting holds tally past) {
-          machine = record (machine_of site rows have waiting holds tally past)
-              { waiting = without d (ops_waiting past.ops waiting) };
-          waiting = others_than d waiting;
-        }
-    forget_state d = λ i.
-        record (state_of site rows have (others_than d waiting) holds tally past) {
-          machine = record (machine_of site rows have waiting holds tally past)
-              { waiting = ops-others_than (length have) past.ops d waiting s.stored i };
-        }
+  pub forget_state : (d : DotValue)
+      → state_of site rows have (others_than d waiting) holds tally past
+      ≡ record (state_of site rows have waiting holds tally past) {
+        machine = record (machine_of site rows have waiting holds tally past)
+            { waiting = without d (ops_waiting past.ops waiting) };
+        waiting = others_than d waiting;
+      }
+  forget_state d = λ i.
+      record (state_of site rows have (others_than d waiting) holds tally past) {
+        machine = record (machine_of site rows have waiting holds tally past)
+            { waiting = ops-others_than (length have) past.ops d waiting s.stored i };
+      }
 
-    pub wait_state : (x : OpValue)
-        → state_of site rows have (put_in_order (x.dot, length past.ops) waiting) holds tally (kept x past)
-        ≡ waiting_too x (length past.ops) (state_of site rows have waiting holds tally past)
-    wait_state x = λ i.
-        record (waiting_too x (length past.ops) (state_of site rows have waiting holds tally past)) {
-          machine = record (machine_of site rows have waiting holds tally past) { waiting = waits_behind x i };
-        }
+  pub wait_state : (x : OpValue)
+      → state_of site rows have (put_in_order (x.dot, length past.ops) waiting) holds tally (kept x past)
+      ≡ waiting_too x (length past.ops) (state_of site rows have waiting holds tally past)
+  wait_state x = λ i.
+      record (waiting_too x (length past.ops) (state_of site rows have waiting holds tally past)) {
+        machine = record (machine_of site rows have waiting holds tally past) { waiting = waits_behind x i };
+      }
 
 -- ---- the document is as before
 

@@ -1,5 +1,5 @@
 -- The parts of a replica, as contracts see them: its machine, and what is kept beside it.
-use Rattle.std.specs.Prelude.{◌≡◌, ◌<◌, ◌≤◌, ◌++◌, ◌∷◌, ◌-◌, ℕ, List, [], length}
+use Rattle.std.specs.Prelude.{◌≡◌, ◌<◌, ◌≤◌, ◌++◌, ◌∷◌, ◌-◌, ℕ, List, [], length, true}
 use Rattle.std.specs.Prelude.{slice_get, Option, Some, None, IfSome, IsSome}
 use Rattle.td_base.specs.Value.{DotValue}
 use Rattle.td_base.specs.Lists.{In}
@@ -10,14 +10,18 @@ use Rattle.td_op.specs.declared.entry.Entry.{Entry}
 use Rattle.td_op.specs.declared.message.Message.TheVariants.{Op as AnOp}
 use Rattle.td_op.specs.Op.{OpValue}
 use Rattle.td_clock.specs.Vector.{vector_bump}
+use Rattle.td_doc.specs.Answers.{is_rooted}
 use Rattle.td_doc.specs.Document.{DocRow}
+use Rattle.td_doc.specs.Slots.{slot_path}
 use Rattle.td_machine.specs.Counts.{counts, IsInTurn}
+use Rattle.td_machine.specs.Hold.{Hold}
 use Rattle.td_machine.specs.Log.{Committed, commit_at, commits, committed, proposed_slot}
 use Rattle.td_machine.specs.Machine.{Machine}
 use Rattle.td_machine.specs.Making.{effect, holds_after, send}
 use Rattle.td_machine.specs.Decision.{Ballot}
 use Rattle.td_causal.specs.Waiting.{Numbers, ops_waiting, put_in_order, AreStored}
 use Rattle.td_machine.specs.Taking.{keep_waiting}
+use Rattle.td_vote.specs.ByPlace.{AreInPlace, AreHeldApart, AreSame, IsFree}
 use Rattle.td_vote.specs.Commits.{in_order, put_commit}
 use Rattle.td_vote.specs.Holds.{HoldsValue}
 use Rattle.td_coord.specs.Tally.{TallyValue}
@@ -82,8 +86,23 @@ abbrev pub CommitsNamed : List OpValue → Type 0
 CommitsNamed log =
     (x : OpValue) → (In x log) → IfSome (committed x.body) (λ p. IsSome (proposed_slot p log))
 
-pub record IsState (site : ℕ) (have : List ℕ) (waiting : Numbers) (holds : HoldsValue) (tally : TallyValue)
-    (past : Past) : Type 0 where
+-- the holds by place are those of the replica, in the order of their places
+pub record AreKept (rows : List DocRow) (holds : HoldsValue) : Type 0 where
+  pub same : AreSame holds.by_place holds.holds
+  pub order : AreInPlace rows holds.by_place
+
+-- the atoms of held slots stay where they are
+abbrev pub KeepsSlots : List DocRow → List DocRow → List Hold → Type 0
+KeepsSlots rows after holds = (h : Hold) → In h holds → slot_path after h.slot ≡ slot_path rows h.slot
+
+-- a slot that may be held: it is the root or at a row, and overlaps no other
+pub record MayHold (rows : List DocRow) (slot : Slot) (holds : List Hold) : Type 0 where
+  pub apart : AreHeldApart rows holds
+  pub rooted : is_rooted rows slot ≡ true
+  pub free : IsFree rows slot holds
+
+pub record IsState (site : ℕ) (rows : List DocRow) (have : List ℕ) (waiting : Numbers) (holds : HoldsValue)
+    (tally : TallyValue) (past : Past) : Type 0 where
   pub some : 0 < site
   pub within : site ≤ length have
   pub past_site : past.site ≡ site
@@ -95,6 +114,7 @@ pub record IsState (site : ℕ) (have : List ℕ) (waiting : Numbers) (holds : H
   pub in_turn : IsInTurn (length have) past.log
   -- the commits are those of the log
   pub commits : holds.commits ≡ in_order (commits past.log)
+  pub kept : AreKept rows holds
   pub named : CommitsNamed past.log
   -- what waits is stored by its number
   pub stored : AreStored (length have) past.ops waiting

@@ -155,8 +155,8 @@ impl<D: Doc> State<D> {
         })
     }
 
-    // At the only site its own Yes decides it at once. The document is flattened first, since that alone can still
-    // find no memory.
+    // At the only site its own Yes decides it at once, and it is never held. The document is flattened first, since
+    // that alone can still find no memory.
     fn propose_alone(&mut self, slot: &Slot) -> Result<Done, Memory>
         requires built { IsBuilt Anything self.old.machine.site self.old.machine.size self.old.machine }
         requires may { IsProposing slot.now self.old.machine }
@@ -172,7 +172,6 @@ impl<D: Doc> State<D> {
         let proposal = op.dot();
         self.flatten(slot)?;
         self.note(&op, Origin::Here);
-        self.hold(proposal, slot);
         self.open(proposal);
         let commit = self.next_op(&Body::Commit { proposal });
         self.note(&commit, Origin::Here);

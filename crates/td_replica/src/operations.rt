@@ -12,7 +12,7 @@ ghost use Rattle.td_machine.specs.Taking.{stepped, misfit, body_misfit, vote_on,
 ghost use Rattle.td_machine.specs.Parts.{Anything, IsBuilt, IsOffered, IsFit};
 ghost use Rattle.td_replica.specs.Judging.{judged};
 ghost use Rattle.td_replica.specs.declared.operations.Judged.TheVariants.{Delay};
-ghost use Rattle.td_replica.specs.Parts.{IsAsBefore, ComesFrom, IsFromOutside, number_from};
+ghost use Rattle.td_replica.specs.Parts.{IsAsBefore, ComesFrom, IsFromOutside, MayHold, number_from};
 ghost use Rattle.td_replica.specs.Steps.{IsStep};
 
 use crate::done::Done;
@@ -320,6 +320,7 @@ impl<D: Doc> State<D> {
     fn answer(&mut self, proposal: Dot, slot: &Slot, yes: bool)
         requires things { 1 ≤ self.old.room.things }
         requires hold { 1 ≤ self.old.room.holds }
+        requires may { yes ≡ true → MayHold self.old.machine.doc slot.now self.old.machine.holds }
         ensures machine { self.new.machine ≡ answer proposal slot.now yes self.old.machine }
         ensures entries { self.new.entries ≡ self.old.entries }
         ensures ops { self.new.ops ≡ self.old.ops }

@@ -154,7 +154,7 @@ impl<D: Doc> Replica<D> {
     pub fn held_over(&self, slot: Slot) -> Option<Dot>
         ensures { result ≡ held_over self.now.machine.doc slot self.now.machine.holds }
     {
-        self.state.holds.held_over(&self.state.doc, slot)
+        self.state.held_over(slot)
     }
 
     /// The text.

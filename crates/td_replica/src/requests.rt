@@ -8,7 +8,9 @@ ghost use Rattle.std.specs.Option.{ForSome};
 ghost use Rattle.td_doc.specs.Answers.{IsRow};
 ghost use Rattle.td_doc.specs.Document.{live_id_at};
 ghost use Rattle.td_doc.specs.Allocation.{anchor};
+ghost use Rattle.td_machine.specs.Hold.{held_over};
 ghost use Rattle.td_machine.specs.Machine.{made, undecided};
+ghost use Rattle.td_vote.specs.ByPlace.{AreHeldApart};
 ghost use Rattle.td_machine.specs.Request.{aim, insert_aim, insert_aim_at, insert_aim_after, delete_aim, propose_aim, propose_aim_of, live_aim, len, is_past_limit};
 ghost use Rattle.td_history.specs.Texts.{run_asked};
 ghost use Rattle.td_replica.specs.Verdict.{verdict, verdict_on, standing, put_aim};
@@ -38,7 +40,8 @@ pub enum Verdict {
 impl<D: Doc> State<D> {
     /// What the request comes to.
     pub(crate) fn verdict(&self, request: &Request) -> Verdict
-        requires { made self.now.machine + undecided self.now.machine ≤ MAX_SEQ }
+        requires held { AreHeldApart self.now.machine.doc self.now.machine.holds }
+        requires room { made self.now.machine + undecided self.now.machine ≤ MAX_SEQ }
         ensures { result ≡ verdict request.now self.now.machine }
     {
         match *request {
@@ -65,7 +68,8 @@ impl<D: Doc> State<D> {
 impl<D: Doc> State<D> {
     // A run to be put at an index.
     fn insert_at(&self, index: u32) -> Verdict
-        requires { made self.now.machine + undecided self.now.machine ≤ MAX_SEQ }
+        requires held { AreHeldApart self.now.machine.doc self.now.machine.holds }
+        requires room { made self.now.machine + undecided self.now.machine ≤ MAX_SEQ }
         ensures { (run : List (List ℕ))
             → result ≡ verdict_on (insert_aim_at run index self.now.machine) self.now.machine }
     {
@@ -80,7 +84,8 @@ impl<D: Doc> State<D> {
 
     // A run to be put right after a live atom, or at the start.
     fn insert_after(&self, after: Option<AtomId>) -> Verdict
-        requires { made self.now.machine + undecided self.now.machine ≤ MAX_SEQ }
+        requires held { AreHeldApart self.now.machine.doc self.now.machine.holds }
+        requires room { made self.now.machine + undecided self.now.machine ≤ MAX_SEQ }
         ensures { (run : List (List ℕ))
             → result ≡ verdict_on (insert_aim_after run after self.now.machine) self.now.machine }
     {
@@ -93,6 +98,7 @@ impl<D: Doc> State<D> {
     // A run to be put right after a row, or at the start.
     fn place(&self, after: Option<AtomId>) -> Verdict
         requires row { ForSome after (IsRow self.now.machine.doc) }
+        requires held { AreHeldApart self.now.machine.doc self.now.machine.holds }
         requires room { made self.now.machine + undecided self.now.machine ≤ MAX_SEQ }
         ensures { (run : List (List ℕ))
             → result ≡ verdict_on (insert_aim run after self.now.machine) self.now.machine }
@@ -102,7 +108,8 @@ impl<D: Doc> State<D> {
 
     // A run to be put in a slot.
     fn put_in(&self, slot: &Slot) -> Verdict
-        requires { made self.now.machine + undecided self.now.machine ≤ MAX_SEQ }
+        requires held { AreHeldApart self.now.machine.doc self.now.machine.holds }
+        requires room { made self.now.machine + undecided self.now.machine ≤ MAX_SEQ }
         ensures { (run : List (List ℕ))
             → result ≡ verdict_on (put_aim run slot.now self.now.machine) self.now.machine }
     {
@@ -114,7 +121,8 @@ impl<D: Doc> State<D> {
 
     // A row to be deleted.
     fn delete(&self, target: AtomId) -> Verdict
-        requires { made self.now.machine + undecided self.now.machine ≤ MAX_SEQ }
+        requires held { AreHeldApart self.now.machine.doc self.now.machine.holds }
+        requires room { made self.now.machine + undecided self.now.machine ≤ MAX_SEQ }
         ensures { result ≡ verdict_on (delete_aim target self.now.machine) self.now.machine }
     {
         match self.stands_against(self.holds.held_row(&self.doc, target), 1) {
@@ -125,7 +133,8 @@ impl<D: Doc> State<D> {
 
     // A slot to be proposed, where it is the root or its atom is a row.
     fn propose_in(&self, slot: Slot) -> Verdict
-        requires { made self.now.machine + undecided self.now.machine ≤ MAX_SEQ }
+        requires held { AreHeldApart self.now.machine.doc self.now.machine.holds }
+        requires room { made self.now.machine + undecided self.now.machine ≤ MAX_SEQ }
         ensures { result ≡ verdict_on (propose_aim_of slot self.now.machine) self.now.machine }
     {
         match slot.atom() {
@@ -135,13 +144,22 @@ impl<D: Doc> State<D> {
     }
 
     fn propose(&self, slot: &Slot) -> Verdict
-        requires { made self.now.machine + undecided self.now.machine ≤ MAX_SEQ }
+        requires held { AreHeldApart self.now.machine.doc self.now.machine.holds }
+        requires room { made self.now.machine + undecided self.now.machine ≤ MAX_SEQ }
         ensures { result ≡ verdict_on (propose_aim slot.now self.now.machine) self.now.machine }
     {
-        match self.stands_against(self.holds.held_over(&self.doc, *slot), 2) {
+        match self.stands_against(self.held_over(*slot), 2) {
             Some(reply) => Verdict::Answer(reply),
             None => Verdict::Propose(*slot),
         }
+    }
+
+    // The least proposal whose held slot overlaps the slot.
+    pub(crate) fn held_over(&self, slot: Slot) -> Option<Dot>
+        requires { AreHeldApart self.now.machine.doc self.now.machine.holds }
+        ensures { result ≡ held_over self.now.machine.doc slot self.now.machine.holds }
+    {
+        self.holds.held_over(&self.doc, slot)
     }
 
     fn cancel(&self, proposal: Dot) -> Verdict

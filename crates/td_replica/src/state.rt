@@ -4,7 +4,7 @@ ghost use Rattle.td_base.specs.declared.site.TheConstants.{MAX_SITE};
 ghost use Rattle.td_base.specs.declared.dot.TheConstants.{MAX_SEQ};
 ghost use Rattle.td_op.specs.Op.{OpValue, body_site};
 ghost use Rattle.td_doc.specs.Answers.{IsFresh, is_live_id, live_before};
-ghost use Rattle.td_doc.specs.Document.{IsDocument, live_id_at};
+ghost use Rattle.td_doc.specs.Document.{DocRow, IsDocument, live_id_at};
 ghost use Rattle.td_doc.specs.Deletion.{delete};
 ghost use Rattle.td_doc.specs.Insertion.{insert_run};
 ghost use Rattle.td_path.specs.Slot.{slot_site};
@@ -30,7 +30,9 @@ ghost use Rattle.td_doc.specs.Flatten.{flatten};
 ghost use Rattle.std.specs.Option.{ForSome};
 ghost use Rattle.td_history.specs.Past.{IsUndecided, IsNextIn, decided_by};
 ghost use Rattle.td_replica.specs.LastChange.{change_of};
-ghost use Rattle.td_replica.specs.Parts.{StateValue, IsAsBefore, HasRoomFor, ComesFrom, with_effect, with_note, with_machine, with_ballots, waiting_too, ops_with, commits_after, logged};
+ghost use Rattle.td_replica.specs.Parts.{StateValue, AreKept, KeepsSlots, MayHold, IsAsBefore, HasRoomFor, ComesFrom};
+ghost use Rattle.td_replica.specs.Parts.{with_effect, with_note, with_machine, with_ballots, waiting_too, ops_with};
+ghost use Rattle.td_replica.specs.Parts.{commits_after, logged};
 
 use crate::last_change::LastChange;
 use std::alloc::Global;
@@ -66,7 +68,7 @@ impl<D: Doc> Model for State<D> {
 
     ghost view = { λ s. state_of s.site (D.rows s.doc) s.have s.waiting s.holds s.tally s.past };
 
-    ghost invariant = { λ s. IsState s.site s.have s.waiting s.holds s.tally s.past };
+    ghost invariant = { λ s. IsState s.site (D.rows s.doc) s.have s.waiting s.holds s.tally s.past };
 }
 
 /// Whence an operation comes that is made or taken.
@@ -135,27 +137,15 @@ impl<D: Doc> State<D> {
     // Does to the document what the operation does to it, and tells what that does to the atoms shown, where the
     // operation is the one of this number then. Where it finds no memory, the document is as before.
     pub(crate) fn change_document(&mut self, op: &Op, number: u32) -> Result<LastChange, Memory>
-        requires { IsFresh self.old.machine.doc op.now.dot }
+        requires fresh { IsFresh self.old.machine.doc op.now.dot }
+        requires keeps { KeepsSlots self.old.machine.doc
+            (effect self.old.machine.log op.now.dot op.now.body self.old.machine.doc) self.old.machine.holds }
         ensures ok { OnOk result (self.new ≡ record self.old { machine = with_effect op.now self.old.machine }) }
         ensures change { IfOk result (λ last. (ops : List OpValue) → slice_get ops number ≡ Some op.now
             → change_of last ops self.new.machine.doc ≡ change_by op.now.dot op.now.body self.old.machine.doc) }
         ensures err { OnErr result (self.new ≡ self.old) }
     {
-        let dot = op.dot();
-        match op.body_ref() {
-            Body::Insert { slot, run } => {
-                self.doc.insert_run(*slot, dot, *run).map_err(memory)?;
-                Ok(LastChange::Put { number })
-            }
-            Body::Delete { target } => delete_row(&mut self.doc, *target, dot),
-            Body::Commit { proposal } => {
-                if let Some(slot) = self.past.proposed_slot(*proposal) {
-                    self.doc.flatten(slot).map_err(memory)?;
-                }
-                Ok(LastChange::Nothing)
-            }
-            Body::Propose { .. } | Body::Abort { .. } => Ok(LastChange::Nothing),
-        }
+        apply(&mut self.doc, &self.past, op, number)
     }
 
     // Puts the run in a slot of the document, as an insert with this dot does.
@@ -211,6 +201,7 @@ impl<D: Doc> State<D> {
 
     // Flattens the slot of the document.
     pub(crate) fn flatten(&mut self, slot: &Slot) -> Result<(), Memory>
+        requires { KeepsSlots self.old.machine.doc (flatten slot.now self.old.machine.doc) self.old.machine.holds }
         ensures ok { OnOk result (self.new ≡ with_machine
             (record self.old.machine { doc = flatten slot.now self.old.machine.doc }) self.old) }
         ensures err { OnErr result (self.new ≡ self.old) }
@@ -220,13 +211,14 @@ impl<D: Doc> State<D> {
 
     // Holds the slot for the proposal.
     pub(crate) fn hold(&mut self, proposal: Dot, slot: &Slot)
-        requires { 1 ≤ self.old.room.holds }
+        requires place { 1 ≤ self.old.room.holds }
+        requires may { MayHold self.old.machine.doc slot.now self.old.machine.holds }
         ensures { self.new ≡ record self.old {
           machine = hold proposal slot.now self.old.machine;
           room = record self.old.room { holds = self.new.room.holds };
         } }
     {
-        self.holds.hold(proposal, *slot).unwrap();
+        self.holds.hold(&self.doc, proposal, *slot).unwrap();
     }
 
     // Opens the ballot on an own proposal.
@@ -335,6 +327,7 @@ impl<D: Doc> State<D> {
 fn end_hold(holds: &mut Holds, past: &History, op: &Op)
     requires place { 1 ≤ holds.old.commit_places }
     ensures holds { holds.new.holds ≡ holds_after op.now.body holds.old.holds }
+    ensures kept { (rows : List DocRow) → AreKept rows holds.old → AreKept rows holds.new }
     ensures commits { holds.new.commits ≡ commits_after op.now past.now.log holds.old.commits }
     ensures hold_places { holds.old.hold_places ≤ holds.new.hold_places }
     ensures commit_places { holds.old.commit_places ≤ holds.new.commit_places + 1 }
@@ -363,6 +356,31 @@ fn log(past: &mut History, op: &Op, origin: Origin)
         Origin::Here => past.make(op),
         Origin::There => past.take(op),
         Origin::Waiting { number } => past.resume(number, op),
+    }
+}
+
+// Does to the document what the operation does to it after this past, and tells what that does to the atoms shown.
+fn apply<D: Doc>(doc: &mut D, past: &History, op: &Op, number: u32) -> Result<LastChange, Memory>
+    requires { IsFresh (D.rows doc.old) op.now.dot }
+    ensures ok { OnOk result (D.rows doc.new ≡ effect past.now.log op.now.dot op.now.body (D.rows doc.old)) }
+    ensures change { IfOk result (λ last. (ops : List OpValue) → slice_get ops number ≡ Some op.now
+        → change_of last ops (D.rows doc.new) ≡ change_by op.now.dot op.now.body (D.rows doc.old)) }
+    ensures err { OnErr result (D.rows doc.new ≡ D.rows doc.old) }
+{
+    let dot = op.dot();
+    match op.body_ref() {
+        Body::Insert { slot, run } => {
+            doc.insert_run(*slot, dot, *run).map_err(memory)?;
+            Ok(LastChange::Put { number })
+        }
+        Body::Delete { target } => delete_row(doc, *target, dot),
+        Body::Commit { proposal } => {
+            if let Some(slot) = past.proposed_slot(*proposal) {
+                doc.flatten(slot).map_err(memory)?;
+            }
+            Ok(LastChange::Nothing)
+        }
+        Body::Propose { .. } | Body::Abort { .. } => Ok(LastChange::Nothing),
     }
 }
 

@@ -3,3 +3,8 @@ pub mod Placing
 pub mod Unseen
 pub mod BySite
 pub mod Newest
+pub mod Between
+pub mod Beside
+pub mod Least
+pub mod Placed
+pub mod Sides

@@ -6,6 +6,8 @@ use Rattle.td_machine.specs.Log.{Committed}
 pub record HoldsValue : Type 0 where
   -- the newest first
   pub holds : List Hold
+  -- the same holds in the order of their places
+  pub by_place : List Hold
   -- in the order of their dots
   pub commits : List Committed
   -- how many holds, and how many commits, can be put in without memory

@@ -1,4 +1,5 @@
 pub mod Commits
 pub mod BySite
+pub mod ByPlace
 pub mod Holds
 pub mod HoldsParts

@@ -1,5 +1,5 @@
 // The holds of a replica, as a walk over them.
-ghost use Rattle.std.specs.Prelude.{◌≡◌, Bool, reverse};
+ghost use Rattle.std.specs.Prelude.{◌≡◌, Bool, true, reverse};
 ghost use Rattle.std.specs.Fn.{FnReturnsAt};
 ghost use Rattle.std.specs.List.{list_any};
 ghost use Rattle.td_path.specs.declared.slot.Slot.{Slot};
@@ -40,6 +40,13 @@ pub fn least_held<F: Fn(&Slot) -> bool>(holds: &[Held], test: F) -> Option<Dot>
         }
     }
     least
+}
+
+/// The least proposal.
+pub fn least(holds: &[Held]) -> Option<Dot>
+    ensures { result ≡ held_by (λ (s : Slot). true) (reverse holds.now) }
+{
+    least_held(holds, |_slot| true)
 }
 
 // The smaller of the dot and the least so far.

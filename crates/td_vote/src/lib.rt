@@ -7,6 +7,7 @@
 //! one.
 #![tactic(auto)]
 
+mod by_place;
 mod by_site;
 mod committed;
 mod held;

@@ -6,15 +6,21 @@ use Rattle.td_machine.specs.Shown.{change_by}
 use Rattle.td_machine.specs.Taking.{take}
 use Rattle.td_replica.specs.Parts.{StateValue, with_effect, with_note}
 use Rattle.td_replica.specs.LastChange.{change_of}
+use Rattle.td_replica.proofs.Kept.{taken_keeps}
 use Rattle.td_replica.proofs.Noting.{doc_noted, found_from}
 use Rattle.td_replica.proofs.Stepping.{change_once}
 use Rattle.td_replica.proofs.Taking.{next_taken, fresh_taken, changed_taken, take_log}
 use Rattle.td_replica.proofs.state.State.absorb_change.Goals as goal
 
-pub change_document-requires : goal.change_document-requires
-change_document-requires g c =
+pub change_document-requires-clause-fresh : goal.change_document-requires-clause-fresh
+change_document-requires-clause-fresh g c =
     rw c.in_ok-reserve.ensures.same.machine
     (fresh_taken c.args.self.now.machine c.requires.built c.args.op.now c.requires.fit)
+
+pub change_document-requires-clause-keeps : goal.change_document-requires-clause-keeps
+change_document-requires-clause-keeps g c =
+    rw c.in_ok-reserve.ensures.same.machine
+    (taken_keeps c.args.self.now.machine c.requires.built c.args.op.now c.requires.fit c.requires.change)
 
 pub note-requires-clause-next : goal.note-requires-clause-next
 note-requires-clause-next g c =

@@ -1,13 +1,15 @@
-use Rattle.std.proofs.Common.{◌≡◌, ◌≤◌, ◌+◌, Bool, refl, sym, ap, ◌∙◌, arith}
+use Rattle.std.proofs.Common.{◌≡◌, ◌≤◌, ◌+◌, Bool, true, refl, sym, ap, ◌∙◌, arith}
 use Rattle.std.proofs.lemmas.Option.{slice_get_within}
 use Rattle.td_base.specs.Value.{DotValue}
 use Rattle.td_op.specs.declared.body.Body.{Body}
 use Rattle.td_op.specs.Op.{OpValue}
 use Rattle.td_machine.specs.Machine.{Machine}
+use Rattle.td_machine.specs.Making.{holds_after}
 use Rattle.td_machine.specs.Shown.{change_by}
 use Rattle.td_machine.specs.Taking.{answer, take, vote_on}
 use Rattle.td_replica.specs.Parts.{with_note}
-use Rattle.td_replica.proofs.Noting.{found_from}
+use Rattle.td_replica.proofs.Kept.{holds_noted, vote_holds}
+use Rattle.td_replica.proofs.Noting.{doc_noted, found_from}
 use Rattle.td_replica.proofs.Stepping.{change_once}
 use Rattle.td_replica.proofs.Taking.{next_taken, proposal_taken, take_log}
 use Rattle.td_replica.proofs.state.State.absorb_proposal.Goals as goal
@@ -16,6 +18,23 @@ pub note-requires-clause-next : goal.note-requires-clause-next
 note-requires-clause-next g c =
     rw c.in_ok-reserve.ensures.same.machine
     (next_taken c.args.self.now.machine c.requires.built c.args.op.now c.requires.fit)
+
+pub answer-requires-clause-may : goal.answer-requires-clause-may
+answer-requires-clause-may g c = λ yes.
+    let m : Machine = c.args.self.now.machine in
+    let x : OpValue = c.args.op.now in
+    let same : c.reserve-2.new.self.machine ≡ m = c.in_ok-reserve.ensures.same.machine in
+    let says : vote_on x c.args.slot.now m ≡ true =
+    sym (c.vote_on-says.ensures ∙ ap (vote_on x c.args.slot.now) same) ∙ yes in
+    let doc : c.note.new.self.machine.doc ≡ m.doc =
+    ap (λ (k : Machine). k.doc) c.note.ensures.machine
+    ∙ doc_noted c.args.origin x c.reserve-2.new.self.machine ∙ ap (λ (k : Machine). k.doc) same in
+    let holds : c.note.new.self.machine.holds ≡ m.holds =
+    ap (λ (k : Machine). k.holds) c.note.ensures.machine
+    ∙ holds_noted c.args.origin x c.reserve-2.new.self.machine
+    ∙ ap (λ (body : Body). holds_after body c.reserve-2.new.self.machine.holds) c.requires.asks
+    ∙ ap (λ (k : Machine). k.holds) same in
+    rw (doc, holds) (vote_holds m c.requires.built x c.args.slot.now says)
 
 pub returns-clause-number : goal.returns-clause-number
 returns-clause-number g c =

@@ -16,6 +16,7 @@ use Rattle.td_replica.specs.Steps.{IsStep}
 use Rattle.td_replica.proofs.Deciding.{counting_open, open_room, due_named, due_fresh}
 use Rattle.td_replica.proofs.Deciding.{due_next, due_undecided, vote_decides}
 use Rattle.td_replica.proofs.Noting.{found_from}
+use Rattle.td_replica.proofs.Kept.{due_keeps}
 use Rattle.td_replica.proofs.Stepping.{change_once}
 use Rattle.td_replica.proofs.state.State.make_decision.Goals as goal
 
@@ -30,10 +31,16 @@ next_op-op-requires-clause-named g c =
     rw c.in_ok-reserve.ensures.same.machine
     (due_named c.args.self.now.machine c.requires.built c.args.vote.now c.requires.may c.args.body.now c.requires.due)
 
-pub change_document-requires : goal.change_document-requires
-change_document-requires g c =
+pub change_document-requires-clause-fresh : goal.change_document-requires-clause-fresh
+change_document-requires-clause-fresh g c =
     rw (c.next_op-op.ensures, c.in_ok-reserve.ensures.same.machine)
     (due_fresh c.args.self.now.machine c.requires.built c.args.vote.now c.requires.may)
+
+pub change_document-requires-clause-keeps : goal.change_document-requires-clause-keeps
+change_document-requires-clause-keeps g c =
+    rw (c.next_op-op.ensures, c.in_ok-reserve.ensures.same.machine)
+    (due_keeps c.args.self.now.machine c.requires.built c.args.vote.now c.requires.may
+    (next_op c.args.self.now.machine c.args.body.now).dot c.args.body.now c.requires.due)
 
 pub note-requires-clause-next : goal.note-requires-clause-next
 note-requires-clause-next g c =

@@ -30,6 +30,7 @@ log-requires-clause-next g c =
 pub invariant_of-self : goal.invariant_of-self
 invariant_of-self g c =
     let x : OpValue = c.args.op.now in
+    let rows : List DocRow = g.D.Doc.rows c.self.inside.doc in
     let have : List ℕ = c.self.inside.have in
     let next : IsNext have x =
     subst (λ (v : List ℕ). IsNext v x) (sym (ap (λ (s : StateValue). s.machine.have) c.self.view_is))
@@ -41,15 +42,16 @@ invariant_of-self g c =
     ap (λ (d : DotValue). d.site) c.bump.view_is ∙ ap (λ (d : DotValue). d.site) c.dot.ensures.dot in
     subst
     (λ (p : Past).
-    IsState c.self.inside.site c.bump-2.new.self c.self.inside.waiting c.end_hold.new.holds c.self.inside.tally p)
+    IsState c.self.inside.site rows c.bump-2.new.self c.self.inside.waiting c.end_hold.new.holds c.self.inside.tally p)
     (sym c.log.ensures)
     (subst
     (λ (v : List ℕ).
-    IsState c.self.inside.site v c.self.inside.waiting c.end_hold.new.holds c.self.inside.tally
+    IsState c.self.inside.site rows v c.self.inside.waiting c.end_hold.new.holds c.self.inside.tally
     (logged c.args.origin x c.self.inside.past))
     (sym (c.bump-2.ensures ∙ ap (λ (k : ℕ). vector_bump have k) site))
-    (noted c.self.inside.site have c.self.inside.waiting c.self.inside.holds c.end_hold.new.holds c.self.inside.tally
-    c.self.inside.past c.args.origin x c.self.invariant next decides c.end_hold.ensures.commits))
+    (noted c.self.inside.site rows have c.self.inside.waiting c.self.inside.holds c.end_hold.new.holds
+    c.self.inside.tally c.self.inside.past c.args.origin x c.self.invariant next decides c.end_hold.ensures.commits
+    (c.end_hold.ensures.kept rows c.self.invariant.kept)))
 
 pub returns-clause-machine : goal.returns-clause-machine
 returns-clause-machine g c =
@@ -62,6 +64,6 @@ returns-clause-machine g c =
     ap (λ (p : Past). machine_of s.site rows c.bump-2.new.self s.waiting c.end_hold.new.holds s.tally p) c.log.ensures
     ∙ ap (λ (v : List ℕ). machine_of s.site rows v s.waiting c.end_hold.new.holds s.tally past)
     (c.bump-2.ensures ∙ ap (λ (k : ℕ). vector_bump s.have k) site)
-    ∙ note_machine s.site s.have s.waiting s.holds s.tally s.past c.self.invariant rows c.args.origin x
+    ∙ note_machine s.site rows s.have s.waiting s.holds s.tally s.past c.self.invariant c.args.origin x
     c.end_hold.new.holds c.end_hold.ensures.holds
     ∙ ap (λ (v : StateValue). with_note c.args.origin x v.machine) c.self.view_is

@@ -12,6 +12,7 @@ use Rattle.td_machine.specs.Making.{hold}
 use Rattle.td_replica.specs.declared.state.Origin.TheVariants.{Here}
 use Rattle.td_replica.specs.Parts.{StateValue, with_ballots, with_note}
 use Rattle.td_replica.proofs.Deciding.{ballots_below, proposed_among}
+use Rattle.td_replica.proofs.Kept.{proposing_holds}
 use Rattle.td_replica.proofs.Proposing.{propose_log}
 use Rattle.td_replica.proofs.Stepping.{next_made, named_made}
 use Rattle.td_replica.proofs.state.State.propose_among.Goals as goal
@@ -25,6 +26,11 @@ pub note-requires-clause-next : goal.note-requires-clause-next
 note-requires-clause-next g c =
     rw (c.next_op-op.ensures, c.in_ok-reserve.ensures.same.machine)
     (next_made c.args.self.now.machine c.requires.built (Propose c.args.slot.now) c.requires.may)
+
+pub hold-requires-clause-may : goal.hold-requires-clause-may
+hold-requires-clause-may g c =
+    rw (c.note.ensures.machine, c.next_op-op.ensures, c.in_ok-reserve.ensures.same.machine)
+    (proposing_holds c.args.self.now.machine c.requires.built c.args.slot.now c.requires.may)
 
 pub open-requires-clause-new : goal.open-requires-clause-new
 open-requires-clause-new g c =

@@ -2,11 +2,15 @@ use Rattle.std.proofs.Common.{◌∙◌, sym, subst}
 use Rattle.std.specs.Prelude.{IfOk}
 use Rattle.td_machine.specs.Taking.{Stepped}
 use Rattle.td_replica.specs.Steps.{IsStep}
+use Rattle.td_replica.proofs.Kept.{held_apart}
 use Rattle.td_replica.proofs.Verdicts.{has_room, site_within, delete_of, delete_done, propose_may, answer_step}
 use Rattle.td_replica.proofs.state.State.request.Goals as goal
 
-pub verdict-requires : goal.verdict-requires
-verdict-requires g c = has_room c.args.self.now.machine c.requires.built
+pub verdict-requires-clause-held : goal.verdict-requires-clause-held
+verdict-requires-clause-held g c = held_apart c.args.self.now.machine c.requires.built
+
+pub verdict-requires-clause-room : goal.verdict-requires-clause-room
+verdict-requires-clause-room g c = has_room c.args.self.now.machine c.requires.built
 
 pub refuse-requires : goal.refuse-requires
 refuse-requires g c = site_within c.args.self.now.machine c.requires.built

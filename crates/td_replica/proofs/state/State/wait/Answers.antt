@@ -28,8 +28,8 @@ invariant_of-self-2 g c =
     let sized : length x.deps ≡ length c.self.inside.have =
     c.requires.sized ∙ sym (ap (λ (s : StateValue). s.machine.size) c.self.view_is) in
     rw (waiting, c.keep.ensures.past, c.kept-number.ensures)
-    (waits_too c.self.inside.site c.self.inside.have c.self.inside.waiting c.self.inside.holds c.self.inside.tally
-    c.self.inside.past c.self.invariant x c.offer.ensures.op sized)
+    (waits_too c.self.inside.site (g.D.Doc.rows c.self.inside.doc) c.self.inside.have c.self.inside.waiting
+    c.self.inside.holds c.self.inside.tally c.self.inside.past c.self.invariant x c.offer.ensures.op sized)
 
 pub returns-clause-ok : goal.returns-clause-ok
 returns-clause-ok g c =
@@ -47,5 +47,5 @@ returns-clause-ok g c =
     let waiting : c.offer.new.self ≡ put_in_order w c.self.inside.waiting =
     c.in_ok-offer.ensures.kept ∙ ap (λ (a : Offer). kept_after a w c.self.inside.waiting) later in
     rw (waiting, c.keep.ensures.past, c.kept-number.ensures, ← c.self.view_is)
-    (wait_state c.self.inside.site c.self.inside.have c.self.inside.waiting c.self.inside.holds c.self.inside.tally
-    c.self.inside.past c.self.invariant (g.D.Doc.rows c.self.inside.doc) x)
+    (wait_state c.self.inside.site (g.D.Doc.rows c.self.inside.doc) c.self.inside.have c.self.inside.waiting
+    c.self.inside.holds c.self.inside.tally c.self.inside.past c.self.invariant x)
