@@ -150,7 +150,9 @@ impl<D: Doc> State<D> {
 
     // Puts the run in a slot of the document, as an insert with this dot does.
     pub(crate) fn put_run(&mut self, slot: &Slot, dot: Dot, run: &Run) -> Result<(), Memory>
-        requires { IsFresh self.old.machine.doc dot }
+        requires fresh { IsFresh self.old.machine.doc dot }
+        requires keeps { KeepsSlots self.old.machine.doc (insert_run slot.now dot run.now self.old.machine.doc)
+            self.old.machine.holds }
         ensures ok { OnOk result (self.new ≡ with_machine
             (record self.old.machine { doc = insert_run slot.now dot run.now self.old.machine.doc }) self.old) }
         ensures err { OnErr result (self.new ≡ self.old) }

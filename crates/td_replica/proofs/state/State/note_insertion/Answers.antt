@@ -34,10 +34,12 @@ invariant_of-self g c =
     subst (λ (v : List ℕ). IsNext v (inserting c.args.dot v c.args.slot.now c.args.run.now))
     (sym (ap (λ (s : StateValue). s.machine.have) c.self.view_is)) c.requires.next in
     let site : c.dot.inside.site ≡ c.args.dot.site = ap (λ (d : DotValue). d.site) c.dot.view_is in
-    subst (λ (p : Past). IsState s.site c.bump.new.self s.waiting s.holds s.tally p) (sym c.make_insertion.ensures)
-    (subst (λ (v : List ℕ). IsState s.site v s.waiting s.holds s.tally (logged Here x s.past))
+    let rows : List DocRow = g.D.Doc.rows s.doc in
+    subst (λ (p : Past). IsState s.site rows c.bump.new.self s.waiting s.holds s.tally p) (sym c.make_insertion.ensures)
+    (subst (λ (v : List ℕ). IsState s.site rows v s.waiting s.holds s.tally (logged Here x s.past))
     (sym (c.bump.ensures ∙ ap (λ (k : ℕ). vector_bump have k) site))
-    (noted s.site have s.waiting s.holds s.holds s.tally s.past Here x c.self.invariant next tt refl))
+    (noted s.site rows have s.waiting s.holds s.holds s.tally s.past Here x c.self.invariant next tt refl
+    c.self.invariant.kept))
 
 pub returns-clause-machine : goal.returns-clause-machine
 returns-clause-machine g c =
@@ -48,6 +50,6 @@ returns-clause-machine g c =
     ap (λ (p : Past). machine_of s.site rows c.bump.new.self s.waiting s.holds s.tally p) c.make_insertion.ensures
     ∙ ap (λ (v : List ℕ). machine_of s.site rows v s.waiting s.holds s.tally (logged Here x s.past))
     (c.bump.ensures ∙ ap (λ (k : ℕ). vector_bump s.have k) site)
-    ∙ note_machine s.site s.have s.waiting s.holds s.tally s.past c.self.invariant rows Here x s.holds refl
+    ∙ note_machine s.site rows s.have s.waiting s.holds s.tally s.past c.self.invariant Here x s.holds refl
     ∙ ap (λ (v : StateValue).
     with_note Here (inserting c.args.dot v.machine.have c.args.slot.now c.args.run.now) v.machine) c.self.view_is

@@ -1,12 +1,18 @@
 use Rattle.std.proofs.Common.{◌∙◌, ap, length}
 use Rattle.td_op.specs.declared.body.Body.TheVariants.{Insert}
 use Rattle.td_replica.specs.Parts.{StateValue}
+use Rattle.td_replica.proofs.Kept.{made_keeps}
 use Rattle.td_replica.proofs.Putting.{put_step, put_text}
 use Rattle.td_replica.proofs.Stepping.{next_made, fresh_made, named_made}
 use Rattle.td_replica.proofs.state.State.put.Goals as goal
 
-pub put_run-requires : goal.put_run-requires
-put_run-requires g c =
+pub put_run-requires-clause-keeps : goal.put_run-requires-clause-keeps
+put_run-requires-clause-keeps g c =
+    rw (c.next_dot-dot.ensures, c.in_ok-reserve.ensures.same.machine)
+    (made_keeps c.args.self.now.machine c.requires.built (Insert c.args.slot.now c.args.run.now) tt c.requires.may)
+
+pub put_run-requires-clause-fresh : goal.put_run-requires-clause-fresh
+put_run-requires-clause-fresh g c =
     rw (c.next_dot-dot.ensures, c.in_ok-reserve.ensures.same.machine)
     (fresh_made c.args.self.now.machine c.requires.built (Insert c.args.slot.now c.args.run.now) c.requires.may)
 
