@@ -29,7 +29,11 @@ impl Session {
         ensures some { IfSome result (λ out. IsPacketOf k self.now.machine.sent out.to out.packet) }
         ensures none { IfNone result (kth k self.now.machine.sent ≡ None) }
     {
-        let message = self.replica.sent_at(k)?;
+        if k == 0 || k > self.sent() {
+            return None;
+        }
+        // not `sent_at`: each call that hands a message on copies its 240 bytes once more
+        let message = self.replica.message(k);
         Some(Outgoing {
             to: receiver(&message),
             packet: encode(&message),
