@@ -1,3 +1,5 @@
 pub mod StoredRuns
 pub mod StoredRows
+pub mod StoredHeads
+pub mod StoredChains
 pub mod StoredOps

@@ -3,4 +3,7 @@ pub mod Lists
 pub mod Inserting
 pub mod RunsParts
 pub mod VectorsParts
+pub mod HeadsParts
+pub mod Typed
+pub mod ChainsParts
 pub mod OpsParts

@@ -1,70 +1,41 @@
--- How `Ops` keeps its operations: as records whose runs and dependencies stand in a list of runs and a list of
--- vectors; a letter stands in the record itself. Operations share a vector: at the site of an operation its number
--- counts for nothing, since of its own site an operation knows exactly those before it.
-use Rattle.std.specs.Prelude.{◌≡◌, ◌≤◌, ◌<◌, ◌+◌, ◌-◌, ◌^◌, ℕ, List, [], ◌∷◌, length, slice_index_or, All}
+-- How `Ops` keeps its operations: whole, as heads, or typed behind a head.
+use Rattle.std.specs.Prelude.{◌≡◌, ◌≤◌, ◌<◌, ℕ, List, [], ◌∷◌, length, slice_index_or, All}
 use Rattle.td_base.specs.Atom.{IsAtom}
-use Rattle.td_base.specs.Value.{DotValue}
-use Rattle.td_base.specs.declared.site.TheConstants.{MAX_SITE}
-use Rattle.td_clock.specs.Vector.{vector_set}
-use Rattle.td_op.specs.declared.body.Body.{Body}
-use Rattle.td_op.specs.declared.body.Body.TheVariants.{Insert, Delete, Propose, Commit, Abort}
+use Rattle.td_base.specs.declared.dot.TheConstants.{MAX_SEQ}
+use Rattle.td_op.specs.declared.body.Body.TheVariants.{Propose}
 use Rattle.td_op.specs.Op.{OpValue, IsOp}
-use Rattle.td_store.specs.declared.compact_body.CompactBody.{CompactBody}
-use Rattle.td_store.specs.declared.compact_body.CompactBody.TheVariants.{Insert as CompactInsert}
-use Rattle.td_store.specs.declared.compact_body.CompactBody.TheVariants.{Letter as CompactLetter}
-use Rattle.td_store.specs.declared.compact_body.CompactBody.TheVariants.{Delete as CompactDelete}
-use Rattle.td_store.specs.declared.compact_body.CompactBody.TheVariants.{Propose as CompactPropose}
-use Rattle.td_store.specs.declared.compact_body.CompactBody.TheVariants.{Commit as CompactCommit}
-use Rattle.td_store.specs.declared.compact_body.CompactBody.TheVariants.{Abort as CompactAbort}
-use Rattle.td_store.specs.declared.ops.CompactOp.{CompactOp}
-use Rattle.td_store.specs.Compact.{slot_of}
-use Rattle.td_store.specs.Lists.{RunsValue, VectorsValue}
+use Rattle.td_path.specs.declared.slot.Slot.TheVariants.{Root}
+use Rattle.td_store.specs.declared.place.Place.{Place}
+use Rattle.td_store.specs.declared.place.Place.TheVariants.{Head, Letter}
+use Rattle.td_store.specs.declared.place.Typed.{Typed}
+use Rattle.td_store.specs.Lists.{OpsValue, ChainsValue}
+use Rattle.td_store.specs.Typed.{dot_behind, typed_op}
 
--- the body that a compact one stands for, with its run from the list
-abbrev pub body_of : List (List (List ℕ)) → CompactBody → Body
-body_of runs (CompactInsert slot run) = Insert (slot_of slot) (slice_index_or runs run [])
-body_of runs (CompactLetter slot letter) = Insert (slot_of slot) ((letter ∷ []) ∷ [])
-body_of runs (CompactDelete target) = Delete target
-body_of runs (CompactPropose slot) = Propose (slot_of slot)
-body_of runs (CompactCommit proposal) = Commit proposal
-body_of runs (CompactAbort proposal) = Abort proposal
+-- the head of a number, and anything where there is none
+abbrev pub head_of : List OpValue → ℕ → OpValue
+head_of heads number =
+    slice_index_or heads number
+    (record { dot = record { site = 0; seq = 0 }; deps = []; body = Propose Root })
 
--- its run is in the list, or is a letter
-abbrev pub HasRun : List (List (List ℕ)) → CompactBody → Type 0
-HasRun runs (CompactInsert slot run) = run < length runs
-HasRun runs (CompactLetter slot letter) = IsAtom (letter ∷ [])
-HasRun runs (CompactDelete target) = Unit {0}
-HasRun runs (CompactPropose slot) = Unit {0}
-HasRun runs (CompactCommit proposal) = Unit {0}
-HasRun runs (CompactAbort proposal) = Unit {0}
+-- the operation at a place
+abbrev pub op_in : List OpValue → Place → OpValue
+op_in heads (Head number) = head_of heads number
+op_in heads (Letter typed) = typed_op (head_of heads typed.head) typed
 
--- the dependencies that a vector gives an operation with this dot
-abbrev pub deps_of : List ℕ → DotValue → List ℕ
-deps_of row dot = vector_set row dot.site (dot.seq - 1)
+-- it is typed behind one of the heads
+pub record IsTypedIn (heads : List OpValue) (typed : Typed) : Type 0 where
+  pub head : typed.head < length heads
+  pub some : 1 ≤ typed.behind
+  pub letter : IsAtom (typed.letter ∷ [])
+  pub seq : (dot_behind (head_of heads typed.head).dot typed.behind).seq ≤ MAX_SEQ
+  pub op : IsOp (typed_op (head_of heads typed.head) typed)
 
--- the operation that a record stands for
-abbrev pub op_of : List (List ℕ) → List (List (List ℕ)) → CompactOp → OpValue
-op_of rows runs op = record {
-  dot = op.dot;
-  deps = deps_of (slice_index_or rows op.row []) op.dot;
-  body = body_of runs op.body;
-}
+-- there is an operation at the place
+abbrev pub IsPlaced : List OpValue → Place → Type 0
+IsPlaced heads (Head number) = number < length heads
+IsPlaced heads (Letter typed) = IsTypedIn heads typed
 
--- its vector and its run are in the lists, and it stands for an operation of one of so many sites
-pub record IsKept (size : ℕ) (rows : List (List ℕ)) (runs : List (List (List ℕ))) (stored : CompactOp) : Type 0 where
-  pub site : stored.dot.site ≤ size
-  pub row : stored.row < length rows
-  pub run : HasRun runs stored.body
-  pub op : IsOp (op_of rows runs stored)
-
--- there is room for so many more operations
-pub record AreOpsParts (size room capacity : ℕ) (ops : List CompactOp) (runs : RunsValue) (rows : VectorsValue)
-    : Type 0 where
-  pub some : 1 ≤ size
-  pub short : size ≤ MAX_SITE
-  pub kept : All (IsKept size rows.rows runs.runs) ops
-  pub rows_size : rows.size ≡ size
-  pub rows_room : room ≤ rows.room
-  pub runs_room : room ≤ runs.room
-  pub ops_room : length ops + room ≤ capacity
-  pub places : length ops + room < 2 ^ 32
+pub record AreOpsParts (heads : OpsValue) (chains : ChainsValue) : Type 0 where
+  pub count : chains.heads ≡ length heads.ops
+  pub placed : All (IsPlaced heads.ops) chains.places
+  pub room : chains.room ≤ heads.room

@@ -1,6 +1,6 @@
 ghost use Rattle.std.specs.Prelude.{◌≡◌, ◌≤◌, ◌+◌, length, take};
 ghost use Rattle.td_op.specs.declared.body.Body.TheVariants.{Insert as InsertOf};
-ghost use Rattle.td_store.specs.OpsParts.{HasRun, body_of};
+ghost use Rattle.td_store.specs.HeadsParts.{HasRun, body_of};
 
 use crate::compact_dot::CompactDot;
 use crate::compact_id::CompactId;

@@ -1,63 +1,48 @@
-ghost use Rattle.std.specs.Prelude.{◌≡◌, ◌≤◌, ◌<◌, ◌+◌, ◌∷◌, ◌++◌, [], length, take, slice_get, slice_index_or, OnErr, OnOk, Some};
+ghost use Rattle.std.specs.Prelude.{◌≡◌, ◌≤◌, ◌<◌, ◌+◌, ◌∷◌, ◌++◌, [], length, slice_get, IfSome, OnErr, OnOk, Some};
 ghost use Rattle.std.specs.Option.{option_map};
-ghost use Rattle.td_clock.specs.Vector.{vector_get};
+ghost use Rattle.td_base.specs.Atom.{IsAtom};
 ghost use Rattle.td_op.specs.Op.{IsOp, OpValue};
+ghost use Rattle.td_store.specs.ChainsParts.{IsNextLetter};
 ghost use Rattle.td_store.specs.Inserting.{inserting};
-ghost use Rattle.td_store.specs.OpsParts.{deps_of};
+ghost use Rattle.td_store.specs.OpsParts.{IsTypedIn, head_of};
+ghost use Rattle.td_store.specs.Typed.{slot_typed, typed_op};
 
-use crate::compact_body::CompactBody;
-use crate::compact_dot::CompactDot;
-use crate::runs::Runs;
-use crate::vectors::Vectors;
+use crate::chains::Chains;
+use crate::heads::Heads;
+use crate::place::Typed;
 use std::alloc::Global;
 use std::marker::Model;
-use std::mem::size_of;
-use td_base::{Dot, MAX_SITE, Memory, Run};
+use td_base::{Bit, Dot, MAX_SITE, Memory, Run};
 use td_clock::Vector;
 use td_op::{Body, Op};
 use td_path::Slot;
 
-const SITES: usize = MAX_SITE as usize;
-
-/// The operations of a replica for a buffer of so many sites, in the order in which they were pushed. One takes 20
-/// bytes, and its run where that is more than a letter; operations that follow one another at a site with nothing taken
-/// between share the vector of their dependencies. Room for more is made by `reserve` and used up by `push`.
+/// The operations of a replica for a buffer of so many sites, in the order in which they were pushed. One takes 22
+/// bytes, and its run where that is more than a letter; a letter that is typed right behind the one before it, as most
+/// are, takes 2 bytes, up to 255 of them behind one operation. Operations that follow one another at a site with
+/// nothing taken between share the vector of their dependencies. Room for more is made by `reserve` and used up by
+/// `push`.
 #[derive(Debug, Drop)]
 pub struct Ops {
-    size: u8,
-    ops: Vec<CompactOp>,
-    runs: Runs,
-    rows: Vectors,
-    // by site, the number of the vector that was used last for an operation of the site: it may well serve the next
-    last_rows: [u32; SITES],
-    room: u32,
+    heads: Heads,
+    chains: Chains,
 }
-
-// An operation: its vector is that row but at the operation's own site.
-#[derive(Clone, Copy, Debug, PartialEq, Eq)]
-struct CompactOp {
-    dot: CompactDot,
-    row: u32,
-    body: CompactBody,
-}
-
-const _: () = prove!(size_of::<CompactOp>() == 20);
 
 impl Model for Ops {
-    ghost use Rattle.std.specs.Prelude.{map, vec_capacity};
+    ghost use Rattle.std.specs.Prelude.{map};
     ghost use Rattle.td_store.specs.Lists.{OpsValue};
 
     ghost Value = { OpsValue };
 
-    ghost use Rattle.td_store.specs.OpsParts.{AreOpsParts, op_of};
+    ghost use Rattle.td_store.specs.OpsParts.{AreOpsParts, op_in};
 
     ghost view = { λ s. record {
-      size = s.size;
-      ops = map (op_of s.rows.rows s.runs.runs) s.ops.items;
-      room = s.room;
+      size = s.heads.size;
+      ops = map (op_in s.heads.ops) s.chains.places;
+      room = s.chains.room;
     } };
 
-    ghost invariant = { λ s. AreOpsParts s.size s.room (vec_capacity s.ops) s.ops.items s.runs s.rows };
+    ghost invariant = { λ s. AreOpsParts s.heads s.chains };
 }
 
 impl Ops {
@@ -68,12 +53,8 @@ impl Ops {
         ensures { result ≡ record { size = n; ops = []; room = 0 } }
     {
         Ops {
-            size: n,
-            ops: Vec::new(alloc),
-            runs: Runs::new(alloc),
-            rows: Vectors::new(alloc, n),
-            last_rows: [0; SITES],
-            room: 0,
+            heads: Heads::new(alloc, n),
+            chains: Chains::new(alloc),
         }
     }
 
@@ -85,13 +66,8 @@ impl Ops {
         ensures room { self.old.room ≤ self.new.room }
         ensures err { OnErr result (self.new ≡ self.old) }
     {
-        if more > u32::MAX - self.len() {
-            return Err(Memory);
-        }
-        self.ops.reserve(more as usize)?;
-        self.runs.reserve(more)?;
-        self.rows.reserve(more)?;
-        self.room = self.room.max(more);
+        self.heads.reserve(more)?;
+        self.chains.reserve(more)?;
         Ok(())
     }
 
@@ -103,11 +79,12 @@ impl Ops {
         ensures ops { self.new.ops ≡ self.old.ops ++ op.now ∷ [] }
         ensures room { self.new.room + 1 ≡ self.old.room }
     {
-        let row = row_for(&mut self.rows, &mut self.last_rows, op.dot(), op.deps());
-        let body = CompactBody::of(op.body_ref(), &mut self.runs);
-        let dot = CompactDot::of(op.dot());
-        self.ops.push_reserved(CompactOp { dot, row, body });
-        self.room -= 1;
+        if let Body::Insert { slot, run } = op.body_ref() {
+            self.push_insertion(op.dot(), op.deps(), slot, run);
+            return;
+        }
+        self.heads.push(op);
+        self.chains.push_head();
     }
 
     /// Adds an insertion at the end, by its parts: an operation has some 240 bytes. Takes no memory.
@@ -119,11 +96,12 @@ impl Ops {
         ensures ops { self.new.ops ≡ self.old.ops ++ inserting dot deps.now slot.now run.now ∷ [] }
         ensures room { self.new.room + 1 ≡ self.old.room }
     {
-        let row = row_for(&mut self.rows, &mut self.last_rows, dot, deps);
-        let body = CompactBody::insertion(slot, run, &mut self.runs);
-        let dot = CompactDot::of(dot);
-        self.ops.push_reserved(CompactOp { dot, row, body });
-        self.room -= 1;
+        if let Some(typed) = typed_next(&self.heads, &self.chains, dot, deps, slot, run) {
+            self.chains.push_letter(typed);
+            return;
+        }
+        self.heads.push_insertion(dot, deps, slot, run);
+        self.chains.push_head();
     }
 
     /// The operation at a place from 0.
@@ -141,10 +119,7 @@ impl Ops {
         requires { k < length self.now.ops }
         ensures { slice_get self.now.ops k ≡ Some result }
     {
-        let op = &self.ops[k as usize];
-        let dot = op.dot.dot();
-        let deps = deps_at(&self.rows, op.row, dot);
-        Op::of(dot, &deps, &op.body.body(&self.runs))
+        self.chains.at(k).op(&self.heads)
     }
 
     /// What the operation at a place that there is depends on.
@@ -152,62 +127,77 @@ impl Ops {
         requires { k < length self.now.ops }
         ensures { option_map (λ (op : OpValue). op.deps) (slice_get self.now.ops k) ≡ Some result }
     {
-        let op = &self.ops[k as usize];
-        deps_at(&self.rows, op.row, op.dot.dot())
+        self.chains.at(k).deps(&self.heads)
     }
 
     /// The dot of the operation at a place.
     pub fn dot(&self, k: u32) -> Option<Dot>
         ensures { result ≡ option_map (λ (op : OpValue). op.dot) (slice_get self.now.ops k) }
     {
-        let op = self.ops.get(k as usize)?;
-        Some(op.dot.dot())
+        if k >= self.len() {
+            return None;
+        }
+        Some(self.chains.at(k).dot(&self.heads))
     }
 
     /// What the operation at a place does.
     pub fn body(&self, k: u32) -> Option<Body>
         ensures { result ≡ option_map (λ (op : OpValue). op.body) (slice_get self.now.ops k) }
     {
-        let op = self.ops.get(k as usize)?;
-        Some(op.body.body(&self.runs))
+        if k >= self.len() {
+            return None;
+        }
+        Some(self.chains.at(k).body(&self.heads))
     }
 
     /// How many operations there are.
     pub fn len(&self) -> u32
         ensures { result ≡ length self.now.ops }
     {
-        self.ops.len() as u32
+        self.chains.len()
     }
 }
 
-// The row with the dependencies of an operation with this dot: the last one of its site where that has them, and else a
-// new one.
-fn row_for(rows: &mut Vectors, last_rows: &mut [u32; SITES], dot: Dot, deps: &Vector) -> u32
-    requires next { vector_get deps.now dot.site + 1 ≡ dot.seq }
-    requires site { dot.site ≤ rows.old.size }
-    requires size { length deps.now ≡ rows.old.size }
-    requires room { 1 ≤ rows.old.room }
-    ensures within { result < length rows.new.rows }
-    ensures deps { deps_of (slice_index_or rows.new.rows result []) dot ≡ deps.now }
-    ensures rows { take (length rows.old.rows) rows.new.rows ≡ rows.old.rows }
-    ensures size { rows.new.size ≡ rows.old.size }
-    ensures room { rows.old.room ≤ rows.new.room + 1 }
+// The insertion as a letter typed behind the last of these operations, where it is one.
+fn typed_next(
+    heads: &Heads,
+    chains: &Chains,
+    dot: Dot,
+    deps: &Vector,
+    slot: &Slot,
+    run: &Run,
+) -> Option<Typed>
+    requires op { IsOp (inserting dot deps.now slot.now run.now) }
+    requires size { length deps.now ≡ heads.now.size }
+    requires count { chains.now.heads ≡ length heads.now.ops }
+    ensures next { IfSome result (λ typed. IsNextLetter chains.now typed) }
+    ensures typed { IfSome result (λ typed. IsTypedIn heads.now.ops typed) }
+    ensures op { IfSome result (λ typed.
+        typed_op (head_of heads.now.ops typed.head) typed ≡ inserting dot deps.now slot.now run.now) }
 {
-    let last = &mut last_rows[dot.site.place()];
-    if !rows.has_but_at(*last, deps, dot.site) {
-        *last = rows.len();
-        rows.push(deps);
+    let letter = typed_letter(dot, slot, run)?;
+    let typed = chains.next(letter)?;
+    if !heads.leads(typed.head, typed.behind, dot, deps) {
+        return None;
     }
-    *last
+    Some(typed)
 }
 
-// The dependencies of an operation with this dot, from this row.
-fn deps_at(rows: &Vectors, row: u32, dot: Dot) -> Vector
-    requires row { row < length rows.now.rows }
-    requires site { dot.site ≤ rows.now.size }
-    ensures { result ≡ deps_of (slice_index_or rows.now.rows row []) dot }
+// The letter of an insertion that puts one letter right behind what the operation before it put.
+fn typed_letter(dot: Dot, slot: &Slot, run: &Run) -> Option<u8>
+    ensures slot { IfSome result (λ letter. slot.now ≡ slot_typed dot) }
+    ensures run { IfSome result (λ letter. run.now ≡ (letter ∷ []) ∷ []) }
+    ensures letter { IfSome result (λ letter. IsAtom (letter ∷ [])) }
 {
-    let mut deps = rows.at(row);
-    deps.set(dot.site, dot.seq - 1);
-    deps
+    let Slot::At { atom, bit } = *slot else {
+        return None;
+    };
+    let is_behind = atom.dot.site == dot.site && atom.dot.seq + 1 == dot.seq && atom.offset == 0;
+    if !is_behind || bit != Bit::Right {
+        return None;
+    }
+    match run.bytes() {
+        [letter] if run.len() == 1 => Some(*letter),
+        _ => None,
+    }
 }

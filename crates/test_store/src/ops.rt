@@ -9,7 +9,7 @@ use td_op::{Body, Op};
 use td_path::Slot;
 use td_store::Ops;
 
-fn dot(site: u8, seq: u32) -> Result<Dot, Fail> {
+pub(crate) fn dot(site: u8, seq: u32) -> Result<Dot, Fail> {
     let site = Site::new(site).ok_or("a site")?;
     Ok(Dot::new(site, seq).ok_or("a dot")?)
 }
@@ -18,7 +18,7 @@ fn atom(text: &str) -> Result<Atom, Fail> {
     Ok(Atom::new(text.as_bytes()).ok().ok_or("an atom")?)
 }
 
-fn run(atoms: &[Atom]) -> Result<Run, Fail>
+pub(crate) fn run(atoms: &[Atom]) -> Result<Run, Fail>
     requires { length atoms.now < 2 ^ 32 }
 {
     Ok(Run::new(atoms).ok().ok_or("a run")?)
@@ -27,7 +27,7 @@ fn run(atoms: &[Atom]) -> Result<Run, Fail>
 const LONG: &str = "0123456789abcdef0123456789abcdef0123456789abcdef0123456789abcdef";
 
 // A run of each way in which one is stored.
-fn run_of(kind: u32) -> Result<Run, Fail> {
+pub(crate) fn run_of(kind: u32) -> Result<Run, Fail> {
     match kind {
         0 => run(&[atom("x")?]),
         1 => run(&[atom("a")?; 64]),
@@ -82,7 +82,7 @@ fn body(site: u8, k: u32) -> Result<Body, Fail> {
 }
 
 // What an operation with this dot depends on: so many of the first site's, and those of its own site before it.
-fn deps(n: u8, first: u32, dot: Dot) -> Result<Vector, Fail>
+pub(crate) fn deps(n: u8, first: u32, dot: Dot) -> Result<Vector, Fail>
     ensures { IfOk result (λ deps. length deps ≡ n) }
 {
     if n == 0 || n > MAX_SITE || dot.site.number() > n || first > MAX_SEQ {
@@ -140,7 +140,7 @@ fn add_all(ops: &mut Ops, n: u8) -> Result<(), Fail>
     Ok(())
 }
 
-fn reads(ops: &Ops, k: u32, op: Option<Op>) -> bool {
+pub(crate) fn reads(ops: &Ops, k: u32, op: Option<Op>) -> bool {
     ops.get(k) == op && ops.dot(k) == op.map(|op| op.dot()) && ops.body(k) == op.map(|op| op.body())
 }
 

@@ -1,7 +1,7 @@
 use Rattle.std.proofs.Common.{◌∙◌, sym, ap, arith}
 use Rattle.std.specs.Prelude.{Some}
-use Rattle.td_store.proofs.StoredOps.{kept_at}
-use Rattle.td_store.proofs.ops.Ops.at.Goals as goal
+use Rattle.td_store.proofs.StoredHeads.{kept_at}
+use Rattle.td_store.proofs.heads.Heads.at.Goals as goal
 
 pub deps_at-deps-requires : goal.deps_at-deps-requires
 deps_at-deps-requires c =

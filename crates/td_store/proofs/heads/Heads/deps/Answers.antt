@@ -2,8 +2,8 @@ use Rattle.std.proofs.Common.{◌∙◌, sym, ap, arith}
 use Rattle.std.specs.Prelude.{Some}
 use Rattle.std.specs.Option.{option_map}
 use Rattle.td_op.specs.Op.{OpValue}
-use Rattle.td_store.proofs.StoredOps.{kept_at}
-use Rattle.td_store.proofs.ops.Ops.deps.Goals as goal
+use Rattle.td_store.proofs.StoredHeads.{kept_at}
+use Rattle.td_store.proofs.heads.Heads.deps.Goals as goal
 
 pub deps_at-requires : goal.deps_at-requires
 deps_at-requires c =

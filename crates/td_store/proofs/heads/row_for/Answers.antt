@@ -1,8 +1,8 @@
 use Rattle.std.proofs.Common.{ap}
 use Rattle.td_base.specs.Value.{DotValue}
-use Rattle.td_store.proofs.StoredOps.{found_row, added_row}
-use Rattle.td_store.proofs.ops.row_for.Goals.{then-not-has_but_at, else-not-has_but_at}
-use Rattle.td_store.proofs.ops.row_for.Goals as goal
+use Rattle.td_store.proofs.StoredHeads.{found_row, added_row}
+use Rattle.td_store.proofs.heads.row_for.Goals.{then-not-has_but_at, else-not-has_but_at}
+use Rattle.td_store.proofs.heads.row_for.Goals as goal
 
 pub returns-clause-deps : goal.returns-clause-deps
 returns-clause-deps c = elim c.if-not-has_but_at.branch [
