@@ -3,11 +3,11 @@ use Rattle.std.proofs.Common.{◌≡◌, ◌≢◌, ◌<◌, ◌^◌, ℕ, suc, 
 use Rattle.std.proofs.Common.{sym, ap, ◌∙◌, subst, inl, inr, ⊎_elim, arith, append_assoc}
 use Rattle.std.proofs.lemmas.List.{get_or-set_same, get_or-set_other, length-set}
 use Rattle.td_base.specs.Lists.{In, Successive}
-use Rattle.td_base.proofs.Lists.{In-append, In-front, In-back, In-map}
+use Rattle.td_base.proofs.Lists.{In-append, In-front, In-back, In-map, all_in}
 use Rattle.td_list.specs.Items.{Item, names, IsItem, AreApart, items_before, items_after, renew, weight_of}
 use Rattle.td_list.specs.Index.{Parts, chunk_at, joined, all_items, chunks_before}
 use Rattle.td_list.specs.Index.{chunks_after, summary, AreHomes, IsChunk, IsIndex}
-use Rattle.td_list.proofs.Names.{weight-append, item-append, item-front, item-back}
+use Rattle.td_list.proofs.Names.{weight-append, item-append, item-front, item-back, apart-append}
 use Rattle.td_list.proofs.Parted.{Parted, parted, before_is, after_is, not_behind}
 
 pub joined-append : (chunks : List (List Item)) (front back : List Item) → joined chunks (front ++ back)
@@ -246,3 +246,16 @@ module _ (p : Parts) (index : IsIndex p) where
                     (λ x k. let h = o.homed x k in let l = kept x h.0 in
                     (l.0, l.1 (λ j. fresh x j (beside x k)) ∙ h.1));
               }
+
+-- no two items of chunks that are apart have one name
+pub joined_apart : (chunks : List (List Item)) (homes : List ℕ) (order : List Item) → AreApart order
+    → ((i : Item) → In i order → IsChunk chunks homes i) → AreApart (joined chunks order)
+joined_apart chunks homes [] a h = tt
+joined_apart chunks homes (i ∷ order) a h =
+    apart-append (chunk_at chunks i.name) (joined chunks order) (h i (inl refl)).apart
+    (joined_apart chunks homes order a.1 (λ j m. h j (inr m)))
+    (λ x k l. let r = item_joined chunks x order l in
+    let one = (h i (inl refl)).homed x k in
+    let two = (h r.0 (inr r.1)).homed x r.2 in
+    all_in (λ (y : ℕ). i.name ≢ y) (names order) a.0 r.0.name (In-map (λ (j : Item). j.name) r.0 order r.1)
+    (sym one.1 ∙ two.1))

@@ -14,3 +14,5 @@ pub mod Found
 pub mod Dropping
 pub mod Reached
 pub mod Reweighed
+pub mod Halves
+pub mod Waiting

@@ -60,6 +60,16 @@ abbrev pub items_from_end : Option ℕ → List Item → List Item
 items_from_end None items = []
 items_from_end (Some x) items = items_from x items
 
+-- the items before an end: before one of them, or all where the end is that of the list
+abbrev pub items_before_end : Option ℕ → List Item → List Item
+items_before_end None items = items
+items_before_end (Some x) items = items_before x items
+
+-- the piece put before an end
+abbrev pub put_at : Option ℕ → List Item → List Item → List Item
+put_at None piece items = items ++ piece
+put_at (Some x) piece items = put_before x piece items
+
 -- the piece in place of all from x on up to an end, which stays
 abbrev pub replace : ℕ → Option ℕ → List Item → List Item → List Item
 replace x end piece items = items_before x items ++ piece ++ items_from_end end items

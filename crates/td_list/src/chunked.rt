@@ -3,20 +3,13 @@ ghost use Rattle.std.specs.Option.{ForSome};
 ghost use Rattle.td_list.specs.Items.{Item, IsItem, AreApart, AreNew, items_before, items_from, items_after};
 ghost use Rattle.td_list.specs.Items.{items_from_end, replace, place_of, first_name, weight_of};
 
-use crate::deferred::Deferred;
 use crate::index::{FULL, Index};
 use crate::item::{Item, Share};
-use crate::line::Line;
 use crate::scan::{first_marked, share_at};
 use crate::sequence::Sequence;
 use std::alloc::Global;
 use std::marker::Model;
 use td_base::Memory;
-
-/// The list for millions of items: its chunks stand in chunks, which stand in chunks. A call scans a chunk of each
-/// kind, of at most some tens of items, and one line of which each place stands for some tens of thousands of items.
-/// Who types changes one chunk of items again and again: its weight is told to the chunks above once another changes.
-pub type List = Chunked<Deferred<Chunked<Chunked<Line>>>>;
 
 /// A list in chunks, whose order is a list of another kind.
 #[derive(Drop)]
@@ -193,6 +186,20 @@ impl<S: Sequence> Chunked<S> {
         let seat = self.index.seat(name);
         let items = &self.index.items_of(seat.chunk)[seat.place..];
         (items, self.index.head_after(seat.chunk))
+    }
+
+    /// No two items have one name. It is so always: who knows the list alone asks here, at no cost.
+    pub(crate) fn apart(&self)
+        ensures { AreApart self.now }
+    {
+        let _ = &self.index;
+    }
+
+    /// All weigh less than 2^31 together.
+    pub(crate) fn light(&self)
+        ensures { weight_of self.now < 2 ^ 31 }
+    {
+        let _ = &self.index;
     }
 
     // Puts a piece at the end, as a chunk of its own.

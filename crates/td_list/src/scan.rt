@@ -5,11 +5,10 @@ ghost use Rattle.td_list.specs.Places.{nothing};
 
 use crate::item::{Item, Share};
 
-/// The place of an item.
+/// The place of an item: how many items stand before it, which are all where it is not there.
 pub fn place_of(items: &[Item], name: u32) -> usize
-    requires { IsItem name items.now }
     ensures value { result ≡ place_of name items.now }
-    ensures bound { result < length items.now }
+    ensures bound { IsItem name items.now → result < length items.now }
 {
     let mut place = 0;
     for item in items {

@@ -1,5 +1,6 @@
 ghost use Rattle.std.specs.Prelude.{◌≡◌, ◌<◌, ◌+◌, ◌^◌, ◌++◌, ◌∷◌, List, [], nat_lt, IfOk, OnOk, OnErr};
-ghost use Rattle.td_list.specs.Items.{Item, IsItem, AreApart, AreNew, items_before, items_from, items_after, put_before, without, renew, place_of, first_name, last_name, first_marked, share_at, weight_of};
+ghost use Rattle.std.specs.Option.{ForSome};
+ghost use Rattle.td_list.specs.Items.{Item, IsItem, AreApart, AreNew, items_before, items_from, items_after, put_before, put_at, without, renew, place_of, first_name, last_name, first_marked, share_at, weight_of};
 
 use crate::item::{Item, Share};
 use std::alloc::Global;
@@ -83,4 +84,19 @@ pub trait Sequence: Sized + Drop {
     /// The item with a unit of weight, counted from 0.
     fn share_at(&self, unit: u32) -> Option<Share>
         ensures { result ≡ share_at unit (items self.now) };
+}
+
+/// Puts a piece directly before an item, or at the end.
+pub fn put_at<S: Sequence>(list: &mut S, at: Option<u32>, piece: &[Item]) -> Result<(), Memory>
+    requires there { ForSome at (λ x. IsItem x (S.items list.old)) }
+    requires apart { AreApart piece.now }
+    requires new { AreNew piece.now (S.items list.old) }
+    requires light { weight_of (S.items list.old) + weight_of piece.now < 2 ^ 31 }
+    ensures ok { OnOk result (S.items list.new ≡ put_at at piece.now (S.items list.old)) }
+    ensures err { OnErr result (S.items list.new ≡ S.items list.old) }
+{
+    match at {
+        Some(name) => list.insert_before(name, piece),
+        None => list.push(piece),
+    }
 }

@@ -10,7 +10,7 @@ use Rattle.td_base.proofs.Lists.{In-append, In-front, In-back, map_In}
 use Rattle.td_path.specs.declared.slot_path.SlotPath.{SlotPath}
 use Rattle.td_doc.specs.Array.{named}
 use Rattle.td_doc.proofs.ArrayRows.{array_names}
-use Rattle.td_list.specs.Items.{Item, IsItem, AreApart, AreNew, first_name, weight_of}
+use Rattle.td_list.specs.Items.{Item, IsItem, AreApart, AreNew, first_name, put_at, weight_of}
 use Rattle.td_list.proofs.Names.{weight-append, apart-between, apart-parts, item-append, item-front, item-back}
 use Rattle.td_list.proofs.Parted.{before_at, from_at}
 use Rattle.td_brackets.specs.Brackets.{Token, Open, Atom, Close, Leaf, Entry, Level, move, atom_of, leaf_rows}
@@ -23,7 +23,6 @@ use Rattle.td_tree.specs.declared.tree_row.RowState.TheVariants.{Node, InArray, 
 use Rattle.td_tree.specs.Parts.{RowValue, Parts, nobody, row_at, state_at, table, array_at, row_of_array}
 use Rattle.td_tree.specs.Parts.{row_token, kind_token, token_of, tokens_of, tokens, doc_rows, nodes_of, IsPart}
 use Rattle.td_tree.specs.Parts.{IsKind, IsToken, leaf_item, Cut, OneLeaf, IsAt, IsTree}
-use Rattle.td_tree.specs.Places.{put_at}
 use Rattle.td_tree.proofs.ArrayParts.{part_place}
 use Rattle.td_tree.proofs.ItemTokens.{leaf_token, tokens-append, Grows, Unmoved, part_stays, item_stays, tokens_stay}
 use Rattle.td_tree.proofs.Cuts.{cut_map}

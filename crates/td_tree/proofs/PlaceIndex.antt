@@ -9,7 +9,8 @@ use Rattle.td_base.specs.Value.{AtomIdValue}
 use Rattle.td_path.specs.declared.slot.Slot.{Slot}
 use Rattle.td_doc.specs.Document.{is_empty_list}
 use Rattle.td_doc.specs.Answers.{is_live_found, is_live_id, live_before}
-use Rattle.td_list.specs.Items.{Item, IsItem, AreApart, first_name, items_before, items_after, weight_of}
+use Rattle.td_list.specs.Items.{Item, IsItem, AreApart, first_name, items_before, items_after, put_at}
+use Rattle.td_list.specs.Items.{weight_of}
 use Rattle.td_list.proofs.Names.{weight-append, apart-parts}
 use Rattle.td_list.proofs.Parted.{before_at}
 use Rattle.td_brackets.specs.Brackets.{Entry}
@@ -17,7 +18,7 @@ use Rattle.td_tree.specs.declared.tree_row.RowState.{RowState}
 use Rattle.td_tree.specs.declared.tree_row.RowState.TheVariants.{Node, Gone}
 use Rattle.td_tree.specs.Parts.{Parts, state_at, table, token_weight, doc_rows, open_item}
 use Rattle.td_tree.specs.Parts.{atom_item, close_item, node_items, IsKind, IsTree}
-use Rattle.td_tree.specs.Places.{IsPlace, put_at}
+use Rattle.td_tree.specs.Places.{IsPlace}
 use Rattle.td_tree.specs.Stretches.{items_up_to}
 use Rattle.td_tree.proofs.Lent.{same_end}
 use Rattle.td_tree.proofs.Grown.{put_parts}

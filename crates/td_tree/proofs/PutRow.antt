@@ -10,7 +10,7 @@ use Rattle.td_doc.specs.Document.{find_row}
 use Rattle.td_doc.specs.Slots.{slot_path}
 use Rattle.td_doc.specs.Answers.{is_rooted}
 use Rattle.td_doc.specs.Insertion.{insert_atom}
-use Rattle.td_list.specs.Items.{Item, IsItem, AreApart, AreNew, first_name}
+use Rattle.td_list.specs.Items.{Item, IsItem, AreApart, AreNew, first_name, put_at}
 use Rattle.td_list.proofs.Names.{item-front, item-back}
 use Rattle.td_base.proofs.Lists.{map_In}
 use Rattle.td_brackets.specs.Brackets.{Entry, numbers_of, slot_of, rows_of, IsBrackets}
@@ -20,7 +20,7 @@ use Rattle.td_brackets.proofs.Kept.{same_standing, put_rows_are, put_brackets}
 use Rattle.td_tree.specs.declared.tree_row.RowState.TheVariants.{Node}
 use Rattle.td_tree.specs.Parts.{RowValue, Parts, nobody, row_at, state_at, table, tokens_of, tokens, doc_rows}
 use Rattle.td_tree.specs.Parts.{IsToken, open_item, atom_item, close_item, node_items, IsAt, IsTree}
-use Rattle.td_tree.specs.Places.{IsPlace, IsNewPlace, put_at, IsPut}
+use Rattle.td_tree.specs.Places.{IsPlace, IsNewPlace, IsPut}
 use Rattle.td_tree.proofs.Pieces.{open_is_token, close_is_token, live_is_token, node_items_tokens}
 use Rattle.td_tree.proofs.Pieces.{node_items_in, node_items_names, node_items_apart}
 use Rattle.td_tree.proofs.Grown.{put_parts, long, agree, old_tokens, new_tokens, grown_tree}

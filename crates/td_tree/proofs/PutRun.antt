@@ -15,7 +15,7 @@ use Rattle.td_doc.specs.Slots.{slot_path}
 use Rattle.td_doc.specs.Answers.{IsFresh, is_rooted}
 use Rattle.td_doc.specs.Insertion.{insert_run}
 use Rattle.td_doc.proofs.Rules.{unfound}
-use Rattle.td_list.specs.Items.{Item, AreApart}
+use Rattle.td_list.specs.Items.{Item, AreApart, put_at}
 use Rattle.td_brackets.specs.Brackets.{Token, Leaf, Entry, atom_of, numbers_of, slot_of, rows_of, IsBrackets}
 use Rattle.td_brackets.specs.Laws.{Standing, AllAfter}
 use Rattle.td_brackets.proofs.Kept.{same_standing}
@@ -24,7 +24,7 @@ use Rattle.td_tree.specs.declared.tree_row.RowState.TheVariants.{InArray}
 use Rattle.td_tree.specs.Parts.{RowValue, Parts, nobody, row_at, state_at, table, array_at, part}
 use Rattle.td_tree.specs.Parts.{row_of_array, tokens_of, tokens, doc_rows, IsPart, IsToken}
 use Rattle.td_tree.specs.Parts.{atom_item, leaf_item, Cut, OneLeaf, IsAt, IsTree}
-use Rattle.td_tree.specs.Places.{IsPlace, IsNewPlace, put_at, run_rows, top_id, IsRunPut}
+use Rattle.td_tree.specs.Places.{IsPlace, IsNewPlace, run_rows, top_id, IsRunPut}
 use Rattle.td_tree.proofs.ArrayParts.{part_length, part_place, part_halves}
 use Rattle.td_tree.proofs.ItemTokens.{leaf_token}
 use Rattle.td_tree.proofs.Pieces.{leaf_is_token}

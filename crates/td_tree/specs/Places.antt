@@ -11,7 +11,7 @@ use Rattle.td_path.specs.Infix.{path_cmp}
 use Rattle.td_path.specs.SlotPaths.{path_in}
 use Rattle.td_doc.specs.Document.{DocRow}
 use Rattle.td_doc.specs.Slots.{slot_path}
-use Rattle.td_list.specs.Items.{Item, first_name, put_before}
+use Rattle.td_list.specs.Items.{Item, first_name, put_at}
 use Rattle.td_brackets.specs.Brackets.{Level, Entry, move_all, slot_of, rows_of, rows_from}
 use Rattle.td_tree.specs.declared.tree_row.RowState.TheVariants.{Node, InArray}
 use Rattle.td_doc.specs.Answers.{is_rooted}
@@ -35,11 +35,6 @@ pub record IsNewPlace (p : Parts) (slot : Slot) (x : AtomIdValue) (at : Option �
   pub place : IsPlace p slot x at
   pub after : (q : DocRow) → In q (rows_from (table p) place.stack (tokens_of p place.back))
       → path_cmp (path_in (slot_of (table p) place.stack) x) q.path ≡ Less
-
--- the items with a piece before one of them, or at the end
-abbrev pub put_at : Option ℕ → List Item → List Item → List Item
-put_at None piece items = items ++ piece
-put_at (Some x) piece items = put_before x piece items
 
 -- a sibling with a smaller identity, and the last of its tokens
 abbrev pub IsSmaller : Parts → AtomIdValue → ℕ → ℕ → Type 0

@@ -1,18 +1,16 @@
 // New rows.
 ghost use Rattle.std.specs.Prelude.{◌≡◌, ◌<◌, ◌≤◌, ◌+◌, ◌^◌, ◌++◌, ◌∷◌, [], ℕ, length, map, vec_len, vec_capacity, IsNone, IfOk, OnOk, OnErr, Option};
-ghost use Rattle.std.specs.Option.{ForSome};
 ghost use Rattle.std.specs.List.{range_with_len};
 ghost use Rattle.td_base.specs.Run.{IsRun};
 ghost use Rattle.td_path.specs.declared.slot.Slot.{Slot};
 ghost use Rattle.td_doc.specs.Document.{find_row};
 ghost use Rattle.td_doc.specs.Answers.{IsFresh};
-ghost use Rattle.td_list.specs.Items.{IsItem, AreApart, AreNew, weight_of};
 ghost use Rattle.td_tree.specs.declared.kept_state.TheConstants.{MOST_ARRAYS};
 ghost use Rattle.td_tree.specs.declared.tree_row.RowState.TheVariants.{InArray};
 ghost use Rattle.td_tree.specs.KeptRows.{new_entries};
 ghost use Rattle.td_tree.specs.KeptState.{FitsKept};
 ghost use Rattle.td_tree.specs.Parts.{doc_rows, IsTree};
-ghost use Rattle.td_tree.specs.Places.{IsNewPlace, IsPut, IsRunPut, put_at, run_entries, top_id};
+ghost use Rattle.td_tree.specs.Places.{IsNewPlace, IsPut, IsRunPut, run_entries, top_id};
 
 use crate::flatten::push_array;
 use crate::item_of::{atom_item, close_item, open_item};
@@ -23,7 +21,7 @@ use crate::tokens::Tokens;
 use crate::tree_row::{Array, RowState, TreeRow};
 use std::alloc::Global;
 use td_base::{Atom, AtomId, Dot, Memory, Run};
-use td_list::{Item, List, Sequence, reserve_by_quarter};
+use td_list::{put_at, reserve_by_quarter};
 
 // So many rows have numbers.
 const MOST_ROWS: usize = 1 << 30;
@@ -40,7 +38,7 @@ impl Tokens {
         make_room(&mut self.rows, &mut self.states, 1)?;
         let atom = KeptAtom::of(self.alloc, atom)?;
         let row = self.rows.len() as u32;
-        put(
+        put_at(
             &mut self.list,
             at,
             &[open_item(row), atom_item(row, 1), close_item(row)],
@@ -66,7 +64,7 @@ impl Tokens {
         let first = self.rows.len() as u32;
         let numbers = numbers_from(self.alloc, first, count)?;
         let mut rows = rows_of_run(self.alloc, dot, run)?;
-        put(&mut self.list, at, &[atom_item(first + count / 2, count)])?;
+        put_at(&mut self.list, at, &[atom_item(first + count / 2, count)])?;
         self.rows.append(&mut rows);
         push_states(&mut self.states, self.arrays.len() as u32, count);
         push_array(&mut self.arrays, numbers);
@@ -160,19 +158,4 @@ fn push_state(states: &mut Vec<KeptState>, state: RowState)
     ensures long { vec_len states.new ≡ vec_len states.old + 1 }
 {
     states.push(KeptState::of(state)).unwrap();
-}
-
-// Puts a piece before an item, or at the end.
-fn put(list: &mut List, at: Option<u32>, piece: &[Item]) -> Result<(), Memory>
-    requires there { ForSome at (λ x. IsItem x list.old) }
-    requires apart { AreApart piece.now }
-    requires new { AreNew piece.now list.old }
-    requires light { weight_of list.old + weight_of piece.now < 2 ^ 31 }
-    ensures ok { OnOk result (list.new ≡ put_at at piece.now list.old) }
-    ensures err { OnErr result (list.new ≡ list.old) }
-{
-    match at {
-        Some(name) => list.insert_before(name, piece),
-        None => list.push(piece),
-    }
 }

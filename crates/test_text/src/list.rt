@@ -3,7 +3,7 @@ ghost use Rattle.std.specs.Prelude.{◌≡◌, ◌<◌, ◌^◌, ◌∷◌, [], 
 use std::alloc::Global;
 use std::process::Abort;
 use td_base::Memory;
-use td_list::{Chunked, Deferred, Item, Line, Sequence, Share, reserve_by_quarter};
+use td_list::{Buffered, Chunked, Deferred, Item, Line, Sequence, Share, reserve_by_quarter};
 
 #[test]
 fn a_list_in_a_line_answers(rt: HostRuntime) -> Result<(), Memory> {
@@ -20,6 +20,21 @@ fn a_list_in_chunks_answers(rt: HostRuntime) -> Result<(), Memory> {
 #[test]
 fn a_list_in_chunks_in_chunks_answers(rt: HostRuntime) -> Result<(), Memory> {
     in_chunks_answers::<Deferred<Chunked<Chunked<Line>>>>(&rt, rt.alloc())
+}
+
+#[test]
+fn a_list_that_gathers_what_is_typed_answers(rt: HostRuntime) -> Result<(), Memory> {
+    answers::<Buffered<Line>>(&rt, rt.alloc())?;
+    let alloc = rt.alloc();
+    let weights = [
+        typed_on(alloc)?,
+        waiting_replaced(alloc)?,
+        waiting_item_replaced(alloc)?,
+        end_removed(alloc)?,
+        waiting_renewed(alloc)?,
+    ];
+    assert_eq!(rt; weights, [9, 4, 10, 6, 8]);
+    Ok(())
 }
 
 #[test]
@@ -144,24 +159,95 @@ fn edited<S: Sequence>(alloc: Global) -> Result<u32, Memory> {
     Ok(list.weight())
 }
 
+// The list of 5, 3, 8 and 9 with the weights 2, 0, 4 and 1, of which 3 and 8 wait.
+fn waiting(alloc: Global) -> Result<Buffered<Line>, Memory>
+    ensures { IfOk result (λ list. list ≡ record { name = 5; weight = 2; marked = false }
+        ∷ record { name = 3; weight = 0; marked = false }
+        ∷ record { name = 8; weight = 4; marked = true }
+        ∷ record { name = 9; weight = 1; marked = true } ∷ []) }
+{
+    let mut list = Buffered::empty(alloc)?;
+    list.push(&[Item::new(5, 2, false), Item::new(9, 1, true)])?;
+    list.insert_before(9, &[Item::new(3, 0, false), Item::new(8, 4, true)])?;
+    Ok(list)
+}
+
+// Its weight after two more pieces were put before the last of what was put.
+fn typed_on(alloc: Global) -> Result<u32, Memory> {
+    let mut list = waiting(alloc)?;
+    list.insert_before(8, &[Item::new(4, 1, true), Item::new(6, 0, false)])?;
+    list.insert_before(6, &[Item::new(7, 1, true)])?;
+    Ok(list.weight())
+}
+
+// Its weight after 3 and 8 are replaced by a 4.
+fn waiting_replaced(alloc: Global) -> Result<u32, Memory> {
+    let mut list = waiting(alloc)?;
+    list.replace(3, Some(9), &[Item::new(4, 1, true)])?;
+    Ok(list.weight())
+}
+
+// Its weight after 8 is replaced by a 6.
+fn waiting_item_replaced(alloc: Global) -> Result<u32, Memory> {
+    let mut list = waiting(alloc)?;
+    list.replace_one(8, &[Item::new(6, 7, true)])?;
+    Ok(list.weight())
+}
+
+// Its weight after 9, before which it waits, and 3 went.
+fn end_removed(alloc: Global) -> Result<u32, Memory> {
+    let mut list = waiting(alloc)?;
+    list.remove(9);
+    list.remove(3);
+    Ok(list.weight())
+}
+
+// Its weight after 8 got the weight 5.
+fn waiting_renewed(alloc: Global) -> Result<u32, Memory> {
+    let mut list = waiting(alloc)?;
+    list.renew(Item::new(8, 5, true));
+    Ok(list.weight())
+}
+
 #[test]
 fn items_are_put_at_three_places_by_turns(rt: HostRuntime) -> Result<(), Memory> {
-    assert_eq!(rt; by_turns(rt.alloc(), 600)?.weight(), 600);
+    assert_eq!(rt; by_turns::<Chunked<Line>>(rt.alloc(), 600, 1)?.weight(), 600);
     Ok(())
 }
 
-// The list of 0, 1 and 2 in which each number from 3 up to an end was put directly before its rest by three.
-fn by_turns(alloc: Global, end: u32) -> Result<Chunked<Line>, Memory>
-    requires { end < 2 ^ 31 }
+// Each run is longer than what waits at most.
+#[test]
+fn items_are_put_before_one_another_in_runs(rt: HostRuntime) -> Result<(), Memory> {
+    assert_eq!(rt; by_turns::<Buffered<Line>>(rt.alloc(), 600, 100)?.weight(), 600);
+    Ok(())
+}
+
+// The list of 0, 1 and 2 in which each number from 3 up to an end was put directly before the one before it, but at
+// the end of each run before its rest by three.
+fn by_turns<S: Sequence>(alloc: Global, end: u32, run: u32) -> Result<S, Memory>
+    requires end { end < 2 ^ 31 }
+    requires run { 0 < run }
 {
-    let mut list = Chunked::empty(alloc)?;
+    let mut list = S::empty(alloc)?;
     list.push(&[
         Item::new(0, 1, false),
         Item::new(1, 1, false),
         Item::new(2, 1, false),
     ])?;
     for name in 3..end {
-        list.insert_before(name % 3, &[Item::new(name, 1, false)])?;
+        list.insert_before(
+            goes_before(name, run),
+            &[Item::new(name, 1, false)],
+        )?;
     }
     Ok(list)
+}
+
+// Before which number another is put.
+fn goes_before(name: u32, run: u32) -> u32
+    requires name { 2 < name }
+    requires run { 0 < run }
+    ensures { result < name }
+{
+    if name % run == 0 { name % 3 } else { name - 1 }
 }

@@ -1,10 +1,10 @@
 use Rattle.std.proofs.Common.{◌≡◌, ◌∙◌, ◌+◌, ◌++◌, ◌∷◌, ℕ, List, [], length, ap, sym, subst, arith}
-use Rattle.td_list.specs.Items.{Item, IsItem, AreNew, AreApart}
+use Rattle.td_list.specs.Items.{Item, IsItem, AreNew, AreApart, put_at}
 use Rattle.td_brackets.specs.Brackets.{Entry}
 use Rattle.td_tree.specs.declared.tree_row.RowState.{RowState}
 use Rattle.td_tree.specs.declared.tree_row.RowState.TheVariants.{Node}
 use Rattle.td_tree.specs.Parts.{Parts, rows_with, open_item, atom_item, close_item, node_items}
-use Rattle.td_tree.specs.Places.{IsPut, put_at}
+use Rattle.td_tree.specs.Places.{IsPut}
 use Rattle.td_tree.proofs.Columns.{rows_long, rows_more}
 use Rattle.td_tree.proofs.Opening.{more_nodes}
 use Rattle.td_tree.proofs.PutRow.{place_there, piece_names, piece_apart, piece_new, is_put}
@@ -37,20 +37,20 @@ piece c =
       list = sym (ap (λ (p : Parts). p.items) c.self.view_is);
     }
 
-pub put-requires-clause-there : goal.put-requires-clause-there
-put-requires-clause-there c = λ x e.
-    let k = piece (goal.at.put-requires-clause-there c).After-close_item in
+pub put_at-requires-clause-there : goal.put_at-requires-clause-there
+put_at-requires-clause-there c = λ x e.
+    let k = piece (goal.at.put_at-requires-clause-there c).After-close_item in
     subst (IsItem x) k.list (place_there c.args.self.now c.requires.place.0 c.args.id c.args.at
     c.requires.place.1.place x e)
 
-pub put-requires-clause-apart : goal.put-requires-clause-apart
-put-requires-clause-apart c =
-    let k = piece (goal.at.put-requires-clause-apart c).After-close_item in
+pub put_at-requires-clause-apart : goal.put_at-requires-clause-apart
+put_at-requires-clause-apart c =
+    let k = piece (goal.at.put_at-requires-clause-apart c).After-close_item in
     subst AreApart k.items (piece_apart (length c.args.self.now.rows))
 
-pub put-requires-clause-new : goal.put-requires-clause-new
-put-requires-clause-new c =
-    let k = piece (goal.at.put-requires-clause-new c).After-close_item in
+pub put_at-requires-clause-new : goal.put_at-requires-clause-new
+put_at-requires-clause-new c =
+    let k = piece (goal.at.put_at-requires-clause-new c).After-close_item in
     let p : Parts = c.args.self.now in
     subst (λ (x : List Item × List Item). AreNew x.0 x.1) (λ i. (k.items i, k.list i))
     (piece_new p c.requires.tree (node_items (length p.rows) [] [])
@@ -73,7 +73,8 @@ pub returns-clause-ok : goal.returns-clause-ok
 returns-clause-ok c =
     let k = piece (goal.at.returns-clause-ok c).After-close_item in
     let p : Parts = c.args.self.now in
-    let items : c.put.new.list ≡ put_at c.args.at (node_items (length p.rows) [] []) p.items = c.in_ok-put.ensures.ok
+    let items : c.put_at.new.list ≡ put_at c.args.at (node_items (length p.rows) [] []) p.items =
+    c.in_ok-put_at.ensures.ok
     ∙ (λ i. put_at c.args.at (sym k.items i) (sym k.list i)) in
     let entry : Entry = record { id = c.args.id; atom = c.args.atom.now; deletes = [] } in
     let entries : c.push.new.self.entries ≡ c.self.inside.rows.entries ++ entry ∷ [] =

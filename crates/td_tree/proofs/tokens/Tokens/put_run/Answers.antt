@@ -2,13 +2,13 @@ use Rattle.std.proofs.Common.{◌≡◌, ◌∙◌, ◌+◌, ◌*◌, ◌/◌, �
 use Rattle.std.proofs.Common.{ap, sym, subst, ⊎_elim, arith, length-append}
 use Rattle.std.specs.List.{range_with_len}
 use Rattle.std.proofs.lemmas.List.FromFn.{length-map-range_with_len}
-use Rattle.td_list.specs.Items.{Item, IsItem}
+use Rattle.td_list.specs.Items.{Item, IsItem, put_at}
 use Rattle.td_brackets.specs.Brackets.{Entry}
 use Rattle.td_tree.specs.declared.tree_row.RowState.{RowState}
 use Rattle.td_tree.specs.declared.tree_row.RowState.TheVariants.{InArray}
 use Rattle.td_tree.specs.KeptRows.{new_entries}
 use Rattle.td_tree.specs.Parts.{Parts, rows_with, atom_item}
-use Rattle.td_tree.specs.Places.{IsRunPut, put_at, run_rows, run_entries, top_id}
+use Rattle.td_tree.specs.Places.{IsRunPut, run_rows, run_entries, top_id}
 use Rattle.td_tree.proofs.Columns.{rows_long, rows_more, run_columns, entries_long}
 use Rattle.td_tree.proofs.KeptRows.{news_long}
 use Rattle.td_tree.proofs.PutRow.{place_there, piece_new}
@@ -39,15 +39,15 @@ piece c =
       list = sym (ap (λ (p : Parts). p.items) c.self.view_is);
     }
 
-pub put-requires-clause-there : goal.put-requires-clause-there
-put-requires-clause-there c = λ x e.
-    let k = piece (goal.at.put-requires-clause-there c).After-atom_item in
+pub put_at-requires-clause-there : goal.put_at-requires-clause-there
+put_at-requires-clause-there c = λ x e.
+    let k = piece (goal.at.put_at-requires-clause-there c).After-atom_item in
     subst (IsItem x) k.list (place_there c.args.self.now c.requires.place.0 (top_id c.args.dot c.args.run.now)
     c.args.at c.requires.place.1.place x e)
 
-pub put-requires-clause-new : goal.put-requires-clause-new
-put-requires-clause-new c = λ x i m.
-    let k = piece (goal.at.put-requires-clause-new c).After-atom_item in
+pub put_at-requires-clause-new : goal.put_at-requires-clause-new
+put_at-requires-clause-new c = λ x i m.
+    let k = piece (goal.at.put_at-requires-clause-new c).After-atom_item in
     let p : Parts = c.args.self.now in
     let n : ℕ = length p.rows in
     let name : c.atom_item.result.name ≡ 3 * (n + length c.args.run.now / 2) + 1 = ap (λ (y : Item). y.name) k.item in
@@ -89,7 +89,7 @@ returns-clause-ok c =
     ∙ ap (λ (q : Parts). q.arrays) c.self.view_is in
     let array_is : c.len-2.result ≡ length p.arrays = c.len-2.ensures ∙ c.make_array_room.new.arrays.ok.0
     ∙ ap (λ (xs : List (List ℕ)). length xs) arrays_same in
-    let items : c.put.new.list ≡ put_at c.args.at (atom_item (n + j / 2) j ∷ []) p.items = c.in_ok-put.ensures.ok
+    let items : c.put_at.new.list ≡ put_at c.args.at (atom_item (n + j / 2) j ∷ []) p.items = c.in_ok-put_at.ensures.ok
     ∙ (λ i. put_at c.args.at (k.item i ∷ []) (sym k.list i)) in
     let entries : c.append.new.self.entries ≡ c.self.inside.rows.entries
     ++ run_entries c.args.dot 0 run = c.append.ensures
