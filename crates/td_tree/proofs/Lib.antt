@@ -1,5 +1,6 @@
 pub mod Columns
 pub mod KeptRows
+pub mod PlacedAtoms
 pub mod ArrayParts
 pub mod ItemTokens
 pub mod Cuts

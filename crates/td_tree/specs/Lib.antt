@@ -8,6 +8,7 @@ pub mod Stretches
 pub mod Nodes
 pub mod Ways
 pub mod KeptAtom
+pub mod RowAtom
 pub mod KeptState
 pub mod KeptRows
 pub mod Deletes

@@ -8,24 +8,26 @@ use std::marker::Model;
 use td_base::{Dot, Site};
 use td_clock::Vector;
 
-/// The dot of a delete, or none, in 4 bytes. Contracts see which.
+/// The dot of a delete, or none, in 3 bytes. Contracts see which.
 #[derive(Debug, Drop)]
 pub struct FirstDelete {
-    seq: u16,
     // 0 where there is none
     site: u8,
+    // the lowest byte first; as one number it would leave a gap behind it
+    seq: [u8; 2],
 }
 
 impl Model for FirstDelete {
     ghost use Rattle.std.specs.Prelude.{Option};
+    ghost use Rattle.std.specs.Int.{w16, from_le_bytes};
     ghost use Rattle.td_base.specs.Value.{DotValue};
     ghost use Rattle.td_tree.specs.Deletes.{first_dot, IsFirst};
 
     ghost Value = { Option DotValue };
 
-    ghost view = { λ d. first_dot d.site d.seq };
+    ghost view = { λ d. first_dot d.site (from_le_bytes w16 d.seq) };
 
-    ghost invariant = { λ d. IsFirst d.site d.seq };
+    ghost invariant = { λ d. IsFirst d.site (from_le_bytes w16 d.seq) };
 }
 
 impl FirstDelete {
@@ -33,7 +35,10 @@ impl FirstDelete {
     pub fn none() -> FirstDelete
         ensures { result ≡ None }
     {
-        FirstDelete { seq: 0, site: 0 }
+        FirstDelete {
+            site: 0,
+            seq: [0; 2],
+        }
     }
 
     /// The dot, kept.
@@ -41,8 +46,8 @@ impl FirstDelete {
         ensures { result ≡ Some dot }
     {
         FirstDelete {
-            seq: dot.seq as u16,
             site: dot.site.number(),
+            seq: (dot.seq as u16).to_le_bytes(),
         }
     }
 
@@ -53,7 +58,7 @@ impl FirstDelete {
         let site = Site::new(self.site)?;
         Some(Dot {
             site,
-            seq: u32::from(self.seq),
+            seq: u32::from(u16::from_le_bytes(self.seq)),
         })
     }
 

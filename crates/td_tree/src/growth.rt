@@ -7,7 +7,6 @@ ghost use Rattle.td_doc.specs.Document.{find_row};
 ghost use Rattle.td_doc.specs.Answers.{IsFresh};
 ghost use Rattle.td_tree.specs.declared.kept_state.TheConstants.{MOST_ARRAYS};
 ghost use Rattle.td_tree.specs.declared.tree_row.RowState.TheVariants.{InArray};
-ghost use Rattle.td_tree.specs.KeptRows.{new_entries};
 ghost use Rattle.td_tree.specs.KeptState.{FitsKept};
 ghost use Rattle.td_tree.specs.Parts.{doc_rows, IsTree};
 ghost use Rattle.td_tree.specs.Places.{IsNewPlace, IsPut, IsRunPut, run_entries, top_id};
@@ -17,8 +16,9 @@ use crate::item_of::{atom_item, close_item, open_item};
 use crate::kept_atom::KeptAtom;
 use crate::kept_rows::KeptRows;
 use crate::kept_state::{KeptState, MOST_ARRAYS};
+use crate::new_rows::NewRows;
 use crate::tokens::Tokens;
-use crate::tree_row::{Array, RowState, TreeRow};
+use crate::tree_row::{Array, RowState};
 use std::alloc::Global;
 use td_base::{Atom, AtomId, Dot, Memory, Run};
 use td_list::{put_at, reserve_by_quarter};
@@ -63,9 +63,9 @@ impl Tokens {
         make_array_room(&mut self.arrays)?;
         let first = self.rows.len() as u32;
         let numbers = numbers_from(self.alloc, first, count)?;
-        let mut rows = rows_of_run(self.alloc, dot, run)?;
+        let rows = rows_of_run(self.alloc, &self.rows, dot, run)?;
         put_at(&mut self.list, at, &[atom_item(first + count / 2, count)])?;
-        self.rows.append(&mut rows);
+        self.rows.append(rows);
         push_states(&mut self.states, self.arrays.len() as u32, count);
         push_array(&mut self.arrays, numbers);
         self.count += count;
@@ -109,33 +109,23 @@ fn numbers_from(alloc: Global, first: u32, count: u32) -> Result<Vec<u32>, Memor
     Ok((first..first + count).collect::<Vec<u32>>(alloc)?)
 }
 
-// The rows of an insert's run.
-fn rows_of_run(alloc: Global, dot: Dot, run: &Run) -> Result<Vec<TreeRow>, Memory>
-    requires { IsRun run.now }
-    ensures { IfOk result (λ rows. new_entries rows.items ≡ run_entries dot 0 run.now) }
+// The rows of an insert's run, which are to come behind others.
+fn rows_of_run(alloc: Global, rows: &KeptRows, dot: Dot, run: &Run) -> Result<NewRows, Memory>
+    requires run { IsRun run.now }
+    requires room { length run.now ≤ rows.now.room }
+    ensures rows { IfOk result (λ more. more.entries ≡ run_entries dot 0 run.now) }
+    ensures first { IfOk result (λ more. more.first ≡ rows.now.long) }
 {
-    let mut rows = Vec::new(alloc);
-    rows.reserve(run.len() as usize)?;
+    let mut more = rows.to_come(alloc, run.len() as usize)?;
     for (offset, atom) in run.iter().enumerate() {
         let id = AtomId {
             dot,
             offset: offset as u8,
         };
         let atom = KeptAtom::of(alloc, &atom)?;
-        push_row(&mut rows, id, atom);
+        more.push(id, atom);
     }
-    Ok(rows)
-}
-
-// Adds a live row, in the room that there is.
-fn push_row(rows: &mut Vec<TreeRow>, id: AtomId, atom: KeptAtom)
-    requires { vec_len rows.old < vec_capacity rows.old }
-    ensures row { new_entries rows.new.items
-        ≡ new_entries rows.old.items ++ record { id = id; atom = atom; deletes = [] } ∷ [] }
-    ensures room { vec_capacity rows.old ≤ vec_capacity rows.new }
-    ensures long { vec_len rows.new ≡ vec_len rows.old + 1 }
-{
-    rows.push(TreeRow::new(id, atom)).unwrap();
+    Ok(more)
 }
 
 // Adds the states of the rows of an array, in the room that there is.

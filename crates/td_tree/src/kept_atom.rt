@@ -1,7 +1,11 @@
-// The atom of a row, in little room.
-ghost use Rattle.std.specs.Prelude.{◌≡◌, IfOk};
+// An atom, in little room.
+ghost use Rattle.std.specs.Prelude.{◌≡◌, ◌≤◌, length, IfOk};
+ghost use Rattle.std.specs.Option.{SomeIff};
 ghost use Rattle.td_base.specs.Atom.{IsAtom};
+ghost use Rattle.td_tree.specs.declared.row_atom.TheConstants.{IN_ROW};
+ghost use Rattle.td_tree.specs.RowAtom.{InRow};
 
+use crate::row_atom::{IN_ROW, RowAtom};
 use std::alloc::Global;
 use std::marker::Model;
 use td_base::{Atom, Memory};
@@ -60,10 +64,17 @@ impl KeptAtom {
         }
     }
 
-    /// The atom that it is.
-    pub fn atom(&self) -> Atom
-        ensures { result ≡ self.now }
+    /// The same kept in a row, where it is short enough.
+    pub fn in_row(&self) -> Option<RowAtom>
+        ensures { SomeIff result (length self.now ≤ IN_ROW) (InRow self.now) }
     {
-        Atom::of(self.bytes())
+        match &self.kept {
+            Kept::Short { len, bytes } if *len as usize <= IN_ROW => {
+                let mut front = [0; IN_ROW];
+                front.copy_from_slice(&bytes[..IN_ROW]);
+                Some(RowAtom::in_row(*len, front))
+            }
+            _ => None,
+        }
     }
 }

@@ -1,15 +1,18 @@
 // The rows of a tree by number, in little room.
-ghost use Rattle.std.specs.Prelude.{◌≡◌, ◌<◌, ◌≤◌, ◌+◌, ◌++◌, ◌∷◌, [], ℕ, length, set, get_or, slice_get, OnOk, OnErr, Some, None};
+ghost use Rattle.std.specs.Prelude.{◌≡◌, ◌<◌, ◌≤◌, ◌+◌, ◌++◌, ◌∷◌, [], ℕ, length, set, get_or, slice_get, IfOk, OnOk, OnErr, Some, None};
 ghost use Rattle.std.specs.List.{list_all};
+ghost use Rattle.td_base.specs.Atom.{IsAtom};
 ghost use Rattle.td_clock.specs.Vector.{vector_has};
 ghost use Rattle.td_doc.specs.Deletion.{add_dot};
 ghost use Rattle.td_tree.specs.Deletes.{first_dots};
-ghost use Rattle.td_tree.specs.KeptRows.{several_at, deletes_of, new_entries};
+ghost use Rattle.td_tree.specs.KeptRows.{several_at, deletes_of};
 ghost use Rattle.td_tree.specs.Parts.{nobody};
 
 use crate::deletes::Deletes;
 use crate::first_delete::FirstDelete;
 use crate::kept_atom::KeptAtom;
+use crate::new_rows::NewRows;
+use crate::row_atom::{MOST_LONG, RowAtom};
 use crate::tree_row::TreeRow;
 use std::alloc::Global;
 use std::collections::BTreeMap;
@@ -18,27 +21,33 @@ use td_base::{AtomId, Dot, Memory};
 use td_clock::Vector;
 use td_list::reserve_by_quarter;
 
-/// Rows by number, in 24 bytes each: most are deleted once at most, and the deletes of the others are kept beside them.
-/// Contracts see each row with its deletes, and for how many more there is room.
+/// Rows by number, in 12 bytes each: most have a short atom and are deleted once at most, and longer atoms and the
+/// deletes of the others are kept beside them. Contracts see each row with its atom and deletes, and for how many more
+/// there is room, whatever their atoms are.
 #[derive(Drop)]
 pub struct KeptRows {
     rows: Vec<TreeRow>,
+    // the atoms that are too long for their rows, by number
+    long: Vec<KeptAtom>,
     // all deletes of the rows that more than one named, by the number of the row
     several: BTreeMap<u32, Deletes>,
 }
 
 impl Model for KeptRows {
-    ghost use Rattle.std.specs.Prelude.{◌-◌, length, vec_capacity};
-    ghost use Rattle.td_tree.specs.KeptRows.{Column, several_at, entries_from, AreNoneFrom};
+    ghost use Rattle.std.specs.Prelude.{◌-◌, length, min, vec_capacity};
+    ghost use Rattle.td_tree.specs.KeptRows.{Column, several_at, entries_from, IsColumn};
+    ghost use Rattle.td_tree.specs.declared.row_atom.TheConstants.{MOST_LONG};
 
     ghost Value = { Column };
 
     ghost view = { λ k. record {
-      entries = entries_from (several_at k.several) 0 k.rows.items;
-      room = vec_capacity k.rows - length k.rows.items;
+      entries = entries_from 0 k.long.items (several_at k.several) 0 k.rows.items;
+      long = length k.long.items;
+      room = min (vec_capacity k.rows - length k.rows.items)
+          (min (vec_capacity k.long) MOST_LONG - length k.long.items);
     } };
 
-    ghost invariant = { λ k. AreNoneFrom (length k.rows.items) (several_at k.several) };
+    ghost invariant = { λ k. IsColumn 0 k.rows.items k.long.items (several_at k.several) };
 }
 
 impl KeptRows {
@@ -48,6 +57,7 @@ impl KeptRows {
     {
         KeptRows {
             rows: Vec::new(alloc),
+            long: Vec::new(alloc),
             several: BTreeMap::new(alloc),
         }
     }
@@ -67,12 +77,13 @@ impl KeptRows {
         self.rows[row as usize].id.id()
     }
 
-    /// The atom of a row.
-    pub fn atom(&self, row: u32) -> &KeptAtom
+    /// The bytes of the atom of a row.
+    pub fn atom_bytes(&self, row: u32) -> &[u8]
         requires { row < length self.now.entries }
-        ensures { result.now ≡ (get_or self.now.entries row nobody.entry).atom }
+        ensures bytes { result.now ≡ (get_or self.now.entries row nobody.entry).atom }
+        ensures atom { IsAtom result.now }
     {
-        &self.rows[row as usize].atom
+        self.rows[row as usize].atom.bytes(&self.long)
     }
 
     /// How many deletes named a row.
@@ -120,7 +131,11 @@ impl KeptRows {
         ensures entries { self.new.entries ≡ self.old.entries }
         ensures room { OnOk result (count ≤ self.new.room) }
     {
-        reserve_by_quarter(&mut self.rows, count)
+        if count > MOST_LONG - self.long.len() {
+            return Err(Memory);
+        }
+        reserve_by_quarter(&mut self.rows, count)?;
+        reserve_by_quarter(&mut self.long, count)
     }
 
     /// Adds a live row, in the room that there is.
@@ -130,15 +145,28 @@ impl KeptRows {
             ≡ self.old.entries ++ record { id = id; atom = atom; deletes = [] } ∷ [] }
         ensures long { length self.new.entries ≡ length self.old.entries + 1 }
     {
+        let atom = RowAtom::placed(0, &mut self.long, atom);
         self.rows.push(TreeRow::new(id, atom)).unwrap();
     }
 
-    /// Adds live rows, in the room that there is.
-    pub fn append(&mut self, more: &mut Vec<TreeRow>)
-        requires { length more.old.items ≤ self.old.room }
-        ensures { self.new.entries ≡ self.old.entries ++ new_entries more.old.items }
+    /// Rows that are to come behind them, none as yet, and room for so many.
+    pub fn to_come(&self, alloc: Global, count: usize) -> Result<NewRows, Memory>
+        requires { count ≤ self.now.room }
+        ensures rows { IfOk result (λ new. new.entries ≡ []) }
+        ensures first { IfOk result (λ new. new.first ≡ self.now.long) }
+        ensures room { IfOk result (λ new. count ≤ new.room) }
     {
-        self.rows.append(more).unwrap();
+        NewRows::new(alloc, self.long.len() as u32, count)
+    }
+
+    /// Adds rows that were to come behind them, in the room that there is.
+    pub fn append(&mut self, mut more: NewRows)
+        requires first { more.first ≡ self.old.long }
+        requires room { length more.entries ≤ self.old.room }
+        ensures { self.new.entries ≡ self.old.entries ++ more.entries }
+    {
+        self.rows.append(&mut more.rows).unwrap();
+        self.long.append(&mut more.long).unwrap();
     }
 }
 

@@ -90,6 +90,6 @@ impl Tokens {
         ensures ok { OnOk result (text.new ≡ text.old ++ (table self.now row).atom) }
         ensures front { (more : List ℕ) × (text.new ≡ text.old ++ more) }
     {
-        text.push(self.kept_atom(row).bytes())
+        text.push(self.atom_bytes(row))
     }
 }

@@ -1,11 +1,11 @@
 // The tokens of a document, with the rows and arrays that they stand for.
 ghost use Rattle.std.specs.Prelude.{◌≡◌, ◌<◌, ◌≤◌, ◌^◌, [], length, slice_get, IfOk};
 ghost use Rattle.std.specs.List.{list_all};
+ghost use Rattle.td_base.specs.Atom.{IsAtom};
 ghost use Rattle.td_clock.specs.Vector.{vector_has};
 ghost use Rattle.td_list.specs.Items.{IsItem, items_after, first_name};
 ghost use Rattle.td_tree.specs.Parts.{state_at, table, doc_rows, nodes_of, tokens, IsTree};
 
-use crate::kept_atom::KeptAtom;
 use crate::kept_rows::KeptRows;
 use crate::kept_state::KeptState;
 use crate::tree_row::{Array, RowState};
@@ -84,12 +84,13 @@ impl Tokens {
         self.rows.id(row)
     }
 
-    /// The atom of a row.
-    pub fn kept_atom(&self, row: u32) -> &KeptAtom
+    /// The bytes of the atom of a row.
+    pub fn atom_bytes(&self, row: u32) -> &[u8]
         requires { row < length self.now.rows }
-        ensures { result.now ≡ (table self.now row).atom }
+        ensures bytes { result.now ≡ (table self.now row).atom }
+        ensures atom { IsAtom result.now }
     {
-        self.rows.atom(row)
+        self.rows.atom_bytes(row)
     }
 
     /// How many deletes named a row.

@@ -42,7 +42,7 @@ impl Tokens {
         requires { row < length self.now.rows }
         ensures { result ≡ (table self.now row).atom }
     {
-        self.kept_atom(row).atom()
+        Atom::of(self.atom_bytes(row))
     }
 
     /// The number of live rows before a row.

@@ -3,8 +3,8 @@ ghost use Rattle.std.specs.Prelude.{◌≡◌, ◌<◌, length, set, None};
 ghost use Rattle.td_tree.specs.KeptState.{FitsKept};
 
 use crate::first_delete::FirstDelete;
-use crate::kept_atom::KeptAtom;
 use crate::kept_state::KeptState;
+use crate::row_atom::RowAtom;
 use std::marker::Model;
 use td_base::AtomId;
 use td_store::CompactId;
@@ -22,12 +22,14 @@ pub enum RowState {
 pub struct TreeRow {
     pub id: CompactId,
     pub deleted: FirstDelete,
-    pub atom: KeptAtom,
+    pub atom: RowAtom,
 }
+
+const _: () = prove!(size_of::<TreeRow>() == 12);
 
 impl TreeRow {
     /// A row that no delete named.
-    pub fn new(id: AtomId, atom: KeptAtom) -> TreeRow
+    pub fn new(id: AtomId, atom: RowAtom) -> TreeRow
         ensures { result ≡ record { id = id; deleted = None; atom = atom } }
     {
         TreeRow {

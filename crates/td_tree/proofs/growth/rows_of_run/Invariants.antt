@@ -1,6 +1,4 @@
 use Rattle.std.proofs.Common.{◌≡◌, ◌+◌, ◌≤◌, ◌++◌, length}
-use Rattle.std.specs.Prelude.{vec_len, vec_capacity}
-use Rattle.td_tree.specs.KeptRows.{new_entries}
 use Rattle.td_tree.specs.Places.{run_entries}
 use Rattle.td_tree.proofs.growth.rows_of_run.Given as goal
 
@@ -10,6 +8,7 @@ invariant-loop-offset l = record {
   can : (goal.iterator-loop-offset).can_next l.atom-iterator;
   ends : (goal.iterator-loop-offset).is_finite l.atom-iterator;
   place : l.offset + length l.atom-iterator ≡ length l.run;
-  room : vec_len l.rows + length l.atom-iterator ≤ vec_capacity l.rows;
-  there : new_entries l.rows.items ++ run_entries l.dot l.offset l.atom-iterator ≡ run_entries l.dot 0 l.run;
+  room : length l.atom-iterator ≤ l.more.room;
+  first : l.more.first ≡ l.rows.long;
+  there : l.more.entries ++ run_entries l.dot l.offset l.atom-iterator ≡ run_entries l.dot 0 l.run;
 }

@@ -18,8 +18,11 @@ again c = front_again c.args.atom.now c.copy_from_slice.new.self
     (c.copy_from_slice.ensures.after ∙ ap (take SHORT) c.padded.ensures)
 
 pub invariant_of-result-2 : goal.invariant_of-result-2
-invariant_of-result-2 c = rw c.bytes-len.ensures.bytes
-    (rw c.bytes-len.ensures.bytes at c.if-len-gt-SHORT.false, rw (again c) c.bytes-len.ensures.atom)
+invariant_of-result-2 c = rw c.bytes-len.ensures.bytes (
+  rw c.bytes-len.ensures.bytes at c.if-len-gt-SHORT.false,
+  rw (again c) c.bytes-len.ensures.atom,
+  ap (λ (xs : List ℕ). length xs) (again c),
+)
 
 pub returns : goal.returns
 returns c = rw c.bytes-len.ensures.bytes (again c)

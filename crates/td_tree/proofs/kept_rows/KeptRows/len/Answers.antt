@@ -6,5 +6,5 @@ use Rattle.td_tree.proofs.kept_rows.KeptRows.len.Goals as goal
 pub returns : goal.returns
 returns c =
     c.len.ensures ∙ c.self.inside.rows.ok.0
-    ∙ sym (entries_long (several_at c.self.inside.several) 0 c.self.inside.rows.items)
+    ∙ sym (entries_long 0 c.self.inside.long.items (several_at c.self.inside.several) 0 c.self.inside.rows.items)
     ∙ ap (λ (k : Column). length k.entries) c.self.view_is

@@ -6,11 +6,9 @@ use Rattle.td_list.specs.Items.{Item, IsItem, put_at}
 use Rattle.td_brackets.specs.Brackets.{Entry}
 use Rattle.td_tree.specs.declared.tree_row.RowState.{RowState}
 use Rattle.td_tree.specs.declared.tree_row.RowState.TheVariants.{InArray}
-use Rattle.td_tree.specs.KeptRows.{new_entries}
 use Rattle.td_tree.specs.Parts.{Parts, rows_with, atom_item}
 use Rattle.td_tree.specs.Places.{IsRunPut, run_rows, run_entries, top_id}
 use Rattle.td_tree.proofs.Columns.{rows_long, rows_more, run_columns, entries_long}
-use Rattle.td_tree.proofs.KeptRows.{news_long}
 use Rattle.td_tree.proofs.PutRow.{place_there, piece_new}
 use Rattle.td_tree.proofs.PutRun.{is_run_put}
 use Rattle.td_tree.proofs.tokens.Tokens.put_run.Goals as goal
@@ -56,19 +54,24 @@ put_at-requires-clause-new c = λ x i m.
     (λ y o. ⊎_elim (λ (e : y ≡ c.atom_item.result.name). omega arith) (λ (z : ⊥). absurd z) o) x i
     (subst (IsItem x) (sym k.list) m)
 
-pub append-requires : goal.append-requires
-append-requires c =
-    let long = ap (λ (xs : List Entry). length xs) c.in_ok-rows.ensures ∙ entries_long c.args.dot 0 c.args.run.now in
-    let kept = news_long c.in_ok-rows.rows.items in
+pub rows_of_run-requires-clause-room : goal.rows_of_run-requires-clause-room
+rows_of_run-requires-clause-room c =
+    let count = c.from-count.ensures ∙ c.len.ensures.len in
+    omega (arith, c.in_ok-make_room.ensures.room)
+
+pub append-requires-clause-room : goal.append-requires-clause-room
+append-requires-clause-room c =
+    let long = ap (λ (xs : List Entry). length xs) c.in_ok-rows.ensures.rows
+    ∙ entries_long c.args.dot 0 c.args.run.now in
     let count = c.from-count.ensures ∙ c.len.ensures.len in
     omega (arith, c.in_ok-make_room.ensures.room)
 
 pub invariant_of-self-2 : goal.invariant_of-self-2
 invariant_of-self-2 c =
     let entries = ap (λ (xs : List Entry). length xs) c.append.ensures
-    ∙ length-append c.make_room.new.rows.entries (new_entries c.in_ok-rows.rows.items) in
+    ∙ length-append c.make_room.new.rows.entries c.in_ok-rows.rows.entries in
     let entries_kept = ap (λ (xs : List Entry). length xs) c.make_room.ensures.rows in
-    let entries_more = ap (λ (xs : List Entry). length xs) c.in_ok-rows.ensures
+    let entries_more = ap (λ (xs : List Entry). length xs) c.in_ok-rows.ensures.rows
     ∙ entries_long c.args.dot 0 c.args.run.now in
     let more : List RowState = map (InArray c.len-2.result) (range_with_len 0 c.from-count.result) in
     let states = ap (λ (xs : List RowState). length xs) c.push_states.ensures
@@ -93,7 +96,7 @@ returns-clause-ok c =
     ∙ (λ i. put_at c.args.at (k.item i ∷ []) (sym k.list i)) in
     let entries : c.append.new.self.entries ≡ c.self.inside.rows.entries
     ++ run_entries c.args.dot 0 run = c.append.ensures
-    ∙ (λ i. c.make_room.ensures.rows i ++ c.in_ok-rows.ensures i) in
+    ∙ (λ i. c.make_room.ensures.rows i ++ c.in_ok-rows.ensures.rows i) in
     let more : List RowState = map (InArray (length p.arrays)) (range_with_len 0 j) in
     let states : c.push_states.new.states.items ≡ c.self.inside.states.items ++ more =
     c.push_states.ensures ∙ (λ i. c.make_room.ensures.states i
