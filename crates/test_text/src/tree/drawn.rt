@@ -38,16 +38,39 @@ fn apply<D: Doc>(doc: &mut D, edit: &Edit) -> Result<(), DocFault>
     }
 }
 
-fn run_of(draw: u32) -> Result<Run, Fail> {
-    let atoms = [
+// Atoms of 1, 15, 2, 4, 3, 14 and 5 bytes.
+fn atoms() -> Result<[Atom; 7], Fail> {
+    Ok([
         letter("a")?,
+        letter("fifteen bytes..")?,
+        letter("é")?,
+        letter("😀")?,
+        letter("€")?,
+        letter("fourteen bytes")?,
+        letter("e\u{301}\u{323}")?,
+    ])
+}
+
+// Atoms of 63 bytes and of 1.
+fn longest() -> Result<[Atom; 2], Fail> {
+    Ok([
+        letter("sixty-three bytes, sixty-three bytes, sixty-three bytes, bytes.")?,
         letter("b")?,
-        letter("c")?,
-        letter("d")?,
-        letter("e")?,
-    ];
-    let count = (draw % 5 + 1) as usize;
-    match Run::new(&atoms[..count]) {
+    ])
+}
+
+// Atoms of all lengths, alone and together.
+fn run_of(draw: u32) -> Result<Run, Fail> {
+    let longest = longest()?;
+    let atoms = atoms()?;
+    let k = (draw % 7) as usize;
+    let run = match draw / 8 % 8 {
+        0 => Ok(Run::one(longest[0])),
+        1 => Run::new(&longest),
+        2 | 3 => Ok(Run::one(atoms[k])),
+        _ => Run::new(&atoms[..k + 1]),
+    };
+    match run {
         Ok(run) => Ok(run),
         Err(_) => Err(Fail::from("a run")),
     }
