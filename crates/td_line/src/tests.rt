@@ -1,4 +1,5 @@
-ghost use Rattle.std.specs.Prelude.{◌≡◌, ◌≤◌, Some, None, IfOk, IsTrue};
+ghost use Rattle.std.specs.Prelude.{◌≡◌, ◌≤◌, [], ◌∷◌, Some, None, IfOk, IsTrue};
+ghost use Rattle.td_view.specs.Publishes.{start};
 
 use super::*;
 use std::alloc::Global;
@@ -18,7 +19,8 @@ const REFUSED: Reply = Reply::Position { len: 0 };
 // A writer of views and its one reader.
 fn opened<R: Wait>(rt: &R, alloc: Global) -> Result<(Writer, Reader), Fail>
     ensures views { IfOk result (λ made. made.1.views ≡ made.0.views) }
-    ensures start { IfOk result (λ made. (made.0.owed ≡ None) × (made.0.shown.upto ≡ 0)) }
+    ensures start { IfOk result (λ made.
+        (made.0.publishes ≡ start ∷ []) × (made.0.shown ≡ start) × (made.0.owed ≡ None)) }
 {
     let mut opener = Opener::new();
     let (writer, mut readers) = views(rt, alloc, &mut opener, 1).map_err(|_| "views")?;

@@ -4,6 +4,7 @@ use Rattle.td_base.specs.Value.{DotValue, AtomIdValue}
 use Rattle.td_op.specs.declared.request.Request.{Request}
 use Rattle.td_op.specs.declared.request.Request.TheVariants.{Insert, InsertAfter, Paste, PasteAfter, Delete}
 use Rattle.td_op.specs.declared.request.Request.TheVariants.{Cancel}
+use Rattle.td_report.specs.Asking.{proposal}
 use Rattle.td_script.specs.declared.live.editor_line.EditorLine.{EditorLine}
 use Rattle.td_script.specs.declared.live.editor_line.EditorLine.TheVariants as Line
 use Rattle.td_text.specs.Runs.{runs_of}

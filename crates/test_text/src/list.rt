@@ -211,14 +211,20 @@ fn waiting_renewed(alloc: Global) -> Result<u32, Memory> {
 
 #[test]
 fn items_are_put_at_three_places_by_turns(rt: HostRuntime) -> Result<(), Memory> {
-    assert_eq!(rt; by_turns::<Chunked<Line>>(rt.alloc(), 600, 1)?.weight(), 600);
+    assert_eq!(rt;
+        by_turns::<Chunked<Line>>(rt.alloc(), 600, 1)?.weight(),
+        600
+    );
     Ok(())
 }
 
 // Each run is longer than what waits at most.
 #[test]
 fn items_are_put_before_one_another_in_runs(rt: HostRuntime) -> Result<(), Memory> {
-    assert_eq!(rt; by_turns::<Buffered<Line>>(rt.alloc(), 600, 100)?.weight(), 600);
+    assert_eq!(rt;
+        by_turns::<Buffered<Line>>(rt.alloc(), 600, 100)?.weight(),
+        600
+    );
     Ok(())
 }
 
@@ -235,10 +241,7 @@ fn by_turns<S: Sequence>(alloc: Global, end: u32, run: u32) -> Result<S, Memory>
         Item::new(2, 1, false),
     ])?;
     for name in 3..end {
-        list.insert_before(
-            goes_before(name, run),
-            &[Item::new(name, 1, false)],
-        )?;
+        list.insert_before(goes_before(name, run), &[Item::new(name, 1, false)])?;
     }
     Ok(list)
 }

@@ -3,6 +3,7 @@ ghost use Rattle.std.specs.Prelude.{◌≡◌, false, IfOk};
 ghost use Rattle.td_replica.specs.Replica.{new_replica};
 ghost use Rattle.td_line.specs.Editors.{LaterEditor};
 
+use super::opened;
 use crate::{Answer, Ask, Editor, Gate, Line, open_line};
 use std::alloc::Global;
 use std::marker::Model;
@@ -15,7 +16,7 @@ use td_doc::Rows;
 use td_op::{Reply, Request};
 use td_replica::Replica;
 use td_site::Site;
-use td_view::{Opener, Reader, views};
+use td_view::Reader;
 
 // Counts the requests taken and the answers sent.
 #[derive(Drop)]
@@ -92,11 +93,14 @@ fn site_of_one<R: Wait>(rt: &R, alloc: Global) -> Result<(Site<Rows>, Reader), F
     ensures late { IfOk result (λ opened. opened.0.late ≡ false) }
     ensures views { IfOk result (λ opened. opened.1.views ≡ opened.0.writer.views) }
 {
-    let replica = replica(alloc)?;
-    let mut opener = Opener::new();
-    let (writer, mut readers) = views(rt, alloc, &mut opener, 1).map_err(|_| "views")?;
-    let reader = readers.remove(0);
-    Ok((Site::new(replica, writer), reader))
+    let (writer, reader) = opened(rt, alloc)?;
+    match replica(alloc) {
+        Ok(replica) => Ok((Site::new(replica, writer), reader)),
+        Err(fail) => {
+            writer.quit(rt);
+            Err(fail)
+        }
+    }
 }
 
 // The ends of a line of so many calls.

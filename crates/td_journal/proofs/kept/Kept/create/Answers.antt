@@ -1,4 +1,4 @@
-use Rattle.std.proofs.Common.{ℕ, List, ◌+◌, ◌++◌, ◌∷◌, [], true, false, ◌∙◌, sym, ap, subst, length}
+use Rattle.std.proofs.Common.{ℕ, List, ◌+◌, ◌++◌, ◌∷◌, [], true, false, refl, ◌∙◌, sym, ap, subst, inr, length}
 use Rattle.td_io.specs.Count.{Rose}
 use Rattle.td_disk.specs.Calls.{Puts}
 use Rattle.td_disk.specs.Gated.{disk_of}
@@ -25,6 +25,12 @@ returns-clause-any_moment g c =
     begun g.K.Disk c.args.disk c.begin.new.disk (disk_of (journal_of c.of.result)) (length c.as_slice.result.now)
     (length (head_bytes c.args.format c.args.site c.args.n) + 1) c.of.ensures.disk
     (ap length c.as_slice.ensures ∙ c.in-Ok.ensures.long) c.begin.ensures.any_moment
+
+pub returns-then-is_err-clause-any_moment_err : goal.returns-then-is_err-clause-any_moment_err
+returns-then-is_err-clause-any_moment_err g c =
+    inr (begun g.K.Disk c.args.disk c.begin.new.disk c.begin.new.disk (length c.as_slice.result.now)
+    (length (head_bytes c.args.format c.args.site c.args.n) + 1) refl
+    (ap length c.as_slice.ensures ∙ c.in-Ok.ensures.long) c.begin.ensures.any_moment)
 
 pub returns-clause-done : goal.returns-clause-done
 returns-clause-done g c =
