@@ -24,7 +24,7 @@ use Rattle.td_report.specs.Tree.{show_line, tree_lines}
 use Rattle.td_report.specs.Numbers.{count_line}
 use Rattle.td_world.specs.World.{WorldValue, machine_of, moved, moved_all, new_world, reply_to}
 use Rattle.td_world.specs.Calls.{ask, is_wanted, numbered_given, numbered_moves, took, wanted_moves, IsSettled}
-use Rattle.td_report.specs.Asking.{inserts, pastes, deletes}
+use Rattle.td_report.specs.Asking.{inserts, pastes, deletes, proposal}
 use Rattle.td_run.specs.Asking.{ask_all}
 use Rattle.td_run.specs.Marking.{Marking, mark, marked_lines, meet, new_marks}
 use Rattle.td_text.specs.Runs.{runs_of}

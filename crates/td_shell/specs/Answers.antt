@@ -24,7 +24,7 @@ use Rattle.td_script.specs.declared.shell.command.ShellCommand.{ShellCommand}
 use Rattle.td_script.specs.declared.shell.command.ShellCommand.TheVariants.{Ins, Paste, Del, Flat, FlatAuto, Cancel}
 use Rattle.td_script.specs.declared.shell.command.ShellCommand.TheVariants.{Take as Receive, Send, Show, Tree, Count}
 use Rattle.td_text.specs.Runs.{runs_of}
-use Rattle.td_report.specs.Asking.{deletes, inserts, pastes}
+use Rattle.td_report.specs.Asking.{deletes, inserts, pastes, proposal}
 use Rattle.td_shell.specs.Asking.{Edited, after_request, ask_all, reply_to}
 use Rattle.td_shell.specs.Sending.{cut_answer, events_behind, fault_line, sent_behind}
 use Rattle.td_shell.specs.Taking.{CaughtUp, after_take, message_of, took_part}
