@@ -1,4 +1,7 @@
 ghost use Rattle.std.specs.Prelude.{◌≡◌, IfOk};
+ghost use Rattle.td_doc.specs.Answers.{is_rooted};
+ghost use Rattle.td_doc.specs.Document.{IsDocument};
+ghost use Rattle.td_vote.specs.ByPlace.{ArePlaced};
 
 use std::alloc::Global;
 use std::process::Abort;
@@ -18,8 +21,9 @@ enum At {
     Root,
     Left,
     Right,
-    // On the left of the "b".
+    // On the left of the "b", and on its right.
     Below,
+    Behind,
     // On the right of an atom that is not there.
     Gone,
 }
@@ -47,12 +51,16 @@ fn slot(at: At) -> Result<Slot, Fail> {
         At::Left => beside((1, 1), Bit::Left),
         At::Right => beside((1, 1), Bit::Right),
         At::Below => beside((1, 2), Bit::Left),
+        At::Behind => beside((1, 2), Bit::Right),
         At::Gone => beside((2, 7), Bit::Right),
     }
 }
 
-fn put(doc: &mut Rows, at: At, seq: u32, letter: u8) -> Result<(), Fail> {
-    let (slot, id) = (slot(at)?, AtomId::of(dot((1, seq))?));
+fn put(doc: &mut Rows, slot: Slot, seq: u32, letter: u8) -> Result<(), Fail>
+    requires { IsDocument doc.old }
+    ensures { IsDocument doc.new }
+{
+    let id = AtomId::of(dot((1, seq))?);
     let Ok(atom) = Atom::new(&[letter]) else {
         return Err("an atom".into());
     };
@@ -62,47 +70,108 @@ fn put(doc: &mut Rows, at: At, seq: u32, letter: u8) -> Result<(), Fail> {
     Ok(doc.insert(slot, id, atom)?)
 }
 
-fn write(doc: &mut Rows) -> Result<(), Fail> {
-    put(doc, At::Root, 1, b'a')?;
-    put(doc, At::Right, 2, b'b')?;
+fn write(doc: &mut Rows) -> Result<(), Fail>
+    requires { IsDocument doc.old }
+    ensures { IsDocument doc.new }
+{
+    put(doc, Slot::Root, 1, b'a')?;
+    put(doc, slot(At::Right)?, 2, b'b')?;
     let (gone, by) = (AtomId::of(dot((1, 2))?), dot((2, 1))?);
     Ok(doc.delete(gone, by)?)
 }
 
-fn document(alloc: Global) -> Result<Rows, Fail> {
-    let mut doc = Rows::empty(alloc)?;
+fn empty(alloc: Global) -> Result<Rows, Fail>
+    ensures { IfOk result (λ doc. IsDocument doc) }
+{
+    Ok(Rows::empty(alloc)?)
+}
+
+fn document(alloc: Global) -> Result<Rows, Fail>
+    ensures { IfOk result (λ doc. IsDocument doc) }
+{
+    let mut doc = empty(alloc)?;
     write(&mut doc)?;
     Ok(doc)
 }
 
-fn hold(holds: &mut Holds, (proposal, at): (Told, At)) -> Result<(), Fail> {
-    let (proposal, slot) = (dot(proposal)?, slot(at)?);
-    Ok(holds.hold(proposal, slot)?)
+fn no_holds(alloc: Global, doc: &Rows) -> Holds
+    requires { IsDocument doc.now }
+    ensures { ArePlaced doc.now result }
+{
+    Holds::new(alloc)
 }
 
-fn commit(holds: &mut Holds, (commit, at): (Told, At)) -> Result<(), Fail> {
-    let (commit, slot) = (dot(commit)?, slot(at)?);
-    Ok(holds.committed(commit, slot)?)
-}
-
-fn keep(holds: &mut Holds, held: &[(Told, At)], commits: &[(Told, At)]) -> Result<(), Fail> {
-    for told in held {
-        hold(holds, *told)?;
+fn is_rooted(doc: &Rows, slot: Slot) -> bool
+    ensures { result ≡ is_rooted doc.now slot }
+{
+    match slot {
+        Slot::Root => true,
+        Slot::At { atom, .. } => doc.is_row(atom),
     }
-    for told in commits {
-        commit(holds, *told)?;
+}
+
+// Holds a slot that no held one overlaps, as a replica does.
+fn hold(holds: &mut Holds, doc: &Rows, proposal: Told, slot: Slot) -> Result<(), Fail>
+    requires { ArePlaced doc.now holds.old }
+    ensures { ArePlaced doc.now holds.new }
+{
+    let proposal = dot(proposal)?;
+    if !is_rooted(doc, slot) || holds.held_over(doc, slot).is_some() {
+        return Err("a slot that may be held".into());
+    }
+    Ok(holds.hold(doc, proposal, slot)?)
+}
+
+fn release(holds: &mut Holds, doc: &Rows, proposal: Dot)
+    requires { ArePlaced doc.now holds.old }
+    ensures { ArePlaced doc.now holds.new }
+{
+    holds.release(proposal);
+}
+
+fn commit(holds: &mut Holds, doc: &Rows, commit: Told, slot: Slot) -> Result<(), Fail>
+    requires { ArePlaced doc.now holds.old }
+    ensures { ArePlaced doc.now holds.new }
+{
+    Ok(holds.committed(dot(commit)?, slot)?)
+}
+
+fn keep(
+    holds: &mut Holds,
+    doc: &Rows,
+    held: &[(Told, At)],
+    commits: &[(Told, At)],
+) -> Result<(), Fail>
+    requires { ArePlaced doc.now holds.old }
+    ensures { ArePlaced doc.now holds.new }
+{
+    for (proposal, at) in held {
+        hold(holds, doc, *proposal, slot(*at)?)?;
+    }
+    for (told, at) in commits {
+        commit(holds, doc, *told, slot(*at)?)?;
     }
     Ok(())
 }
 
 // These holds and commits, in this order.
-fn kept(alloc: Global, held: &[(Told, At)], commits: &[(Told, At)]) -> Result<Holds, Fail> {
-    let mut holds = Holds::new(alloc);
-    keep(&mut holds, held, commits)?;
+fn kept(
+    alloc: Global,
+    doc: &Rows,
+    held: &[(Told, At)],
+    commits: &[(Told, At)],
+) -> Result<Holds, Fail>
+    requires { IsDocument doc.now }
+    ensures { IfOk result (λ holds. ArePlaced doc.now holds) }
+{
+    let mut holds = no_holds(alloc, doc);
+    keep(&mut holds, doc, held, commits)?;
     Ok(holds)
 }
 
-fn is_held(rt: &impl Abort, doc: &Rows, holds: &Holds, by: Option<Dot>, other: Dot) {
+fn is_held(rt: &impl Abort, doc: &Rows, holds: &Holds, by: Option<Dot>, other: Dot)
+    requires { ArePlaced doc.now holds.now }
+{
     let own = by.is_some_and(|own| holds.has(own));
     assert_eq!(rt; holds.held_slot(doc, Slot::Root), by);
     assert!(rt; own == by.is_some() && !holds.has(other));
@@ -111,20 +180,20 @@ fn is_held(rt: &impl Abort, doc: &Rows, holds: &Holds, by: Option<Dot>, other: D
 #[test]
 fn a_hold_lasts_until_its_release(rt: HostRuntime) -> Result<(), Fail> {
     let (own, other) = (dot((1, 3))?, dot((1, 4))?);
-    let doc = Rows::empty(rt.alloc())?;
-    let mut holds = Holds::new(rt.alloc());
-    holds.reserve()?;
-    holds.hold(own, Slot::Root)?;
+    let doc = empty(rt.alloc())?;
+    let mut holds = no_holds(rt.alloc(), &doc);
+    hold(&mut holds, &doc, (1, 3), Slot::Root)?;
     is_held(&rt, &doc, &holds, Some(own), other);
-    holds.release(own);
+    release(&mut holds, &doc, own);
     is_held(&rt, &doc, &holds, None, own);
-    holds.committed(other, Slot::Root)?;
     Ok(())
 }
 
 // The vote of a replica that made 1.1 to 1.4 and took 2.1 to 2.3, on a proposal that knew so many of each.
-fn vote(doc: &Rows, holds: &Holds, at: At, (first, second): (u16, u16)) -> Result<bool, Fail> {
-    let (have, known) = (Vector::of(&[4, 3]), Vector::of(&[first, second]));
+fn vote(doc: &Rows, holds: &Holds, at: At, knew: (u16, u16)) -> Result<bool, Fail>
+    requires { ArePlaced doc.now holds.now }
+{
+    let (have, known) = (Vector::of(&[4, 3]), Vector::of(&[knew.0, knew.1]));
     if !doc.known(Slot::Root, &have) {
         return Err("a replica that has its document".into());
     }
@@ -174,9 +243,11 @@ const MANY: [(Told, At); 5] = [
     ((2, 3), At::Left),
 ];
 
-fn is_judged(rt: &impl Abort, alloc: Global, doc: &Rows, judged: Judged) -> Result<(), Fail> {
+fn is_judged(rt: &impl Abort, alloc: Global, doc: &Rows, judged: Judged) -> Result<(), Fail>
+    requires { IsDocument doc.now }
+{
     let (at, (first, second), held, commits, yes) = judged;
-    let holds = kept(alloc, held, commits)?;
+    let holds = kept(alloc, doc, held, commits)?;
     assert_eq!(rt;
         vote(doc, &holds, at, (first, second))?,
         yes,
@@ -194,67 +265,98 @@ fn a_vote_is_yes_where_all_parts_of_the_rule_hold(rt: HostRuntime) -> Result<(),
     Ok(())
 }
 
-const HELD: [(Told, At); 3] = [((2, 2), At::Root), ((1, 3), At::Right), ((2, 1), At::Left)];
+// What is held, a slot, the proposal whose slot contains it, and the least whose slot overlaps it.
+type OfSlot = (&'static [(Told, At)], At, Option<Told>, Option<Told>);
 
-// A slot, the least proposal whose slot contains it, and the least whose slot overlaps it.
-const SLOTS: [(At, Told, Told); 3] = [
-    (At::Below, (1, 3), (1, 3)),
-    (At::Left, (2, 1), (2, 1)),
-    (At::Root, (2, 2), (1, 3)),
+const APART: [(Told, At); 3] = [
+    ((2, 2), At::Below),
+    ((1, 3), At::Behind),
+    ((2, 1), At::Left),
 ];
 
-// An atom, and the least proposal whose slot contains it.
-const ATOMS: [(Told, Option<Told>); 3] = [
-    ((1, 1), Some((2, 2))),
-    ((1, 2), Some((1, 3))),
-    ((2, 7), None),
+const SIDES: [(Told, At); 2] = [((1, 3), At::Right), ((2, 1), At::Left)];
+
+const SLOTS: [OfSlot; 9] = [
+    (&APART, At::Below, Some((2, 2)), Some((2, 2))),
+    (&APART, At::Behind, Some((1, 3)), Some((1, 3))),
+    (&APART, At::Left, Some((2, 1)), Some((2, 1))),
+    (&APART, At::Right, None, Some((1, 3))),
+    (&APART, At::Root, None, Some((1, 3))),
+    (&SIDES, At::Below, Some((1, 3)), Some((1, 3))),
+    (&SIDES, At::Left, Some((2, 1)), Some((2, 1))),
+    (
+        &[((2, 4), At::Root)],
+        At::Behind,
+        Some((2, 4)),
+        Some((2, 4)),
+    ),
+    (&SIDES, At::Gone, None, None),
 ];
 
-fn refuse(
-    rt: &impl Abort,
-    doc: &Rows,
-    holds: &Holds,
-    (at, over, under): (At, Told, Told),
-) -> Result<(), Fail> {
-    let (slot, over, under) = (slot(at)?, dot(over)?, dot(under)?);
-    assert_eq!(rt; holds.held_slot(doc, slot), Some(over));
-    assert_eq!(rt; holds.held_over(doc, slot), Some(under));
+// What is held, an atom, and the proposal whose slot contains it.
+type OfAtom = (&'static [(Told, At)], Told, Option<Told>);
+
+const ATOMS: [OfAtom; 5] = [
+    (&APART, (1, 2), None),
+    (&SIDES, (1, 1), None),
+    (&SIDES, (1, 2), Some((1, 3))),
+    (&[((2, 4), At::Root)], (1, 1), Some((2, 4))),
+    (&[((2, 4), At::Root)], (2, 7), None),
+];
+
+fn refuses_slot(rt: &impl Abort, alloc: Global, doc: &Rows, of: OfSlot) -> Result<(), Fail>
+    requires { IsDocument doc.now }
+{
+    let (held, at, over, least) = of;
+    let holds = kept(alloc, doc, held, &[])?;
+    let slot = slot(at)?;
+    assert_eq!(rt; holds.len() as usize, held.len());
+    assert_eq!(rt; holds.held_slot(doc, slot), some_dot(over)?);
+    assert_eq!(rt; holds.held_over(doc, slot), some_dot(least)?);
     Ok(())
 }
 
-fn refuse_at(
-    rt: &impl Abort,
-    doc: &Rows,
-    holds: &Holds,
-    (atom, by): (Told, Option<Told>),
-) -> Result<(), Fail> {
+fn refuses_atom(rt: &impl Abort, alloc: Global, doc: &Rows, of: OfAtom) -> Result<(), Fail>
+    requires { IsDocument doc.now }
+{
+    let (held, atom, by) = of;
+    let holds = kept(alloc, doc, held, &[])?;
     let (id, by) = (AtomId::of(dot(atom)?), some_dot(by)?);
     assert_eq!(rt; holds.held_row(doc, id), by);
     Ok(())
 }
 
-fn all_refuse(rt: &impl Abort, doc: &Rows, holds: &Holds) -> Result<(), Fail> {
-    assert_eq!(rt; holds.len(), 3);
-    for row in &SLOTS {
-        refuse(rt, doc, holds, *row)?;
+#[test]
+fn what_is_held_refuses(rt: HostRuntime) -> Result<(), Fail> {
+    let doc = document(rt.alloc())?;
+    for of in &SLOTS {
+        refuses_slot(&rt, rt.alloc(), &doc, *of)?;
     }
-    for row in &ATOMS {
-        refuse_at(rt, doc, holds, *row)?;
+    for of in &ATOMS {
+        refuses_atom(&rt, rt.alloc(), &doc, *of)?;
     }
     Ok(())
 }
 
-#[test]
-fn the_least_proposal_refuses(rt: HostRuntime) -> Result<(), Fail> {
-    let doc = document(rt.alloc())?;
-    let holds = kept(rt.alloc(), &HELD, &[])?;
-    all_refuse(&rt, &doc, &holds)
+// Each letter on the right of the one before it.
+fn type_on(doc: &mut Rows) -> Result<(), Fail>
+    requires { IsDocument doc.old }
+    ensures { IsDocument doc.new }
+{
+    put(doc, Slot::Root, 1, b'a')?;
+    for seq in 2..20 {
+        put(doc, beside((1, seq - 1), Bit::Right)?, seq, b'b')?;
+    }
+    Ok(())
 }
 
-fn keep_more(holds: &mut Holds) -> Result<(), Fail> {
+fn hold_sides(holds: &mut Holds, doc: &Rows) -> Result<(), Fail>
+    requires { ArePlaced doc.now holds.old }
+    ensures { ArePlaced doc.now holds.new }
+{
     for seq in 1..20 {
-        hold(holds, ((1, seq), At::Root))?;
-        commit(holds, ((2, seq), At::Root))?;
+        hold(holds, doc, (2, seq), beside((1, seq), Bit::Left)?)?;
+        commit(holds, doc, (2, seq), Slot::Root)?;
     }
     Ok(())
 }
@@ -262,9 +364,10 @@ fn keep_more(holds: &mut Holds) -> Result<(), Fail> {
 // More than the places that one call makes.
 #[test]
 fn places_that_are_used_up_are_made_again(rt: HostRuntime) -> Result<(), Fail> {
-    let mut holds = Holds::new(rt.alloc());
-    holds.reserve()?;
-    keep_more(&mut holds)?;
+    let mut doc = empty(rt.alloc())?;
+    type_on(&mut doc)?;
+    let mut holds = no_holds(rt.alloc(), &doc);
+    hold_sides(&mut holds, &doc)?;
     holds.reserve()?;
     assert_eq!(rt; holds.len(), 19);
     Ok(())

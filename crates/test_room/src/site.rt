@@ -1,5 +1,6 @@
-ghost use Rattle.std.specs.Prelude.{◌≡◌, ◌≤◌, false, IfOk};
+ghost use Rattle.std.specs.Prelude.{◌≡◌, ◌≤◌, [], ◌∷◌, false, None, IfOk};
 ghost use Rattle.td_replica.specs.Replica.{new_replica};
+ghost use Rattle.td_view.specs.Publishes.{start};
 
 use std::alloc::Global;
 use std::process::Abort;
@@ -10,7 +11,7 @@ use td_doc::Rows;
 use td_op::{Input, Reply, Request};
 use td_replica::Replica;
 use td_site::*;
-use td_view::{Opener, Reader, Shown, views};
+use td_view::{Opener, Reader, Shown, Writer, views};
 
 fn number(site: u8) -> Result<td_base::Site, Fail>
     ensures { IfOk result (λ number. number ≡ site) }
@@ -36,16 +37,31 @@ fn replica(alloc: Global, site: u8) -> Result<Replica<Rows>, Fail>
     Ok(Replica::new(alloc, number(site)?, 2)?)
 }
 
+// A writer of views, and its one reader.
+fn one_reader<R: Wait>(rt: &R, alloc: Global) -> Result<(Writer, Reader), Fail>
+    ensures start { IfOk result (λ made.
+        (made.0.publishes ≡ start ∷ []) × (made.0.shown ≡ start) × (made.0.owed ≡ None)) }
+    ensures views { IfOk result (λ made. made.1.views ≡ made.0.views) }
+{
+    let mut opener = Opener::new();
+    let (writer, mut readers) = views(rt, alloc, &mut opener, 1).map_err(|_| "views")?;
+    let reader = readers.remove(0);
+    Ok((writer, reader))
+}
+
 // The first site of two, and a reader of its text.
 fn open<R: Wait>(rt: &R, alloc: Global) -> Result<(Site<Rows>, Reader), Fail>
     ensures late { IfOk result (λ opened. opened.0.late ≡ false) }
     ensures views { IfOk result (λ opened. opened.1.views ≡ opened.0.writer.views) }
 {
-    let replica = replica(alloc, 1)?;
-    let mut opener = Opener::new();
-    let (writer, mut readers) = views(rt, alloc, &mut opener, 1).map_err(|_| "views")?;
-    let reader = readers.remove(0);
-    Ok((Site::new(replica, writer), reader))
+    let (writer, reader) = one_reader(rt, alloc)?;
+    match replica(alloc, 1) {
+        Ok(replica) => Ok((Site::new(replica, writer), reader)),
+        Err(fail) => {
+            writer.quit(rt);
+            Err(fail)
+        }
+    }
 }
 
 // Whether the atoms of the text are these letters.
