@@ -17,7 +17,7 @@ use Rattle.td_trace.specs.declared.log.Did.TheVariants.{Call, Look}
 use Rattle.td_trace.specs.declared.log.EditorLog.{EditorLog}
 use Rattle.td_reader.specs.LineNumbers.{did_count}
 use Rattle.td_reader.specs.Values.{TraceValue}
-use Rattle.td_check.specs.Alone.{AreCounts, AreRows, IsRowOf, counted_at}
+use Rattle.td_check.specs.Alone.{AreCounts, AreRows, IsRowOfCalls, counted_at}
 
 -- ---- one element is set
 
@@ -131,7 +131,7 @@ calls_there site k logs editor log e other =
 
 row_passed : (t : TraceValue) (editor : ℕ) (log : EditorLog) (site : ℕ) (row : List ℕ)
     → slice_get t.logs editor ≡ Some log → ¬ (log.home ≡ site)
-    → IsRowOf t (take editor t.logs) site row → IsRowOf t (take (editor + 1) t.logs) site row
+    → IsRowOfCalls t (take editor t.logs) site row → IsRowOfCalls t (take (editor + 1) t.logs) site row
 row_passed t editor log site row e other r = record {
   size = r.size;
   counts = counts_same (λ (i : ℕ). site_calls_at site (i + 1) (take editor t.logs))
@@ -166,8 +166,8 @@ rows_counted t editor sites place log rows new old row e home at is size counted
       (λ (same : i ≡ place).
       let here : r ≡ row = same_Some r row (sym k ∙ ap (λ (l : List (Vec ℕ Global)). slice_get l i) is
       ∙ ap (λ (j : ℕ). slice_get (set rows place row) j) same ∙ set_get rows place row within) in
-      subst (λ (x : Vec ℕ Global). IsRowOf t (take (editor + 1) t.logs) (i + 1) x.items) (sym here)
-      (subst (λ (j : ℕ). IsRowOf t (take (editor + 1) t.logs) (j + 1) row.items) (sym same) own))
+      subst (λ (x : Vec ℕ Global). IsRowOfCalls t (take (editor + 1) t.logs) (i + 1) x.items) (sym here)
+      (subst (λ (j : ℕ). IsRowOfCalls t (take (editor + 1) t.logs) (j + 1) row.items) (sym same) own))
       (λ (other : ¬ (i ≡ place)).
       let there : slice_get rows i ≡ Some r = sym (get_set_other rows place i row other)
       ∙ sym (ap (λ (l : List (Vec ℕ Global)). slice_get l i) is) ∙ k in
@@ -175,7 +175,7 @@ rows_counted t editor sites place log rows new old row e home at is size counted
       (cases_eq i place);
 }
   where
-    own : IsRowOf t (take (editor + 1) t.logs) (place + 1) row.items
+    own : IsRowOfCalls t (take (editor + 1) t.logs) (place + 1) row.items
     own =
         let r = a.row place old at in
         record {
@@ -196,7 +196,7 @@ rows_none t rows e = record {
 }
 
 pub rows_more : (t : TraceValue) (n : ℕ) (rows : List (Vec ℕ Global)) (row : Vec ℕ Global)
-    → IsRowOf t [] (n + 1) row.items → AreRows t [] n rows → AreRows t [] (n + 1) (rows ++ row ∷ [])
+    → IsRowOfCalls t [] (n + 1) row.items → AreRows t [] n rows → AreRows t [] (n + 1) (rows ++ row ∷ [])
 rows_more t n rows row r a = record {
   each = length-append rows (row ∷ []) ∙ ap (λ (k : ℕ). k + 1) a.each;
   row = λ i x at.
@@ -206,8 +206,8 @@ rows_more t n rows row r a = record {
       (λ (same : i ≡ length rows).
       let here : row ≡ x = same_Some row x (sym (last rows) ∙ ap (slice_get (rows ++ row ∷ [])) (sym same) ∙ at) in
       let number : n ≡ i = sym a.each ∙ sym same in
-      subst (λ (y : Vec ℕ Global). IsRowOf t [] (i + 1) y.items) here
-      (subst (λ (k : ℕ). IsRowOf t [] (k + 1) row.items) number r))
+      subst (λ (y : Vec ℕ Global). IsRowOfCalls t [] (i + 1) y.items) here
+      (subst (λ (k : ℕ). IsRowOfCalls t [] (k + 1) row.items) number r))
       (λ (other : ¬ (i ≡ length rows)).
       let less : i < length rows = omega arith in
       a.row i x (sym (get_front rows (row ∷ []) i less) ∙ at))

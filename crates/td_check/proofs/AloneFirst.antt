@@ -10,7 +10,7 @@ use Rattle.td_trace.specs.declared.entry.TraceEntry.{TraceEntry}
 use Rattle.td_reader.specs.LineNumbers.{line_of_entry}
 use Rattle.td_reader.specs.Values.{TraceValue}
 use Rattle.td_law_replay.specs.Traced.{site_entries}
-use Rattle.td_check.specs.Alone.{IsFirstAloneAt, IsRowOf}
+use Rattle.td_check.specs.Alone.{IsFirstAloneAt, IsRowOfCalls}
 use Rattle.td_check.specs.Findings.{IsAlone, IsFirstAlone, NoneAlone}
 use Rattle.td_check.specs.Stops.{IsBefore}
 
@@ -51,11 +51,11 @@ none_at_all t site n all before k a =
     let w = request_within (site_entries t.histories site) k a.asked in
     before k (omega (arith, w.1)) a
 
-count_here : (t : TraceValue) (site i : ℕ) (row : List ℕ) → IsRowOf t t.logs site row
+count_here : (t : TraceValue) (site i : ℕ) (row : List ℕ) → IsRowOfCalls t t.logs site row
     → i < length (site_entries t.histories site) → slice_index row i ≡ min (site_calls_at site (i + 1) t.logs) 255
 count_here t site i row r less = r.counts i (omega (arith, r.size))
 
-pub one_call : (t : TraceValue) (site i : ℕ) (row : List ℕ) → IsRowOf t t.logs site row
+pub one_call : (t : TraceValue) (site i : ℕ) (row : List ℕ) → IsRowOfCalls t t.logs site row
     → i < length (site_entries t.histories site) → slice_index row i ≡ 1 → ¬ IsAlone t site (i + 1)
 one_call t site i row r less one a =
     let capped : min (site_calls_at site (i + 1) t.logs) 255 ≡ 1 = sym (count_here t site i row r less) ∙ one in
@@ -66,7 +66,7 @@ pub no_request : (t : TraceValue) (site k : ℕ) → is_request_at (site_entries
 no_request t site k none a = both_ways (is_request_at (site_entries t.histories site) k) none a.asked
 
 pub first_at : (t : TraceValue) (site i line : ℕ) (row : List ℕ) → 0 < site → site ≤ length t.histories
-    → IsRowOf t t.logs site row → i < length (site_entries t.histories site) → ¬ (slice_index row i ≡ 1)
+    → IsRowOfCalls t t.logs site row → i < length (site_entries t.histories site) → ¬ (slice_index row i ≡ 1)
     → is_request_at (site_entries t.histories site) (i + 1) ≡ true → line ≡ line_of_entry t site (i + 1)
     → NoneUpTo t site i → IsFirstAloneAt t site line
 first_at t site i line row some within r less other asked is before = record {

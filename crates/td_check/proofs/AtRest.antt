@@ -13,7 +13,7 @@ use Rattle.td_base.proofs.Places.{place_of}
 use Rattle.td_machine.specs.Machine.{Machine, undecided}
 use Rattle.td_law_replay.specs.Judging.{States}
 use Rattle.td_check.specs.AtRest.{is_at_rest}
-use Rattle.td_check.specs.Findings.{IsSettled}
+use Rattle.td_check.specs.Findings.{AreSettledStates}
 use Rattle.td_check.specs.Seated.{AreSeated}
 use Rattle.td_reader.specs.Values.{TraceValue}
 
@@ -38,7 +38,7 @@ module _ (t : TraceValue) (last : States) (machines : List Machine) (first : Mac
       (each_passes (is_at_rest first.have) machines h (last site).machine
       (In-slice_get machines (site - 1) (last site).machine (seated.machine site some (omega arith))))
 
-  settled : list_all (is_at_rest first.have) machines ≡ true → IsSettled t last
+  settled : list_all (is_at_rest first.have) machines ≡ true → AreSettledStates t last
   settled h = record {
     vectors =
         λ r s some_r within_r some_s within_s. (at_site h r some_r within_r).0 ∙ sym (at_site h s some_s within_s).0;
@@ -56,7 +56,7 @@ module _ (t : TraceValue) (last : States) (machines : List Machine) (first : Mac
             (sym e ∙ sym (ap (slice_get machines) place) ∙ seated.machine (k + 1) (omega arith) upto),
       )
 
-  at_rest : IsSettled t last → list_all (is_at_rest first.have) machines ≡ true
+  at_rest : AreSettledStates t last → list_all (is_at_rest first.have) machines ≡ true
   at_rest s =
       all_pass (is_at_rest first.have) machines
       (λ (m : Machine) (i : In m machines).
@@ -71,5 +71,5 @@ module _ (t : TraceValue) (last : States) (machines : List Machine) (first : Mac
       ∙ sym (ap (λ (n : Machine). n.have) q.1))
       (ap undecided p.1 ∙ s.decided (k + 1) (omega arith) within))
 
-  pub settled_at_rest : (list_all (is_at_rest first.have) machines ≡ true) ↔ IsSettled t last
+  pub settled_at_rest : (list_all (is_at_rest first.have) machines ≡ true) ↔ AreSettledStates t last
   settled_at_rest = (settled, at_rest)

@@ -21,9 +21,9 @@ use Rattle.td_law_replay.proofs.Stopped.{lost_untraced, wrong_untraced, stuck_un
 use Rattle.td_check.specs.declared.verdict.Fault.{Fault}
 use Rattle.td_check.specs.declared.verdict.Verdict.{Verdict}
 use Rattle.td_check.specs.declared.verdict.Verdict.TheVariants.{Yes, No}
-use Rattle.td_check.specs.Findings.{IsReplayed, so_far}
+use Rattle.td_check.specs.Findings.{IsReplayedWith, so_far}
 use Rattle.td_check.specs.Stops.{Stops, Wrong, Lost, Stuck, Unsent}
-use Rattle.td_check.specs.Verdict.{IsFound, OfStop, OfDeed, OfAlone, OfText, OfOpen, OfNone}
+use Rattle.td_check.specs.Verdict.{IsFinding, OfStop, OfDeed, OfAlone, OfText, OfOpen, OfNone}
 use Rattle.td_check.proofs.Ranges.{in_range}
 
 no_is_not_yes : (line : ℕ) (fault : Fault) → No line fault ≢ Yes
@@ -79,13 +79,13 @@ module _ (t : TraceValue) (is : IsTraceValue t) (some : 0 < t.sites) where
   consistent : IsLiveTrace all t.logs t.texts → IsConsistentTrace all
   consistent live = record { family = live.family; consistent = live.live.settled.consistent; is = live.is }
 
-  accepted : (last : States) (text_at : ℕ → ℕ → List ℕ) → IsReplayed t last text_at → IsLiveTrace all t.logs t.texts
+  accepted : (last : States) (text_at : ℕ → ℕ → List ℕ) → IsReplayedWith t last text_at → IsLiveTrace all t.logs t.texts
       → IsAcceptedAt all last text_at t.logs t.texts
   accepted last text_at r live =
       live_is_accepted all t.logs t.texts live last (reaches_of all last r.over.site r.over.moved r.over.course)
       r.over.over text_at r.texts
 
-  pub found_exactly : (v : Verdict) → IsFound t v → (v ≡ Yes) ↔ IsLiveTrace all t.logs t.texts
+  pub found_exactly : (v : Verdict) → IsFinding t v → (v ≡ Yes) ↔ IsLiveTrace all t.logs t.texts
   found_exactly _ (OfStop {line} {fault} stops) = (
     λ e. absurd (no_is_not_yes line fault e),
     λ live. absurd (stops_untraced t line fault some_histories stops (consistent live)),

@@ -16,7 +16,7 @@ use Rattle.td_law_replay.specs.Traced.{site_entries}
 use Rattle.td_check.specs.Course.{AreSeen, HasGone, HasLooked, IsGoing, IsStuckAt, all_left}
 use Rattle.td_check.specs.Looks.{AreLooks, IsLookAt, one_more}
 use Rattle.td_check.specs.Sites.{ReplayValue, histories_of, machine_of, done_of, states_of, IsReplaying, HasDone}
-use Rattle.td_check.specs.Sites.{HasStopped, IsNext}
+use Rattle.td_check.specs.Sites.{HasStopped, NextComesTo}
 use Rattle.td_check.specs.Lines.{done_at, next_line}
 use Rattle.td_check.specs.Stops.{Stops, Lost, Wrong}
 use Rattle.td_check.specs.declared.stop.Went.{Went}
@@ -198,7 +198,7 @@ some_left r site some within entry rest next =
 
 module _ (site : ℕ) (old mid new : ReplayValue) (looks : Looks) (more : Bool)
     (going : IsGoing site old mid looks more) where
-  pub gone_rests : IsNext site mid None new
+  pub gone_rests : NextComesTo site mid None new
       → IsGoing site old new looks more × Rests (histories_of old) site (states_of new)
   gone_rests next =
       subst (λ (r : ReplayValue). IsGoing site old r looks more

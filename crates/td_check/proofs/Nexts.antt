@@ -11,7 +11,7 @@ use Rattle.td_law_replay.specs.Replay.{put}
 use Rattle.td_law_replay.specs.Rounds.{Rests, Done, Waiting}
 use Rattle.td_law_replay.specs.Traced.{site_entries}
 use Rattle.td_check.specs.Sites.{ReplayValue, histories_of, machine_of, done_of, states_of, IsJudgedAt, HasDone}
-use Rattle.td_check.specs.Sites.{HasStopped, IsNext}
+use Rattle.td_check.specs.Sites.{HasStopped, NextComesTo}
 use Rattle.td_check.specs.States.{state_in}
 use Rattle.td_check.specs.declared.judged.Judged.{Judged}
 use Rattle.td_check.specs.declared.judged.Judged.TheVariants as judged
@@ -54,7 +54,7 @@ module _ (old : ReplayValue) (site : ℕ) (some : 0 < site) (within : site ≤ l
         (mid new : ReplayValue) (d : Judged) → IsJudgedAt site judgement entry.reply d old mid
         → (d ≡ judged.Done → new ≡ record mid { done = slice_set mid.done (site - 1) (done_of mid site + 1) })
         → ((d ≡ judged.Done → ⊥) → new ≡ mid)
-        → IsNext site old (Some d) new
+        → NextComesTo site old (Some d) new
     next_is each_machine each_done mid new judged.Lost at done other = (
       (entry, record { rest = rest; next = left; lost = judged_there _ at.0 }),
       stopped mid new (other (λ e. cc)) at.1,

@@ -7,7 +7,7 @@ use Rattle.td_reader.proofs.Collecting.{no_fault, one_value}
 use Rattle.td_law_replay.specs.Accepted.{IsLiveTrace}
 use Rattle.td_check.specs.declared.verdict.Verdict.{Verdict}
 use Rattle.td_check.specs.declared.verdict.Verdict.TheVariants.{Yes}
-use Rattle.td_check.specs.Verdict.{IsFound, IsVerdict, TooLong, NoTrace, OfNoSite, OfTrace, IsPossible}
+use Rattle.td_check.specs.Verdict.{IsFinding, IsVerdict, TooLong, NoTrace, OfNoSite, OfTrace, IsPossible}
 use Rattle.td_check.proofs.Exact.{found_exactly}
 
 pub yes_is_possible : (bytes : List ℕ) (v : Verdict) → IsVerdict bytes v → (v ≡ Yes) ↔ IsPossible bytes
@@ -37,6 +37,6 @@ yes_is_possible bytes _ (OfTrace {verdict} short t is some found) =
 
 -- what is found of a trace of a site or more, or of none, is the verdict on its bytes
 pub verdict_is : (bytes : List ℕ) (t : TraceValue) (v : Verdict) → length bytes ≤ 536870912 → IsTraceOf bytes t
-    → ((t.sites ≡ 0) × (v ≡ Yes)) ⊎ ((0 < t.sites) × IsFound t v) → IsVerdict bytes v
+    → ((t.sites ≡ 0) × (v ≡ Yes)) ⊎ ((0 < t.sites) × IsFinding t v) → IsVerdict bytes v
 verdict_is bytes t v short is (inl (none, e)) = subst (IsVerdict bytes) (sym e) (OfNoSite short t is none)
 verdict_is bytes t v short is (inr (there, found)) = OfTrace short t is there found

@@ -12,7 +12,7 @@ use Rattle.td_law_replay.specs.Replay.{AllDone, Stays}
 use Rattle.td_law_replay.specs.Rounds.{Course, Starts, Passes, Repeats, Rests}
 use Rattle.td_law_replay.proofs.Rounding.{reaches_of}
 use Rattle.td_check.specs.Looks.{all_seen}
-use Rattle.td_check.specs.Course.{AreSeen, AreAllSeen, HasMoved, HasGone, IsInRound, HasRounded, HasRun}
+use Rattle.td_check.specs.Course.{AreSeen, AreAllSeen, HasMoved, HasGone, IsInRound, HasRounded, HasEnded}
 use Rattle.td_check.specs.Course.{IsStuckAt, all_left}
 use Rattle.td_check.specs.Lines.{next_line}
 use Rattle.td_check.specs.Sites.{ReplayValue, histories_of, done_of, states_of}
@@ -158,7 +158,7 @@ again old mid new before_ after_ was is has rounded =
     or_last false = refl
 
 pub run_stops : (old mid new : ReplayValue) (before_ after_ : Looks) (was : Bool) (stop : Stop)
-    → HasMoved old mid before_ was → HasRounded mid new after_ (went.Stopped stop) → HasRun old new after_ (Some stop)
+    → HasMoved old mid before_ was → HasRounded mid new after_ (went.Stopped stop) → HasEnded old new after_ (Some stop)
 run_stops old mid new before_ after_ was stop has rounded =
     subst (λ (t : TraceValue). Stops t stop.line stop.fault) has.trace rounded
 
@@ -167,7 +167,7 @@ pub run_ends : (old mid new : ReplayValue) (before_ after_ : Looks) (was : Bool)
     → IsTraceValue old.trace → HasMoved old mid before_ was → HasRounded mid new after_ (went.Rests false)
     → ((site : ℕ) → 0 < site → site ≤ new.trace.sites
     → done_of new site ≤ length (site_entries (histories_of new) site))
-    → MatchOption found (AllDone (histories_of new) (states_of new)) (IsStuckAt new) → HasRun old new after_ found
+    → MatchOption found (AllDone (histories_of new) (states_of new)) (IsStuckAt new) → HasEnded old new after_ found
 run_ends old mid new before_ after_ was None is has rounded within over =
     let last = last_course new false rounded.1 in (
       rounded.0.trace ∙ has.trace,

@@ -18,14 +18,14 @@ abbrev pub counted_at : ℕ → (ℕ → ℕ) → ℕ → ℕ
 counted_at entry counts i = if entry == i + 1 then suc (counts i) else counts i
 
 -- the row has a place for each entry of the site, with the number of calls of these editors that are this entry
-pub record IsRowOf (t : TraceValue) (logs : List EditorLog) (site : ℕ) (row : List ℕ) : Type 0 where
+pub record IsRowOfCalls (t : TraceValue) (logs : List EditorLog) (site : ℕ) (row : List ℕ) : Type 0 where
   pub size : length row ≡ length (get_or t.histories (site - 1) [])
   pub counts : AreCounts (λ (i : ℕ). site_calls_at site (i + 1) logs) row
 
 -- there is a row for each of the first so many sites
 pub record AreRows (t : TraceValue) (logs : List EditorLog) (sites : ℕ) (rows : List (Vec ℕ Global)) : Type 0 where
   pub each : length rows ≡ sites
-  pub row : (i : ℕ) (row : Vec ℕ Global) → slice_get rows i ≡ Some row → IsRowOf t logs (i + 1) row.items
+  pub row : (i : ℕ) (row : Vec ℕ Global) → slice_get rows i ≡ Some row → IsRowOfCalls t logs (i + 1) row.items
 
 -- the first request of the site that is not the entry of exactly one call
 pub record IsFirstAloneAt (t : TraceValue) (site line : ℕ) : Type 0 where

@@ -84,9 +84,9 @@ AreAllSeen t last looks =
     (text_at : ℕ → ℕ → List ℕ) → AreTextsOnTheWay t.histories last text_at → AreLooks t (all_seen t) text_at looks
 
 -- the course is over, or stopped
-abbrev pub HasRun : ReplayValue → ReplayValue → Looks → Option Stop → Type 0
-HasRun old new looks (Some stop) = Stops old.trace stop.line stop.fault
-HasRun old new looks None =
+abbrev pub HasEnded : ReplayValue → ReplayValue → Looks → Option Stop → Type 0
+HasEnded old new looks (Some stop) = Stops old.trace stop.line stop.fault
+HasEnded old new looks None =
     (new.trace ≡ old.trace) × IsOver old.trace (states_of new) × AreAllSeen old.trace (states_of new) looks
 
 -- nothing more can be done, and the stop is at the next entry of the first site that has one left

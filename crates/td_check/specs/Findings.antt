@@ -20,7 +20,7 @@ use Rattle.td_check.specs.declared.verdict.Fault.TheVariants.{Call, Look}
 use Rattle.td_check.specs.Stops.{IsOver, IsBefore}
 
 -- the replay came to its end without a stop, with these texts on the way
-pub record IsReplayed (t : TraceValue) (last : States) (text_at : ℕ → ℕ → List ℕ) : Type 0 where
+pub record IsReplayedWith (t : TraceValue) (last : States) (text_at : ℕ → ℕ → List ℕ) : Type 0 where
   pub over : IsOver t last
   pub votes : VotesWereSent t.histories last
   pub texts : AreTextsOnTheWay t.histories last text_at
@@ -77,24 +77,24 @@ NoneAlone t = (site k : ℕ) → ¬ IsAlone t site k
 -- ---- texts
 
 -- the text that is told of the site is that of its replica
-abbrev pub IsText : TraceValue → States → ℕ → Type 0
-IsText t last site = slice_get t.texts (site - 1) ≡ Some (text_of (last site).machine.doc)
+abbrev pub IsTextOf : TraceValue → States → ℕ → Type 0
+IsTextOf t last site = slice_get t.texts (site - 1) ≡ Some (text_of (last site).machine.doc)
 
 pub record IsFirstText (t : TraceValue) (last : States) (line : ℕ) : Type 0 where
   pub site : ℕ
   pub some : 0 < site
   pub within : site ≤ length t.histories
-  pub other : ¬ IsText t last site
-  pub before : (r : ℕ) → 0 < r → r < site → IsText t last r
+  pub other : ¬ IsTextOf t last site
+  pub before : (r : ℕ) → 0 < r → r < site → IsTextOf t last r
   pub line_is : line ≡ line_of_text t site
 
 abbrev pub AreAllTexts : TraceValue → States → Type 0
-AreAllTexts t last = (site : ℕ) → 0 < site → site ≤ length t.histories → IsText t last site
+AreAllTexts t last = (site : ℕ) → 0 < site → site ≤ length t.histories → IsTextOf t last site
 
 -- ---- all settled
 
 -- the replicas have the same operations, and no proposal is undecided
-pub record IsSettled (t : TraceValue) (last : States) : Type 0 where
+pub record AreSettledStates (t : TraceValue) (last : States) : Type 0 where
   pub vectors : (r s : ℕ) → 0 < r → r ≤ length t.histories → 0 < s → s ≤ length t.histories
       → (last r).machine.have ≡ (last s).machine.have
   pub decided : (site : ℕ) → 0 < site → site ≤ length t.histories → undecided (last site).machine ≡ 0

@@ -72,11 +72,11 @@ pub record HasStopped (old new : ReplayValue) : Type 0 where
   pub done : new.done ≡ old.done
 
 -- what the next entry of a site comes to; None where there is none
-abbrev pub IsNext : ℕ → ReplayValue → Option Judged → ReplayValue → Type 0
-IsNext site old None new = Rests (histories_of old) site (states_of old) × (new ≡ old)
-IsNext site old (Some judged.Lost) new =
+abbrev pub NextComesTo : ℕ → ReplayValue → Option Judged → ReplayValue → Type 0
+NextComesTo site old None new = Rests (histories_of old) site (states_of old) × (new ≡ old)
+NextComesTo site old (Some judged.Lost) new =
     ((entry : TraceEntry) × IsLostAt (histories_of old) site (states_of old) entry) × HasStopped old new
-IsNext site old (Some judged.Waits) new = Rests (histories_of old) site (states_of old) × (new ≡ old)
-IsNext site old (Some judged.Wrong) new =
+NextComesTo site old (Some judged.Waits) new = Rests (histories_of old) site (states_of old) × (new ≡ old)
+NextComesTo site old (Some judged.Wrong) new =
     ((entry : TraceEntry) × IsWrongAt (histories_of old) site (states_of old) entry) × HasStopped old new
-IsNext site old (Some judged.Done) new = HasDone site old new
+NextComesTo site old (Some judged.Done) new = HasDone site old new

@@ -11,22 +11,22 @@ use Rattle.td_check.specs.declared.verdict.Fault.TheVariants.{Size, Form, Alone,
 use Rattle.td_check.specs.declared.verdict.Verdict.{Verdict}
 use Rattle.td_check.specs.declared.verdict.Verdict.TheVariants.{Yes, No}
 use Rattle.td_check.specs.Stops.{Stops}
-use Rattle.td_check.specs.Findings.{IsReplayed, IsFirstDeed, AreAllLogs, IsFirstAlone, NoneAlone, IsFirstText}
-use Rattle.td_check.specs.Findings.{AreAllTexts, IsSettled}
+use Rattle.td_check.specs.Findings.{IsReplayedWith, IsFirstDeed, AreAllLogs, IsFirstAlone, NoneAlone, IsFirstText}
+use Rattle.td_check.specs.Findings.{AreAllTexts, AreSettledStates}
 
 -- what is found of a trace of one site or more
-pub data IsFound (t : TraceValue) : Verdict → Type 0 where
-  OfStop : {line : ℕ} {fault : Fault} → Stops t line fault → IsFound t (No line fault)
-  OfDeed : {last : States} {text_at : ℕ → ℕ → List ℕ} {line : ℕ} {fault : Fault} → IsReplayed t last text_at
-      → IsFirstDeed t text_at line fault → IsFound t (No line fault)
-  OfAlone : {last : States} {text_at : ℕ → ℕ → List ℕ} {line : ℕ} → IsReplayed t last text_at → AreAllLogs t text_at
-      → IsFirstAlone t line → IsFound t (No line Alone)
-  OfText : {last : States} {text_at : ℕ → ℕ → List ℕ} {line : ℕ} → IsReplayed t last text_at → AreAllLogs t text_at
-      → NoneAlone t → IsFirstText t last line → IsFound t (No line Text)
-  OfOpen : {last : States} {text_at : ℕ → ℕ → List ℕ} → IsReplayed t last text_at → AreAllLogs t text_at
-      → NoneAlone t → AreAllTexts t last → ¬ IsSettled t last → IsFound t (No (line_of_end t) Open)
-  OfNone : {last : States} {text_at : ℕ → ℕ → List ℕ} → IsReplayed t last text_at → AreAllLogs t text_at
-      → NoneAlone t → AreAllTexts t last → IsSettled t last → IsFound t Yes
+pub data IsFinding (t : TraceValue) : Verdict → Type 0 where
+  OfStop : {line : ℕ} {fault : Fault} → Stops t line fault → IsFinding t (No line fault)
+  OfDeed : {last : States} {text_at : ℕ → ℕ → List ℕ} {line : ℕ} {fault : Fault} → IsReplayedWith t last text_at
+      → IsFirstDeed t text_at line fault → IsFinding t (No line fault)
+  OfAlone : {last : States} {text_at : ℕ → ℕ → List ℕ} {line : ℕ} → IsReplayedWith t last text_at → AreAllLogs t text_at
+      → IsFirstAlone t line → IsFinding t (No line Alone)
+  OfText : {last : States} {text_at : ℕ → ℕ → List ℕ} {line : ℕ} → IsReplayedWith t last text_at → AreAllLogs t text_at
+      → NoneAlone t → IsFirstText t last line → IsFinding t (No line Text)
+  OfOpen : {last : States} {text_at : ℕ → ℕ → List ℕ} → IsReplayedWith t last text_at → AreAllLogs t text_at
+      → NoneAlone t → AreAllTexts t last → ¬ AreSettledStates t last → IsFinding t (No (line_of_end t) Open)
+  OfNone : {last : States} {text_at : ℕ → ℕ → List ℕ} → IsReplayedWith t last text_at → AreAllLogs t text_at
+      → NoneAlone t → AreAllTexts t last → AreSettledStates t last → IsFinding t Yes
 
 pub data IsVerdict (bytes : List ℕ) : Verdict → Type 0 where
   TooLong : MAX_TRACE < length bytes → IsVerdict bytes (No 0 Size)
@@ -34,7 +34,7 @@ pub data IsVerdict (bytes : List ℕ) : Verdict → Type 0 where
       → IsVerdict bytes (No line Form)
   OfNoSite : length bytes ≤ MAX_TRACE → (t : TraceValue) → IsTraceOf bytes t → t.sites ≡ 0 → IsVerdict bytes Yes
   OfTrace : {verdict : Verdict} → length bytes ≤ MAX_TRACE → (t : TraceValue) → IsTraceOf bytes t → 0 < t.sites
-      → IsFound t verdict → IsVerdict bytes verdict
+      → IsFinding t verdict → IsVerdict bytes verdict
 
 -- the bytes are the trace of no site, or that of a live family
 pub record IsPossible (bytes : List ℕ) : Type 0 where

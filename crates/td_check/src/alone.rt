@@ -3,7 +3,7 @@ ghost use Rattle.std.specs.Prelude.{◌≡◌, ◌<◌, ◌≤◌, ◌+◌, ◌�
 ghost use Rattle.td_trace.specs.Editors.{calls_at};
 ghost use Rattle.td_trace.specs.declared.log.EditorLog.{EditorLog};
 ghost use Rattle.td_reader.specs.Said.{did_of};
-ghost use Rattle.td_check.specs.Alone.{AreCounts, AreRows, IsFirstAloneAt, IsRowOf, counted_at};
+ghost use Rattle.td_check.specs.Alone.{AreCounts, AreRows, IsFirstAloneAt, IsRowOfCalls, counted_at};
 ghost use Rattle.td_check.specs.Findings.{IsAlone, IsFirstAlone, NoneAlone};
 
 use crate::deeds::is_request;
@@ -45,7 +45,7 @@ fn no_counts(alloc: Global, trace: &ReadTrace<'_>) -> Result<Vec<Vec<u8>>, Memor
 
 // A count of 0 for each entry of the site.
 fn no_counts_of(alloc: Global, trace: &ReadTrace<'_>, site: Site) -> Result<Vec<u8>, Memory>
-    ensures { IfOk result (λ row. IsRowOf trace.now [] site row.items) }
+    ensures { IfOk result (λ row. IsRowOfCalls trace.now [] site row.items) }
 {
     let entries = trace.entries(site) as usize;
     Ok(vec![in alloc; 0; entries]?)
@@ -120,7 +120,7 @@ fn first_in(trace: &ReadTrace<'_>, rows: &[Vec<u8>]) -> Option<u32>
 fn first_of(trace: &ReadTrace<'_>, site: Site, row: &[u8]) -> Option<u32>
     requires some { 0 < site }
     requires within { site ≤ length trace.now.histories }
-    requires row { IsRowOf trace.now trace.now.logs site row.now }
+    requires row { IsRowOfCalls trace.now trace.now.logs site row.now }
     ensures { MatchOption result ((k : ℕ) → ¬ IsAlone trace.now site k) (λ line. IsFirstAloneAt trace.now site line) }
 {
     for index in 0..trace.entries(site) {

@@ -1,9 +1,9 @@
 ghost use Rattle.std.specs.Prelude.{◌≡◌, ◌↔◌, ◌<◌, ◌⊎◌, ℕ, List, IfOk};
 ghost use Rattle.td_law_replay.specs.Judging.{States};
-ghost use Rattle.td_check.specs.Findings.{IsReplayed};
+ghost use Rattle.td_check.specs.Findings.{IsReplayedWith};
 ghost use Rattle.td_check.specs.Looks.{AreLooks, all_seen};
 ghost use Rattle.td_check.specs.Seated.{AreSeated};
-ghost use Rattle.td_check.specs.Verdict.{IsFound, IsPossible, IsVerdict};
+ghost use Rattle.td_check.specs.Verdict.{IsFinding, IsPossible, IsVerdict};
 
 use crate::alone::first_alone;
 use crate::deeds::first_deed;
@@ -39,7 +39,7 @@ pub fn check_trace(alloc: Global, bytes: &[u8]) -> Result<Verdict, Memory>
 // Of a trace. That of no site tells nothing.
 fn judge_trace(alloc: Global, trace: &ReadTrace<'_>) -> Result<Verdict, Memory>
     ensures { IfOk result (λ verdict. ((trace.now.sites ≡ 0) × (verdict ≡ Verdict.Yes))
-        ⊎ ((0 < trace.now.sites) × IsFound trace.now verdict)) }
+        ⊎ ((0 < trace.now.sites) × IsFinding trace.now verdict)) }
 {
     if trace.sites() == 0 {
         return Ok(Verdict::Yes);
@@ -50,7 +50,7 @@ fn judge_trace(alloc: Global, trace: &ReadTrace<'_>) -> Result<Verdict, Memory>
 // Of a trace of one site or more: goes through its replay, and judges what is told beside the entries.
 fn judge_replay(alloc: Global, trace: &ReadTrace<'_>) -> Result<Verdict, Memory>
     requires { 0 < trace.now.sites }
-    ensures { IfOk result (IsFound trace.now) }
+    ensures { IfOk result (IsFinding trace.now) }
 {
     // its parts are in range
     trace.sites();
@@ -74,8 +74,8 @@ fn judge_end<D: Doc>(
     looks: &Looks,
 ) -> Result<Verdict, Memory>
     ensures { IfOk result (λ verdict. (last : States) (text_at : ℕ → ℕ → List ℕ)
-        → AreSeated trace.now.sites last seats.now → IsReplayed trace.now last text_at
-        → AreLooks trace.now (all_seen trace.now) text_at looks.now → IsFound trace.now verdict) }
+        → AreSeated trace.now.sites last seats.now → IsReplayedWith trace.now last text_at
+        → AreLooks trace.now (all_seen trace.now) text_at looks.now → IsFinding trace.now verdict) }
 {
     // its parts are in range
     trace.sites();

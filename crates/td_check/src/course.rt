@@ -2,7 +2,7 @@
 ghost use Rattle.std.specs.Prelude.{◌≡◌, ◌≤◌, false, IfOk};
 ghost use Rattle.td_law_replay.specs.Judging.{begin};
 ghost use Rattle.td_law_replay.specs.Rounds.{Course};
-ghost use Rattle.td_check.specs.Course.{AreSeen, HasGone, HasRounded, HasRun};
+ghost use Rattle.td_check.specs.Course.{AreSeen, HasGone, HasRounded, HasEnded};
 ghost use Rattle.td_check.specs.Sites.{IsReplaying, histories_of, states_of};
 
 use crate::judged::Judged;
@@ -19,7 +19,7 @@ impl<'a, D: Doc> Replay<'a, D> {
     pub(crate) fn run(&mut self, alloc: Global, looks: &mut Looks) -> Result<Option<Stop>, Memory>
         requires begun { states_of self.old ≡ begin (histories_of self.old) }
         requires seen { AreSeen self.old looks.old }
-        ensures { IfOk result (λ stop. HasRun self.old self.new looks.new stop) }
+        ensures { IfOk result (λ stop. HasEnded self.old self.new looks.new stop) }
     {
         // its parts are in range
         self.sites();

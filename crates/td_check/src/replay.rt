@@ -6,7 +6,7 @@ ghost use Rattle.td_law_replay.specs.Replies.{is_new, taken_of};
 ghost use Rattle.td_law_replay.specs.Counting.{made_deps};
 ghost use Rattle.td_law_replay.specs.Traced.{site_entries};
 ghost use Rattle.td_trace.specs.declared.told_input.ToldInput.TheVariants.{Asked, TookOp, TookVote, Went as WentOn};
-ghost use Rattle.td_check.specs.Sites.{IsJudgedAt, IsNext, IsReplaying, done_of, histories_of};
+ghost use Rattle.td_check.specs.Sites.{IsJudgedAt, NextComesTo, IsReplaying, done_of, histories_of};
 ghost use Rattle.td_check.specs.Sites.{machine_of, states_of};
 ghost use Rattle.td_check.specs.ReplayParts.{IsOutlineAt};
 
@@ -68,7 +68,7 @@ impl<'a, D: Doc> Replay<'a, D> {
     pub(crate) fn next(&mut self, site: Site) -> Result<Option<Judged>, Memory>
         requires within { site ≤ self.old.trace.sites }
         requires replaying { IsReplaying self.old }
-        ensures { IfOk result (λ judged. IsNext site self.old judged self.new) }
+        ensures { IfOk result (λ judged. NextComesTo site self.old judged self.new) }
     {
         let Some(entry) = self.next_entry(site) else {
             return Ok(None);

@@ -4,7 +4,7 @@ ghost use Rattle.std.specs.List.{list_all};
 ghost use Rattle.td_reader.specs.Values.{TraceValue};
 ghost use Rattle.td_law_replay.specs.Judging.{States};
 ghost use Rattle.td_check.specs.AtRest.{is_at_rest};
-ghost use Rattle.td_check.specs.Findings.{IsSettled};
+ghost use Rattle.td_check.specs.Findings.{AreSettledStates};
 ghost use Rattle.td_check.specs.Seated.{AreSeated};
 
 use td_clock::Vector;
@@ -15,7 +15,7 @@ use td_seat::Seat;
 /// the end of the replay, that of site s at place s - 1. Takes no memory.
 pub(crate) fn is_settled<D: Doc>(seats: &[Seat<D>]) -> bool
     ensures { (t : TraceValue) (last : States) → AreSeated t.sites last seats.now → length t.histories ≡ t.sites
-        → IsTrue result ↔ IsSettled t last }
+        → IsTrue result ↔ AreSettledStates t last }
 {
     let Some(first) = seats.first() else {
         return true;

@@ -13,7 +13,7 @@ use Rattle.td_op.specs.declared.input.Input.TheVariants.{Local}
 use Rattle.td_machine.specs.History.{History}
 use Rattle.td_line.specs.declared.ask.Ask.{Ask}
 use Rattle.td_line.specs.declared.answer.Answer.{Answer}
-use Rattle.td_line.specs.Calls.{entry_at, AreRecorded, answers_at, local_in, local_of, local_at, OnlyLocals, IsDone}
+use Rattle.td_line.specs.Calls.{entry_at, AreRecorded, answers_at, local_in, local_of, local_at, OnlyLocals, IsAskDone}
 
 abbrev pub entry_of : Ask → Answer → Entry
 entry_of q a = record { input = Local q.request; reply = a.reply }
@@ -75,7 +75,7 @@ entry_after : (old new : History) (e : Entry) (k : ℕ) → new ≡ old ++ e ∷
 entry_after old new e k is at = omega (arith, at, ap (λ (h : History). length h) is, length-append old (e ∷ []))
 
 pub recorded_done : (old : History) (before : List Answer) (ask : Ask) (new : History) (after : List Answer)
-    → IsDone old before ask new after → (asks : List Ask) → AreRecorded old 0 asks before
+    → IsAskDone old before ask new after → (asks : List Ask) → AreRecorded old 0 asks before
     → AreRecorded new 0 (asks ++ ask ∷ []) after
 recorded_done old before ask new after d asks r =
     let a = d.answer in
@@ -154,7 +154,7 @@ local_more old e (suc k) h =
 
 -- one entry more, and one answer more that has it
 pub counts_done : (old : History) (before : List Answer) (ask : Ask) (new : History) (after : List Answer)
-    → IsDone old before ask new after → (k : ℕ)
+    → IsAskDone old before ask new after → (k : ℕ)
     → answers_at k after + local_at old k ≡ answers_at k before + local_at new k
 counts_done old before ask new after d k =
     let a = d.answer in
@@ -198,6 +198,6 @@ only_then old now new a b =
     }
 
 pub only_done : (old : History) (before : List Answer) (ask : Ask) (new : History) (after : List Answer)
-    → IsDone old before ask new after → OnlyLocals old new
+    → IsAskDone old before ask new after → OnlyLocals old new
 only_done old before ask new after d =
     record { more = entry_of ask d.answer ∷ []; added = d.entries; local = (refl, tt) }

@@ -13,7 +13,7 @@ use Rattle.td_link.specs.Moments.{WasFull}
 use Rattle.td_view.specs.declared.publish.Publish.{Publish}
 use Rattle.td_view.specs.declared.shown.Shown.{Shown}
 use Rattle.td_view.specs.Deeds.{publish_of}
-use Rattle.td_view.specs.Publishes.{EndsWith, IsLegal, last_upto}
+use Rattle.td_view.specs.Publishes.{EndsWith, AreLegal, last_upto}
 use Rattle.td_view.specs.Values.{ReaderValue}
 use Rattle.td_site.proofs.Lists.{prefix_self, prefix_then}
 use Rattle.td_view.proofs.Rising.{rises, ends_upto}
@@ -22,7 +22,7 @@ use Rattle.td_line.specs.declared.ask.Ask.{Ask}
 use Rattle.td_line.specs.declared.answer.Answer.{Answer}
 use Rattle.td_line.specs.declared.report.Report.{Report}
 use Rattle.td_line.specs.declared.not_sent.NotSent.TheVariants.{Full}
-use Rattle.td_line.specs.Editors.{EditorValue, IsEditor, IsPending, IsCounted}
+use Rattle.td_line.specs.Editors.{EditorValue, IsEditor, AwaitsAnswer, IsPolledCount}
 use Rattle.td_line.specs.Editors.{IsSubmitted, LaterEditor, polled, with_ask}
 
 -- as many requests are sent as calls are made
@@ -32,21 +32,21 @@ asked e is =
     ∙ (ap length is.numbered ∙ length-range_with_len 1 e.made)
 
 -- what the count of the answers polled tells
-pub pending : (e : EditorValue) (count : ℕ) → IsEditor e → IsCounted count (length e.answers.taken)
-    → e.made < 2 ^ 64 → count < e.made → IsPending e
+pub pending : (e : EditorValue) (count : ℕ) → IsEditor e → IsPolledCount count (length e.answers.taken)
+    → e.made < 2 ^ 64 → count < e.made → AwaitsAnswer e
 pending e count is counted few less =
     let n : length e.asks.sent ≡ e.made = asked e is in
     omega (arith, counted)
 
-pub answered : (e : EditorValue) (count : ℕ) → IsEditor e → IsCounted count (length e.answers.taken)
-    → e.made ≤ count → IsPending e → ⊥
+pub answered : (e : EditorValue) (count : ℕ) → IsEditor e → IsPolledCount count (length e.answers.taken)
+    → e.made ≤ count → AwaitsAnswer e → ⊥
 answered e count is counted most waits =
     let n : length e.asks.sent ≡ e.made = asked e is in
     let w : length e.answers.taken < length e.asks.sent = waits in
     absurd (omega (arith, counted))
 
-pub counted_more : (count : ℕ) (a b : RxValue Report Book) (report : Report) → IsCounted count (length a.taken)
-    → b ≡ record a { taken = a.taken ++ report ∷ [] } → IsCounted (min (count + 1) (2 ^ 64 - 1)) (length b.taken)
+pub counted_more : (count : ℕ) (a b : RxValue Report Book) (report : Report) → IsPolledCount count (length a.taken)
+    → b ≡ record a { taken = a.taken ++ report ∷ [] } → IsPolledCount (min (count + 1) (2 ^ 64 - 1)) (length b.taken)
 counted_more count a b report counted taken =
     let n : length b.taken ≡ length a.taken + 1 =
     ap (λ (x : RxValue Report Book). length x.taken) taken ∙ length-append a.taken (report ∷ []) in
@@ -68,12 +68,12 @@ calls_more asks q n numbered call =
     ∙ ((λ i. numbered i ++ k i ∷ []) ∙ (sym (range_more 1 n) ∙ ap (range_with_len 1) m))
 
 -- what a call says that sends one
-pub sent_ask : (e : EditorValue) (request : Request) → (IsPending e → ⊥) → e.made < e.calls
+pub sent_ask : (e : EditorValue) (request : Request) → (AwaitsAnswer e → ⊥) → e.made < e.calls
     → IsSubmitted e request (Ok (e.made + 1)) (with_ask request e)
 sent_ask e request free less = (free, less, refl, refl)
 
 -- and one that finds the queue full
-pub no_place : (e : EditorValue) (request : Request) → IsEditor e → (IsPending e → ⊥) → e.made < e.calls
+pub no_place : (e : EditorValue) (request : Request) → IsEditor e → (AwaitsAnswer e → ⊥) → e.made < e.calls
     → WasFull e.asks.cap e.asks.sent → IsSubmitted e request (Err Full) e
 no_place e request is free less full =
     ((free, less, subst (λ (cap : ℕ). WasFull cap e.asks.sent) is.cap full), refl)
@@ -93,7 +93,7 @@ with_ask_is e request is less = record {
 pub polled_is : (e : EditorValue) (report : Report) (answers : RxValue Report Book) (r : ReaderValue) → IsEditor e
     → answers ≡ record e.answers { taken = e.answers.taken ++ report ∷ [] }
     → r ≡ record e.reader { known = r.known } → UptoAtLeast report.told.list report.answer.entry
-    → IsPrefix report.told.list r.known → IsLegal r.known
+    → IsPrefix report.told.list r.known → AreLegal r.known
     → IsEditor (record e { answers = answers; reader = r; entry = report.answer.entry })
 polled_is e report answers r is taken reader upto told legal = record {
   views =
@@ -122,7 +122,7 @@ with_reader_is e r is views known = record {
 pub looked_is : {X : Type 0} (B : Type 0) (result : Option X) (e : EditorValue) (r n : ReaderValue) → IsEditor e
     → n.views ≡ e.reader.views → n.known ≡ e.reader.known → IfNone result (r ≡ n)
     → IfSome result (λ _. r ≡ record e.reader { seen = r.seen; known = r.seen; given = e.reader.given ++ r.seen ∷ [] })
-    → IfSome result (λ _. IsPrefix e.reader.known r.seen × B) → IfSome result (λ _. IsLegal r.seen)
+    → IfSome result (λ _. IsPrefix e.reader.known r.seen × B) → IfSome result (λ _. AreLegal r.seen)
     → IsEditor (record e { reader = r })
 looked_is B None e r n is views known none some later legal =
     with_reader_is e r is (ap (λ (x : ReaderValue). x.views) none ∙ views)
@@ -134,7 +134,7 @@ looked_is B (Some x) e r n is views known none some later legal =
     (rises e.reader.known r.seen later.0 legal))
 
 -- the text at the end of what is seen then is no older than what was known before
-not_older : (known seen : List Publish) (p : Publish) → IsPrefix known seen → IsLegal seen → EndsWith seen p
+not_older : (known seen : List Publish) (p : Publish) → IsPrefix known seen → AreLegal seen → EndsWith seen p
     → last_upto known ≤ p.upto
 not_older known seen p before legal ends =
     subst (λ (n : ℕ). last_upto known ≤ n) (ends_upto seen p ends) (rises known seen before legal)
@@ -143,7 +143,7 @@ not_older known seen p before legal ends =
 pub shown_is : {X : Type 0} (Says : Shown → X → Type 0) (result : Option X) (e : EditorValue) (seen : List Publish)
     → IsEditor e → IfSome result (λ answer. (x : Shown) × Says x answer × EndsWith seen (publish_of x))
     → IfSome result (λ _. IsPrefix e.reader.known seen × IsPrefix e.reader.seen seen)
-    → IfSome result (λ _. IsLegal seen)
+    → IfSome result (λ _. AreLegal seen)
     → IfSome result (λ answer. (x : Shown) × Says x answer × EndsWith seen (publish_of x)
     × (e.entry ≤ x.upto) × (last_upto e.reader.seen ≤ x.upto))
 shown_is Says None e seen is shown later legal = tt

@@ -7,7 +7,7 @@ use Rattle.td_machine.specs.History.{History}
 use Rattle.td_line.specs.declared.ask.Ask.{Ask}
 use Rattle.td_line.specs.declared.answer.Answer.{Answer}
 use Rattle.td_line.specs.declared.report.Report.{Report}
-use Rattle.td_line.specs.Calls.{AreRecorded, answers_at, local_at, IsDone}
+use Rattle.td_line.specs.Calls.{AreRecorded, answers_at, local_at, IsAskDone}
 use Rattle.td_line.specs.Lines.{sent_part}
 use Rattle.td_site.proofs.Lists.{prefix_self, prefix_then}
 use Rattle.td_line.proofs.Calling.{recorded_done, counts_done}
@@ -33,7 +33,7 @@ done_none old before all =
 
 pub done_next : (old : History) (before : List Answer) (all : List Ask) (now : History) (given : List Answer)
     (left : List Ask) (ask : Ask) (next : History) (more : List Answer) (rest : List Ask)
-    → AreDone old before all now given left → left ≡ ask ∷ rest → IsDone now given ask next more
+    → AreDone old before all now given left → left ≡ ask ∷ rest → IsAskDone now given ask next more
     → AreDone old before all next more rest
 done_next old before all now given left ask next more rest d first is =
     record {

@@ -11,12 +11,12 @@ use Rattle.td_op.specs.declared.entry.Entry.{Entry}
 use Rattle.td_machine.specs.History.{History}
 use Rattle.td_replica.specs.Replica.{ReplicaValue}
 use Rattle.td_site.specs.Sites.{SiteValue}
-use Rattle.td_site.specs.Later.{LaterSite, IsNext, OnlyNexts}
+use Rattle.td_site.specs.Later.{LaterSite, TookNext, OnlyNexts}
 use Rattle.td_site.proofs.Lists.{prefix_self, prefix_then}
 use Rattle.td_site.proofs.Later.{later_self, later_then}
 use Rattle.td_line.specs.declared.ask.Ask.{Ask}
 use Rattle.td_line.specs.declared.answer.Answer.{Answer}
-use Rattle.td_line.specs.Calls.{AreRecorded, answers_at, local_in, local_at, IsDone}
+use Rattle.td_line.specs.Calls.{AreRecorded, answers_at, local_in, local_at, IsAskDone}
 use Rattle.td_line.specs.Lines.{LineValue, line_places, HasServed, LaterLine, Served, Turned}
 use Rattle.td_line.specs.Editors.{EditorValue, LaterEditor, Belongs, IsNewLine}
 use Rattle.td_line.proofs.Calling.{recorded_later, recorded_done, counts_done}
@@ -98,7 +98,8 @@ pub counts_others : (old new : History) (p : IsPrefix old new)
 counts_others old new p none k =
     ap (λ (h : History). local_at h k) (sym p.1) ∙ local_same old p.0 none k
 
-no_requests : (more : History) → AllByRecursion IsNext more → AllByRecursion (λ (e : Entry). local_in e.input ≡ 0) more
+no_requests : (more : History) → AllByRecursion TookNext more
+    → AllByRecursion (λ (e : Entry). local_in e.input ≡ 0) more
 no_requests [] nexts = tt
 no_requests (e ∷ more) nexts = (ap local_in nexts.0.0, no_requests more nexts.1)
 
@@ -108,7 +109,7 @@ counts_nexts old new n = counts_others old new (n.more, n.goes_on) (no_requests 
 -- ---- a request done
 
 pub served_done : (s t : SiteValue) (l m : LineValue) (ask : Ask) → LaterSite s t → l.ask ≡ Some ask
-    → IsDone s.replica.entries l.given ask t.replica.entries m.given
+    → IsAskDone s.replica.entries l.given ask t.replica.entries m.given
     → m ≡ record l { ask = None; given = m.given; owed = true } → Served s l t m
 served_done s t l m ask later waits d is =
     record {

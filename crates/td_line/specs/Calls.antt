@@ -50,7 +50,7 @@ pub record OnlyLocals (old new : History) : Type 0 where
   pub local : AllByRecursion (λ (e : Entry). local_in e.input ≡ 1) more
 
 -- the request became the next entry of the history, and its answer came behind those before
-pub record IsDone (old : History) (before : List Answer) (ask : Ask) (new : History) (after : List Answer)
+pub record IsAskDone (old : History) (before : List Answer) (ask : Ask) (new : History) (after : List Answer)
     : Type 0 where
   pub answer : Answer
   pub call : answer.call ≡ ask.call

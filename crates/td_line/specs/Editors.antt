@@ -44,14 +44,14 @@ pub record IsEditor (e : EditorValue) : Type 0 where
   pub cap : e.asks.cap ≡ line_places
 
 -- the last call has no answer polled
-abbrev pub IsPending : EditorValue → Type 0
-IsPending e = length e.answers.taken < length e.asks.sent
+abbrev pub AwaitsAnswer : EditorValue → Type 0
+AwaitsAnswer e = length e.answers.taken < length e.asks.sent
 
 -- why nothing was sent
 abbrev pub IsWhy : EditorValue → NotSent → Type 0
-IsWhy e (Busy pending) = IsPending e × (pending ≡ e.made)
-IsWhy e (Spent calls) = (IsPending e → ⊥) × (e.made ≡ e.calls) × (calls ≡ e.calls)
-IsWhy e Full = (IsPending e → ⊥) × (e.made < e.calls) × WasFull line_places e.asks.sent
+IsWhy e (Busy pending) = AwaitsAnswer e × (pending ≡ e.made)
+IsWhy e (Spent calls) = (AwaitsAnswer e → ⊥) × (e.made ≡ e.calls) × (calls ≡ e.calls)
+IsWhy e Full = (AwaitsAnswer e → ⊥) × (e.made < e.calls) × WasFull line_places e.asks.sent
 
 -- the editor when one more request is sent
 abbrev pub with_ask : Request → EditorValue → EditorValue
@@ -73,7 +73,7 @@ when_refused given e = record e { reader = record e.reader { refused = one_more 
 -- what a call of `submit` says
 abbrev pub IsSubmitted : EditorValue → Request → Result ℕ NotSent → EditorValue → Type 0
 IsSubmitted e request (Ok call) f =
-    (IsPending e → ⊥) × (e.made < e.calls) × (call ≡ e.made + 1) × (f ≡ with_ask request e)
+    (AwaitsAnswer e → ⊥) × (e.made < e.calls) × (call ≡ e.made + 1) × (f ≡ with_ask request e)
 IsSubmitted e request (Err why) f = IsWhy e why × (f ≡ e)
 
 -- the same editor, later
@@ -94,8 +94,8 @@ pub record Belongs (l : LineValue) (e : EditorValue) : Type 0 where
   pub answers : l.answers.link ≡ e.answers.link
 
 -- the count is that of the answers polled, as far as a number goes
-abbrev pub IsCounted : ℕ → ℕ → Type 0
-IsCounted count answers = count ≡ min answers (2 ^ 64 - 1)
+abbrev pub IsPolledCount : ℕ → ℕ → Type 0
+IsPolledCount count answers = count ≡ min answers (2 ^ 64 - 1)
 
 -- the ends of a line on which nothing was sent yet
 pub record IsNewLine (editor : ℕ) (views : Book) (l : LineValue) : Type 0 where

@@ -3,7 +3,7 @@ ghost use Rattle.std.specs.Prelude.{◌≡◌, ◌+◌, ◌++◌, ℕ, List, Non
 ghost use mathlib.Core.List.{IsPrefix};
 ghost use Rattle.td_site.specs.Later.{LaterSite};
 ghost use Rattle.td_line.specs.declared.ask.Ask.{Ask};
-ghost use Rattle.td_line.specs.Calls.{AreRecorded, IsDone, answers_at, local_at, OnlyLocals};
+ghost use Rattle.td_line.specs.Calls.{AreRecorded, IsAskDone, answers_at, local_at, OnlyLocals};
 ghost use Rattle.td_line.specs.Lines.{HasServed, Served};
 ghost use Rattle.td_line.specs.Editors.{Belongs, polled};
 
@@ -124,7 +124,7 @@ fn do_and_show<D: Doc, R: Wait>(
     ensures only { OnlyLocals site.old.replica.entries site.new.replica.entries }
     ensures late { OnOk result (site.new.late ≡ false) }
     ensures done { OnOk result
-        (IsDone site.old.replica.entries given.old.items ask site.new.replica.entries given.new.items) }
+        (IsAskDone site.old.replica.entries given.old.items ask site.new.replica.entries given.new.items) }
 {
     do_request(site, given, ask)?;
     site.show(rt)?;

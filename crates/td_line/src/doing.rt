@@ -1,7 +1,7 @@
 // How a request is done.
 ghost use Rattle.std.specs.Prelude.{◌≡◌, ◌≢◌, false, None, OnOk, OnErr};
 ghost use Rattle.td_site.specs.Later.{LaterSite};
-ghost use Rattle.td_line.specs.Calls.{IsDone};
+ghost use Rattle.td_line.specs.Calls.{IsAskDone};
 ghost use Rattle.td_line.specs.Lines.{Served};
 
 use crate::answer::Answer;
@@ -42,7 +42,7 @@ pub(crate) fn do_request<D: Doc>(
     requires { site.old.late ≡ false }
     ensures later { LaterSite site.old site.new }
     ensures done { OnOk result
-        (IsDone site.old.replica.entries given.old.items ask site.new.replica.entries given.new.items) }
+        (IsAskDone site.old.replica.entries given.old.items ask site.new.replica.entries given.new.items) }
     ensures err { OnErr result ((site.new ≡ site.old) × (given.new.items ≡ given.old.items)) }
 {
     given.reserve(1)?;

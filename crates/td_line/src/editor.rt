@@ -3,7 +3,7 @@ ghost use Rattle.std.specs.Fn.{FnOnceReturnsAt};
 ghost use mathlib.Core.List.{IsPrefix};
 ghost use Rattle.td_link.specs.Moments.{WasEmpty};
 ghost use Rattle.td_view.specs.declared.shown.Shown.{Shown};
-ghost use Rattle.td_view.specs.Publishes.{EndsWith, IsLegal, last_upto};
+ghost use Rattle.td_view.specs.Publishes.{EndsWith, AreLegal, last_upto};
 ghost use Rattle.td_view.specs.Deeds.{publish_of};
 ghost use Rattle.td_view.specs.Looks.{IsMissed};
 ghost use Rattle.td_line.specs.Editors.{IsEditor, IsSubmitted, LaterEditor, polled, when_shown, when_refused};
@@ -36,7 +36,7 @@ pub struct Editor {
 
 impl Model for Editor {
     ghost use Rattle.std.specs.Prelude.{length};
-    ghost use Rattle.td_line.specs.Editors.{EditorValue, IsEditor, IsCounted};
+    ghost use Rattle.td_line.specs.Editors.{EditorValue, IsEditor, IsPolledCount};
 
     ghost Value = { EditorValue };
 
@@ -58,7 +58,7 @@ impl Model for Editor {
       entry = e.entry;
       made = e.made;
       calls = e.calls;
-    }) × IsCounted e.polled (length e.answers.taken) };
+    }) × IsPolledCount e.polled (length e.answers.taken) };
 }
 
 impl Editor {
@@ -113,7 +113,7 @@ impl Editor {
             × EndsWith self.new.reader.seen (publish_of x)
             × (self.old.entry ≤ x.upto) × (last_upto self.old.reader.seen ≤ x.upto)) }
         ensures fresh { IfSome result (λ _. IsPrefix self.old.reader.known self.new.reader.seen) }
-        ensures legal { IfSome result (λ _. IsLegal self.new.reader.seen) }
+        ensures legal { IfSome result (λ _. AreLegal self.new.reader.seen) }
         ensures some { IfSome result (λ _. self.new ≡ when_shown self.new.reader.seen self.old) }
         ensures none { IfNone result (self.new ≡ when_refused self.new.reader.given self.old) }
         ensures missed { IfNone result (IsMissed self.old.reader self.new.reader) }

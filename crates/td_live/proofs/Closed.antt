@@ -39,11 +39,11 @@ use Rattle.td_trace.specs.Family.{text_past}
 use Rattle.td_live.specs.declared.ask.Ask.{Ask}
 use Rattle.td_live.specs.Asking.{request_of}
 use Rattle.td_live.specs.Following.{Act, Called, Leads, AreActs, all_of, replied}
-use Rattle.td_live.specs.Desks.{DeskValue, IsDesk, HasDone, AwaitsNext, AreAnswered}
-use Rattle.td_live.specs.Desks.{AreSeen, acts_by, acts_of, sofar_of}
+use Rattle.td_live.specs.Desks.{DeskValue, IsDesk, HasDoneLines, AwaitsNext, AreAnswered}
+use Rattle.td_live.specs.Desks.{AreLooksAt, acts_by, acts_of, sofar_of}
 use Rattle.td_live.specs.Books.{BookValue, IsBook, AreBooks, log_of, calls_done, with_answer, brought_up}
 use Rattle.td_live.specs.Live.{IsLiveFamilyOf}
-use Rattle.td_live.specs.Ending.{GoesOnTo, IsLiveEnd}
+use Rattle.td_live.specs.Ending.{IsTraceFrom, IsLiveEnd}
 use Rattle.td_live.specs.Drafts.{CanBringUp, book_of, all_brought_up}
 use Rattle.td_live.proofs.Leading.{leads_call}
 use Rattle.td_live.proofs.Logging.{acts_more, acts_call, answered_call, seen_call}
@@ -119,7 +119,7 @@ AreTrue entries t seen = (p : Publish) → In p seen → (p.upto ≤ length entr
 
 did_of_answers : (entries : History) (t : ℕ → List ℕ) (seen : List Publish) → AreTrue entries t seen → (s : Sofar)
     (asks : List Sent) (answers : List Answer) (did : List Did) → AreRecorded entries s.entry asks answers
-    → AreAnswered s.calls answers did → AreSeen seen s.entry s.upto did → AreDid (traced_history entries) t s did
+    → AreAnswered s.calls answers did → AreLooksAt seen s.entry s.upto did → AreDid (traced_history entries) t s did
 did_of_answers entries t seen true_of s asks answers [] r h l = tt
 did_of_answers entries t seen true_of s asks [] (Call call k ∷ did) r h l = absurd h
 did_of_answers entries t seen true_of s [] (a ∷ answers) (Call call k ∷ did) r h l = absurd r
@@ -157,10 +157,10 @@ get_behind (x ∷ xs) ys = get_behind xs ys
 -- the book tells of all these answers, and by them it has done what the desk has done of any lines
 record IsUpToDate (d : DeskValue) (answers : List Answer) (b : BookValue) : Type 0 where
   home : b.home ≡ d.editor.home
-  leads : (lines : List EditorLine) → HasDone lines d
+  leads : (lines : List EditorLine) → HasDoneLines lines d
       → Leads (all_of lines) (acts_by d.editor.asks.sent answers b.did) b.rest
   entries : AreAnswered 0 answers b.did
-  seen : AreSeen d.editor.reader.seen 0 0 b.did
+  seen : AreLooksAt d.editor.reader.seen 0 0 b.did
   kept : IsPrefix d.did b.did
 
 module _ (entries : History) (d : DeskValue) (answers : List Answer) (desk : IsDesk d)
@@ -288,7 +288,7 @@ module _ (rs : List ReplicaValue) (sites : AreSites rs) where
             (λ i. (site i, size i, sym h i)),
       )
 
-  book_up : (lines : List EditorLine) (d : DeskValue) (answers : List Answer) (b : BookValue) → HasDone lines d
+  book_up : (lines : List EditorLine) (d : DeskValue) (answers : List Answer) (b : BookValue) → HasDoneLines lines d
       → IsReady rs d → AreRecorded (replica_from rs (d.editor.home - 1)).entries 0 d.editor.asks.sent answers
       → IsUpToDate d answers b → IsBook (family_of (world_of rs)) lines b
   book_up lines d answers b done ready recorded u =
@@ -331,8 +331,8 @@ module _ (rs : List ReplicaValue) (sites : AreSites rs) where
     all_can ds all h.1 z.1,
   )
 
-  each_up : (lines : List (List EditorLine)) (ds : List DeskValue) (all : List (List Answer)) → AllZip HasDone lines ds
-      → AllByRecursion IsDesk ds → AllByRecursion (IsReady rs) ds
+  each_up : (lines : List (List EditorLine)) (ds : List DeskValue) (all : List (List Answer))
+      → AllZip HasDoneLines lines ds → AllByRecursion IsDesk ds → AllByRecursion (IsReady rs) ds
       → AllZip (IsAnsweredAtHome rs) (map (λ (d : DeskValue). d.editor) ds) all
       → AllZip (IsBook (family_of (world_of rs))) lines (all_brought_up all (map book_of ds))
   each_up [] [] [] done h ready z = tt
@@ -379,7 +379,7 @@ module _ (rs : List ReplicaValue) (sites : AreSites rs) where
       at false own others = refl
 
   pub books_up : (ws : List WorkerValue) (lines : List (List EditorLine)) (ds : List DeskValue)
-      (all : List (List Answer)) → length rs ≡ length ws → AllZip HasDone lines ds
+      (all : List (List Answer)) → length rs ≡ length ws → AllZip HasDoneLines lines ds
       → AllByRecursion IsDesk ds → AllByRecursion (IsReady rs) ds
       → AllZip (IsAnsweredAtHome rs) (map (λ (d : DeskValue). d.editor) ds) all
       → ((place k : ℕ) → place < length ws
@@ -504,7 +504,7 @@ pub ended : (ws : List WorkerValue) (lines : List (List EditorLine)) (ds : List 
     (all : List (List Answer))
     (bytes : List ℕ) → AreSites rs → length rs ≡ length ws → AllZip GoesOn ws rs → AllByRecursion IsDesk ds
     → AllZip (IsAnsweredAtHome rs) (map (λ (d : DeskValue). d.editor) ds) all
-    → GoesOnTo lines (family_of (world_of rs)) (all_brought_up all (map book_of ds)) bytes
+    → IsTraceFrom lines (family_of (world_of rs)) (all_brought_up all (map book_of ds)) bytes
     → IsLiveEnd ws lines ds bytes
 ended ws lines ds rs all bytes sites same on desks answered g =
     let size : length g.family ≡ length rs = g.grown.size ∙ size_is rs sites in
@@ -555,7 +555,7 @@ module _ (ws : List WorkerValue) (ds : List DeskValue) (rs : List ReplicaValue) 
     ups_is : ups ≡ all_brought_up all (map book_of ds)
     ups_is = ups_are ∙ ap (all_brought_up all) bs_are
 
-    books_there : (lines : List (List EditorLine)) → AllZip HasDone lines ds → AreBooks (family_of w) lines ups
+    books_there : (lines : List (List EditorLine)) → AllZip HasDoneLines lines ds → AreBooks (family_of w) lines ups
     books_there lines done =
         subst (λ (x : WorldValue × List BookValue). AreBooks (family_of x.0) lines x.1)
         (λ i. (sym w_is i, sym ups_is i))
@@ -569,9 +569,10 @@ module _ (ws : List WorkerValue) (ds : List DeskValue) (rs : List ReplicaValue) 
         (low_up rs sites (size w) ds all (sym (ap size w_is)) desks all_ready_there theirs)
 
     pub concluded : (bytes : List ℕ) → AllZip GoesOn ws rs
-        → ((lines : List (List EditorLine)) → AreBooks (family_of w) lines ups → GoesOnTo lines (family_of w) ups bytes)
-        → (lines : List (List EditorLine)) → AllZip HasDone lines ds → IsLiveEnd ws lines ds bytes
+        → ((lines : List (List EditorLine)) → AreBooks (family_of w) lines ups
+        → IsTraceFrom lines (family_of w) ups bytes)
+        → (lines : List (List EditorLine)) → AllZip HasDoneLines lines ds → IsLiveEnd ws lines ds bytes
     concluded bytes on g lines done =
         ended ws lines ds rs all bytes sites same on desks theirs
-        (subst (λ (x : WorldValue × List BookValue). GoesOnTo lines (family_of x.0) x.1 bytes)
+        (subst (λ (x : WorldValue × List BookValue). IsTraceFrom lines (family_of x.0) x.1 bytes)
         (λ i. (w_is i, ups_is i)) (g lines (books_there lines done)))

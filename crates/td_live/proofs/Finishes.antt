@@ -11,8 +11,8 @@ use Rattle.td_room.proofs.Walks.{zip_self}
 use Rattle.td_script.specs.declared.live.editor_line.EditorLine.{EditorLine}
 use Rattle.td_trace.specs.declared.log.EditorLog.{EditorLog}
 use Rattle.td_trace.specs.Editors.{site_calls_at}
-use Rattle.td_live.specs.Following.{IsOver}
-use Rattle.td_live.specs.Books.{BookValue, IsBook, AreBooks, AreCounted, GoesFurther, log_of}
+use Rattle.td_live.specs.Following.{HasNothingLeft}
+use Rattle.td_live.specs.Books.{BookValue, IsBook, AreBooks, AreEntriesOfCalls, GoesFurther, log_of}
 use Rattle.td_live.specs.Finishing.{LaterBook, IsFinishing, FinishedNext}
 use Rattle.td_live.proofs.Recording.{grown_self, grown_then, book_grown, site_calls_both}
 
@@ -56,8 +56,8 @@ module _ (old : Family) (b : BookValue) (new : Family) (c : BookValue) (g : Goes
       ∙ ap (λ (n : ℕ). site_calls_at site k (map log_of done) + n)
       (site_calls_both site k (log_of x ∷ []) (map log_of left))
 
-  counted_replaced : (done left : List BookValue) → AreCounted old (map log_of (done ++ b ∷ left))
-      → AreCounted new (map log_of (done ++ c ∷ left))
+  counted_replaced : (done left : List BookValue) → AreEntriesOfCalls old (map log_of (done ++ b ∷ left))
+      → AreEntriesOfCalls new (map log_of (done ++ c ∷ left))
   counted_replaced done left h site k some within =
       let low : site ≤ length old = subst (λ (n : ℕ). site ≤ n) g.grown.size within in
       let was : site_calls_at site k (map log_of (done ++ b ∷ left)) ≡ local_at (history old site) k =
@@ -100,7 +100,7 @@ finishing_next old all now new logs more books left f n =
       done = f.done ++ n.last ∷ [];
       logs_are = n.one ∙ ap (λ (ls : List EditorLog). ls ++ log_of n.last ∷ []) f.logs_are
           ∙ sym (map-append log_of f.done (n.last ∷ []));
-      over = all_append (λ (b : BookValue). IsOver b.rest) f.done (n.last ∷ []) f.over (n.over, tt);
+      over = all_append (λ (b : BookValue). HasNothingLeft b.rest) f.done (n.last ∷ []) f.over (n.over, tt);
       later = subst (λ (bs : List BookValue). AllZip LaterBook all bs) assoc
           (later_replaced now n.book new n.last n.further all f.done left
           (subst (λ (bs : List BookValue). AllZip LaterBook all (f.done ++ bs)) n.first f.later));

@@ -8,7 +8,7 @@ use Rattle.td_op.specs.declared.reply.Reply.{Reply}
 use Rattle.td_op.specs.declared.request.Request.{Request}
 use Rattle.td_machine.specs.History.{Family, History, history}
 use Rattle.td_site.proofs.Lists.{prefix_self, prefix_then}
-use Rattle.td_line.specs.Calls.{entry_at, local_at, IsDone}
+use Rattle.td_line.specs.Calls.{entry_at, local_at, IsAskDone}
 use Rattle.td_line.proofs.Calling.{entry_last, counts_done}
 use Rattle.td_script.specs.declared.live.editor_line.EditorLine.{EditorLine}
 use Rattle.td_trace.specs.declared.log.Did.TheVariants.{Call, Look}
@@ -17,10 +17,11 @@ use Rattle.td_trace.specs.Editors.{nothing_yet, calls_at, site_calls_at}
 use Rattle.td_trace.specs.Family.{text_past}
 use Rattle.td_live.specs.declared.ask.Ask.{Ask}
 use Rattle.td_live.specs.declared.next.Next.TheVariants.{Ask as AskNext, Look as LookNext}
-use Rattle.td_live.specs.Agenda.{IsNext}
+use Rattle.td_live.specs.Agenda.{IsNextToDo}
 use Rattle.td_live.specs.Following.{Rest, Act, Called, Looked, Leads, all_of, replied}
 use Rattle.td_live.specs.Desks.{sofar_of}
-use Rattle.td_live.specs.Books.{BookValue, IsBook, IsGrown, GoesFurther, log_of, calls_done, with_call, with_look}
+use Rattle.td_live.specs.Books.{BookValue, IsBook, AreHistoriesGrown, GoesFurther}
+use Rattle.td_live.specs.Books.{log_of, calls_done, with_call, with_look}
 use Rattle.td_live.proofs.Leading.{leads_call, leads_look}
 use Rattle.td_live.proofs.Recording.{grown_self, grown_then, book_grown, did_push, sofar_within}
 use Rattle.td_live.proofs.Recording.{acts_push_call, acts_push_look, request_last, calls_both}
@@ -66,10 +67,10 @@ further_begun family b r leads =
 -- ---- a call
 
 module _ (old new : Family) (b : BookValue) (request : Request) (reply : Reply) (entry : ℕ) (some : 0 < b.home)
-    (within : b.home ≤ length old) (grown : IsGrown old new)
+    (within : b.home ≤ length old) (grown : AreHistoriesGrown old new)
     (here : history new b.home ≡ history old b.home ++ record { input = Local request; reply = reply } ∷ [])
     (there : (site : ℕ) → 0 < site → site ≤ length old → site ≢ b.home → history new site ≡ history old site)
-    (at : entry ≡ length (history new b.home)) (next : IsNext (AskNext request) b.rest) where
+    (at : entry ≡ length (history new b.home)) (next : IsNextToDo (AskNext request) b.rest) where
   last : entry ≡ suc (length (history old b.home))
   last =
       let long : length (history new b.home) ≡ length (history old b.home) + 1 =
@@ -122,7 +123,7 @@ module _ (old new : Family) (b : BookValue) (request : Request) (reply : Reply) 
           ≡ calls_at k b.did + calls_at k (Call (calls_done b.did + 1) entry ∷ [])
       more = calls_both k b.did (Call (calls_done b.did + 1) entry ∷ [])
 
-      done : IsDone (history old b.home) [] (record { call = 0; request = request }) (history new b.home)
+      done : IsAskDone (history old b.home) [] (record { call = 0; request = request }) (history new b.home)
           (record { call = 0; entry = entry; reply = reply } ∷ [])
       done =
           record {
@@ -178,7 +179,7 @@ module _ (old new : Family) (b : BookValue) (request : Request) (reply : Reply) 
 
 module _ (family : Family) (b : BookValue) (upto : ℕ) (text : List ℕ) (some : 0 < b.home)
     (at : upto ≡ length (history family b.home)) (shows : text ≡ text_past family b.home upto)
-    (next : IsNext LookNext b.rest) where
+    (next : IsNextToDo LookNext b.rest) where
   follows_look : (lines : List EditorLine) → IsBook family lines b → IsBook family lines (with_look upto text b)
   follows_look lines i =
       let long : length (traced_history (history family b.home)) ≡ length (history family b.home) =

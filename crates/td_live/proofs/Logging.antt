@@ -13,7 +13,7 @@ use Rattle.td_trace.specs.declared.log.Did.{Did}
 use Rattle.td_trace.specs.declared.log.Did.TheVariants.{Call, Look}
 use Rattle.td_trace.specs.Editors.{Sofar, further}
 use Rattle.td_live.specs.Following.{Act, Called, Looked}
-use Rattle.td_live.specs.Desks.{acts_by, AreAnswered, AreSeen, sofar_of}
+use Rattle.td_live.specs.Desks.{acts_by, AreAnswered, AreLooksAt, sofar_of}
 
 -- ---- which acts they are
 
@@ -104,8 +104,8 @@ in_last (x ∷ y ∷ seen) p e =
     let n : length (x ∷ y ∷ seen) - 1 ≡ suc (length (y ∷ seen) - 1) = omega arith in
     inr (in_last (y ∷ seen) p (subst (λ (k : ℕ). drop k (x ∷ y ∷ seen) ≡ p ∷ []) n e))
 
-seen_on : (seen more : List Publish) (entry upto : ℕ) (did : List Did) → AreSeen seen entry upto did
-    → AreSeen (seen ++ more) entry upto did
+seen_on : (seen more : List Publish) (entry upto : ℕ) (did : List Did) → AreLooksAt seen entry upto did
+    → AreLooksAt (seen ++ more) entry upto did
 seen_on seen more entry upto [] are = tt
 seen_on seen more entry upto (Call c k ∷ did) are = seen_on seen more k upto did are
 seen_on seen more entry upto (Look c u t ∷ did) are =
@@ -113,12 +113,12 @@ seen_on seen more entry upto (Look c u t ∷ did) are =
 
 -- who sees more has seen the same
 pub seen_later : (seen new : List Publish) (entry upto : ℕ) (did : List Did) → IsPrefix seen new
-    → AreSeen seen entry upto did → AreSeen new entry upto did
+    → AreLooksAt seen entry upto did → AreLooksAt new entry upto did
 seen_later seen new entry upto did p are =
-    subst (λ (w : List Publish). AreSeen w entry upto did) p.1 (seen_on seen p.0 entry upto did are)
+    subst (λ (w : List Publish). AreLooksAt w entry upto did) p.1 (seen_on seen p.0 entry upto did are)
 
-pub seen_call : (seen : List Publish) (s : Sofar) (did : List Did) (call k : ℕ) → AreSeen seen s.entry s.upto did
-    → AreSeen seen s.entry s.upto (did ++ Call call k ∷ [])
+pub seen_call : (seen : List Publish) (s : Sofar) (did : List Did) (call k : ℕ) → AreLooksAt seen s.entry s.upto did
+    → AreLooksAt seen s.entry s.upto (did ++ Call call k ∷ [])
 seen_call seen s [] call k are = tt
 seen_call seen s (Call c e ∷ did) call k are = seen_call seen (further s (Call c e)) did call k are
 seen_call seen s (Look c u t ∷ did) call k are =
@@ -126,8 +126,8 @@ seen_call seen s (Look c u t ∷ did) call k are =
 
 -- a look at one of the publishes
 pub seen_look : (seen : List Publish) (s : Sofar) (did : List Did) (calls : ℕ) (p : Publish)
-    → AreSeen seen s.entry s.upto did → (sofar_of s did).entry ≤ p.upto → (sofar_of s did).upto ≤ p.upto → In p seen
-    → AreSeen seen s.entry s.upto (did ++ Look calls p.upto (concat p.atoms) ∷ [])
+    → AreLooksAt seen s.entry s.upto did → (sofar_of s did).entry ≤ p.upto → (sofar_of s did).upto ≤ p.upto → In p seen
+    → AreLooksAt seen s.entry s.upto (did ++ Look calls p.upto (concat p.atoms) ∷ [])
 seen_look seen s [] calls p are entry upto i = (entry, upto, (p, i, refl, refl), tt)
 seen_look seen s (Call c e ∷ did) calls p are entry upto i =
     seen_look seen (further s (Call c e)) did calls p are entry upto i

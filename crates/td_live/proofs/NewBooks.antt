@@ -15,7 +15,7 @@ use Rattle.td_world.proofs.Replicas.{history_from, new_length, new_from}
 use Rattle.td_live.specs.Following.{all_of, Stays}
 use Rattle.td_live.specs.Live.{IsTraceAmong, IsLiveFamilyOf}
 use Rattle.td_live.specs.Books.{BookValue, IsBook, AreBooks, log_of}
-use Rattle.td_live.specs.Ending.{GoesOnTo}
+use Rattle.td_live.specs.Ending.{IsTraceFrom}
 use Rattle.td_live.specs.Alone.{new_books}
 
 pub new_size : (n : ℕ) → length (family_of (new_world n)) ≡ n
@@ -81,7 +81,7 @@ new_homes (home ∷ homes) (own ∷ lines) same =
     ap (λ (l : List ℕ). home ∷ l) (new_homes homes lines (omega (arith, same)))
 
 pub traced_among : (n : ℕ) (homes : List ℕ) (lines : List (List EditorLine)) (bytes : List ℕ)
-    → length lines ≡ length homes → GoesOnTo lines (family_of (new_world n)) (new_books homes lines) bytes
+    → length lines ≡ length homes → IsTraceFrom lines (family_of (new_world n)) (new_books homes lines) bytes
     → IsTraceAmong n homes lines bytes
 traced_among n homes lines bytes same g =
     record {

@@ -23,7 +23,7 @@ use Rattle.td_trace.specs.Editors.{Sofar, further, nothing_yet, IsDid, AreDid, c
 use Rattle.td_trace.specs.Family.{IsLogOf, text_past}
 use Rattle.td_live.specs.Following.{Act, Called, Looked, AreActs}
 use Rattle.td_live.specs.Desks.{sofar_of}
-use Rattle.td_live.specs.Books.{BookValue, IsBook, IsGrown, log_of}
+use Rattle.td_live.specs.Books.{BookValue, IsBook, AreHistoriesGrown, log_of}
 
 -- ---- requests
 
@@ -85,10 +85,10 @@ acts_stay old more (Call call entry ∷ did) (Looked ∷ acts) h = absurd h
 acts_stay old more (Look calls upto text ∷ did) (Called request reply ∷ acts) h = absurd h
 acts_stay old more (Look calls upto text ∷ did) (Looked ∷ acts) h = acts_stay old more did acts h
 
-pub grown_self : (family : Family) → IsGrown family family
+pub grown_self : (family : Family) → AreHistoriesGrown family family
 grown_self family = record { size = refl; histories = λ site some within. prefix_self (history family site) }
 
-pub grown_then : (f g h : Family) → IsGrown f g → IsGrown g h → IsGrown f h
+pub grown_then : (f g h : Family) → AreHistoriesGrown f g → AreHistoriesGrown g h → AreHistoriesGrown f h
 grown_then f g h a b =
     record {
       size = b.size ∙ a.size;
@@ -97,7 +97,8 @@ grown_then f g h a b =
           (b.histories site some (subst (λ (n : ℕ). site ≤ n) (sym a.size) within));
     }
 
-module _ (old new : Family) (g : IsGrown old new) (site : ℕ) (some : 0 < site) (within : site ≤ length old) where
+module _ (old new : Family) (g : AreHistoriesGrown old new) (site : ℕ) (some : 0 < site)
+    (within : site ≤ length old) where
   abbrev before : History
   before = history old site
 
@@ -128,7 +129,7 @@ module _ (old new : Family) (g : IsGrown old new) (site : ℕ) (some : 0 < site)
   acts_grown did acts h =
       subst (λ (es : History). AreActs es did acts) goes_on.1 (acts_stay (history old site) goes_on.0 did acts h)
 
-pub log_grown : (old new : Family) → IsGrown old new → (log : EditorLog) → IsLogOf old log → IsLogOf new log
+pub log_grown : (old new : Family) → AreHistoriesGrown old new → (log : EditorLog) → IsLogOf old log → IsLogOf new log
 log_grown old new g log l =
     record {
       some = l.some;
@@ -136,8 +137,8 @@ log_grown old new g log l =
       did = did_grown old new g log.home l.some l.within nothing_yet log.did l.did;
     }
 
-pub book_grown : (old new : Family) → IsGrown old new → (lines : List EditorLine) (b : BookValue) → IsBook old lines b
-    → IsBook new lines b
+pub book_grown : (old new : Family) → AreHistoriesGrown old new → (lines : List EditorLine) (b : BookValue)
+    → IsBook old lines b → IsBook new lines b
 book_grown old new g lines b i =
     record {
       logged = log_grown old new g (log_of b) i.logged;

@@ -7,10 +7,10 @@ use Rattle.std.proofs.lemmas.List.Elements.{length_all_zip}
 use Rattle.td_line.specs.Editors.{EditorValue, IsNewEditor}
 use Rattle.td_room.specs.Workers.{WorkerValue, LaterWorker}
 use Rattle.td_room.specs.Rooms.{AreOfOneRoom}
-use Rattle.td_room.specs.Opening.{IsOpened, AreOpened}
+use Rattle.td_room.specs.Opening.{IsEditorOpened, AreOpened}
 use Rattle.td_script.specs.declared.live.editor_line.EditorLine.{EditorLine}
 use Rattle.td_script.specs.LiveScript.{calls}
-use Rattle.td_live.specs.Desks.{DeskValue, HasDone, LaterDesk}
+use Rattle.td_live.specs.Desks.{DeskValue, HasDoneLines, LaterDesk}
 use Rattle.td_live.specs.Following.{Stays}
 use Rattle.td_live.specs.Live.{IsLiveFamilyOf, IsTraceAmong}
 use Rattle.td_live.specs.Ending.{IsLiveEnd}
@@ -25,8 +25,8 @@ count_of own = sum_by calls own
 
 -- ---- the opening
 
-opened_sits : (home count : ℕ) (own : List EditorLine) (e : EditorValue) → IsOpened home count e → count ≡ count_of own
-    → CanSit e own
+opened_sits : (home count : ℕ) (own : List EditorLine) (e : EditorValue) → IsEditorOpened home count e
+    → count ≡ count_of own → CanSit e own
 opened_sits home count own e opened same =
     let new = opened.new in
     record {
@@ -68,7 +68,7 @@ editors_seated (e ∷ editors) (own ∷ lines) can =
 
 -- who just sat down has done nothing of the lines
 pub done_seated : (editors : List EditorValue) (lines : List (List EditorLine)) → AllZip CanSit editors lines
-    → AllZip HasDone lines (seated editors lines)
+    → AllZip HasDoneLines lines (seated editors lines)
 done_seated [] [] can = tt
 done_seated [] (own ∷ lines) can = absurd can
 done_seated (e ∷ editors) [] can = absurd can
@@ -102,8 +102,8 @@ later_homes [] (e ∷ later) all = absurd all
 later_homes (d ∷ desks) [] all = absurd all
 later_homes (d ∷ desks) (e ∷ later) all = λ i. all.0.editor.home i ∷ later_homes desks later all.1 i
 
-pub later_done : (lines : List (List EditorLine)) (desks later : List DeskValue) → AllZip HasDone lines desks
-    → AllZip LaterDesk desks later → AllZip HasDone lines later
+pub later_done : (lines : List (List EditorLine)) (desks later : List DeskValue) → AllZip HasDoneLines lines desks
+    → AllZip LaterDesk desks later → AllZip HasDoneLines lines later
 later_done [] [] [] done all = tt
 later_done [] [] (e ∷ later) done all = absurd all
 later_done [] (d ∷ desks) later done all = absurd done
@@ -127,7 +127,7 @@ homes_kept editors lines later can all =
 
 -- and what they have done is of their lines
 pub done_kept : (editors : List EditorValue) (lines : List (List EditorLine)) (later : List DeskValue)
-    → AllZip CanSit editors lines → AllZip LaterDesk (seated editors lines) later → AllZip HasDone lines later
+    → AllZip CanSit editors lines → AllZip LaterDesk (seated editors lines) later → AllZip HasDoneLines lines later
 done_kept editors lines later can all =
     later_done lines (seated editors lines) later (done_seated editors lines can) all
 
@@ -166,7 +166,7 @@ room_after workers after editors lines desks later room can desks_are worked tur
 pub traced_after : (workers after : List WorkerValue) (editors : List EditorValue) (lines : List (List EditorLine))
     (desks later : List DeskValue) (bytes : List ℕ) → AllZip CanSit editors lines → desks ≡ seated editors lines
     → AllZip LaterWorker workers after → AllZip LaterDesk desks later
-    → ((ls : List (List EditorLine)) → AllZip HasDone ls later → IsLiveEnd after ls later bytes)
+    → ((ls : List (List EditorLine)) → AllZip HasDoneLines ls later → IsLiveEnd after ls later bytes)
     → IsTraceAmong (length workers) (homes_of editors) lines bytes
 traced_after workers after editors lines desks later bytes can desks_are worked turned ended =
     let all : AllZip LaterDesk (seated editors lines) later =

@@ -19,7 +19,7 @@ use Rattle.td_world.specs.Calls.{is_wanted, next, nexts, take, give_moves, wante
 use Rattle.td_world.specs.Calls.{moves_of, give_all_moves, pass_from, pass, passes, IsSettled}
 use Rattle.td_world.proofs.Moves.{size_family, size_moved, size_after, moved_here, moved_there}
 use Rattle.td_world.proofs.Replicas.{history_from}
-use Rattle.td_live.specs.Books.{BookValue, IsBook, AreBooks, IsGrown}
+use Rattle.td_live.specs.Books.{BookValue, IsBook, AreBooks, AreHistoriesGrown}
 use Rattle.td_live.proofs.Recording.{book_grown}
 
 pub history_of : (w : WorldValue) (site : ℕ) → history (family_of w) site ≡ (replica w site).entries
@@ -130,7 +130,7 @@ module _ (old new : WorldValue) (given : ℕ) (s : IsSettled old new given) wher
   same_size =
       size_family new ∙ ap size s.after ∙ size_after (passes s.number old) old ∙ sym (size_family old)
 
-  pub grown_settled : IsGrown (family_of old) (family_of new)
+  pub grown_settled : AreHistoriesGrown (family_of old) (family_of new)
   grown_settled =
       record {
         size = same_size;
@@ -176,7 +176,7 @@ module _ (w : WorldValue) (move : Move) (some : 0 < move.site) (within : move.si
   pub size_same : length (family_of (moved move w)) ≡ length (family_of w)
   size_same = size_family (moved move w) ∙ size_moved w move ∙ sym (size_family w)
 
-  pub grown_moved : IsGrown (family_of w) (family_of (moved move w))
+  pub grown_moved : AreHistoriesGrown (family_of w) (family_of (moved move w))
   grown_moved = record { size = size_same; histories = λ site up low. by site up (nat_eq site move.site) refl }
     where
       by : (site : ℕ) → 0 < site → (b : Bool) → nat_eq site move.site ≡ b

@@ -17,7 +17,7 @@ use Rattle.td_world.specs.Calls.{ask}
 use Rattle.td_world.proofs.Moves.{size_family}
 use Rattle.td_live.specs.declared.ask.Ask.{Ask}
 use Rattle.td_live.specs.declared.next.Next.TheVariants.{Ask as AskNext, Look as LookNext}
-use Rattle.td_live.specs.Agenda.{IsNext}
+use Rattle.td_live.specs.Agenda.{IsNextToDo}
 use Rattle.td_live.specs.Following.{Rest, Act, Leads, Stays, Calls, Looks, Begins, replied, calls_left}
 use Rattle.td_live.specs.Books.{BookValue, GoesFurther, with_call, with_look}
 use Rattle.td_live.specs.Finishing.{steps_left}
@@ -27,7 +27,7 @@ use Rattle.td_live.proofs.Settling.{history_of, here_moved, there_moved, grown_m
 -- ---- a call
 
 called_home : (w : WorldValue) (b : BookValue) (request : Request) (reply : Reply) (entry : ℕ) → 0 < b.home
-    → b.home ≤ size w → IsNext (AskNext request) b.rest → reply ≡ reply_to (ask b.home request) w
+    → b.home ≤ size w → IsNextToDo (AskNext request) b.rest → reply ≡ reply_to (ask b.home request) w
     → entry ≡ length (replica (moved (ask b.home request) w) b.home).entries
     → GoesFurther (family_of w) b (family_of (moved (ask b.home request) w)) (with_call entry reply b)
 called_home w b request reply entry some within next got at =
@@ -39,7 +39,7 @@ called_home w b request reply entry some within next got at =
     (at ∙ sym (ap (λ (h : History). length h) (history_of (moved (ask b.home request) w) b.home))) next
 
 pub called : (w new : WorldValue) (b c : BookValue) (home : ℕ) (request : Request) (reply : Reply) (entry : ℕ)
-    → home ≡ b.home → 1 ≤ home → b.home ≤ size w → IsNext (AskNext request) b.rest
+    → home ≡ b.home → 1 ≤ home → b.home ≤ size w → IsNextToDo (AskNext request) b.rest
     → new ≡ moved (ask home request) w → reply ≡ reply_to (ask home request) w
     → entry ≡ length (replica new home).entries → c ≡ with_call entry reply b
     → GoesFurther (family_of w) b (family_of new) c
@@ -54,8 +54,8 @@ called w new b c home request reply entry same some within next is got at put =
 -- ---- a look
 
 looked_home : (w : WorldValue) (i : IsWorld w) (b : BookValue) (upto : ℕ) (text : List ℕ) → 0 < b.home → b.home ≤ size w
-    → IsNext LookNext b.rest → text ≡ text_of (replica w b.home).machine.doc → upto ≡ length (replica w b.home).entries
-    → GoesFurther (family_of w) b (family_of w) (with_look upto text b)
+    → IsNextToDo LookNext b.rest → text ≡ text_of (replica w b.home).machine.doc
+    → upto ≡ length (replica w b.home).entries → GoesFurther (family_of w) b (family_of w) (with_look upto text b)
 looked_home w i b upto text some within next shows at =
     let long : upto ≡ length (history (family_of w) b.home) =
     at ∙ sym (ap (λ (h : History). length h) (history_of w b.home)) in
@@ -67,7 +67,7 @@ looked_home w i b upto text some within next shows at =
     next
 
 pub looked : (w : WorldValue) (b c : BookValue) (home upto : ℕ) (text : List ℕ) → IsWorld w → home ≡ b.home → 1 ≤ home
-    → b.home ≤ size w → IsNext LookNext b.rest → text ≡ text_of (replica w home).machine.doc
+    → b.home ≤ size w → IsNextToDo LookNext b.rest → text ≡ text_of (replica w home).machine.doc
     → upto ≡ length (replica w home).entries → c ≡ with_look upto text b
     → GoesFurther (family_of w) b (family_of w) c
 looked w b c home upto text i same some within next shows at put =
@@ -108,7 +108,7 @@ fewer_lines n lines left e =
     (sym e)
     (omega arith)
 
-pub fewer_look : (upto : ℕ) (text : List ℕ) (b c : BookValue) → IsNext LookNext b.rest → c ≡ with_look upto text b
+pub fewer_look : (upto : ℕ) (text : List ℕ) (b c : BookValue) → IsNextToDo LookNext b.rest → c ≡ with_look upto text b
     → steps_left c.rest < steps_left b.rest
 fewer_look upto text b c next put =
     subst (λ (d : BookValue). steps_left d.rest < steps_left b.rest) (sym put)
@@ -138,6 +138,6 @@ no_more_begun r s leads fewer =
     let lines : length s.lines ≤ length r.lines = lines_fall (leads r [] Stays) in omega (arith, fewer, lines)
 
 -- a call is there where it is next
-pub some_ask : (request : Request) (r : Rest) → IsNext (AskNext request) r → 0 < length r.asks
+pub some_ask : (request : Request) (r : Rest) → IsNextToDo (AskNext request) r → 0 < length r.asks
 some_ask request r next =
     let n : length r.asks ≡ suc (length next.1.0) = ap (λ (l : List Ask). length l) next.1.1 in omega (arith, n)

@@ -24,7 +24,7 @@ use Rattle.td_world.specs.Promises.{SameVectors, AllDecided}
 use Rattle.td_world.proofs.Moves.{size_family}
 use Rattle.td_world.proofs.Named.{site_is}
 use Rattle.td_world.proofs.Promised.{promised, shown}
-use Rattle.td_live.specs.Following.{Follows, IsOver}
+use Rattle.td_live.specs.Following.{FollowsLines, HasNothingLeft}
 use Rattle.td_live.specs.Live.{IsLiveFamilyOf, IsTraced, TextsAreShown}
 use Rattle.td_live.specs.Books.{BookValue, IsBook, AreBooks, log_of}
 use Rattle.td_live.specs.Printing.{texts_of}
@@ -193,9 +193,9 @@ module _ (w : WorldValue) (i : IsWorld w) (vectors : SameVectors w) (decided : A
   logs_are (l ∷ lines) (b ∷ books) z = (z.0.logged, logs_are lines books z.1)
 
   followed : (lines : List (List EditorLine)) (books : List BookValue) → AllZip (IsBook (family_of w)) lines books
-      → AllByRecursion (λ (b : BookValue). IsOver b.rest) books
-      → AllZip (λ (own : List EditorLine) (log : EditorLog). Follows (history (family_of w) log.home) own log.did) lines
-      (map log_of books)
+      → AllByRecursion (λ (b : BookValue). HasNothingLeft b.rest) books
+      → AllZip (λ (own : List EditorLine) (log : EditorLog). FollowsLines (history (family_of w) log.home) own log.did)
+      lines (map log_of books)
   followed [] [] z over = tt
   followed [] (b ∷ books) z over = absurd z
   followed (l ∷ lines) [] z over = absurd z
@@ -210,7 +210,7 @@ module _ (w : WorldValue) (i : IsWorld w) (vectors : SameVectors w) (decided : A
   homes_are (b ∷ books) = ap (λ (l : List ℕ). b.home ∷ l) (homes_are books)
 
   pub live_family : (lines : List (List EditorLine)) (books : List BookValue) → AreBooks (family_of w) lines books
-      → AllByRecursion (λ (b : BookValue). IsOver b.rest) books
+      → AllByRecursion (λ (b : BookValue). HasNothingLeft b.rest) books
       → IsLiveFamilyOf (map (λ (b : BookValue). b.home) books) lines (family_of w) (map log_of books)
   live_family lines books h over =
       record {

@@ -20,7 +20,7 @@ use Rattle.td_line.specs.declared.not_sent.NotSent.{NotSent}
 use Rattle.td_line.specs.declared.not_sent.NotSent.TheVariants as Why
 use Rattle.td_line.specs.Lines.{line_places}
 use Rattle.td_link.specs.Moments.{WasFull}
-use Rattle.td_line.specs.Editors.{EditorValue, LaterEditor, IsPending, IsWhy, polled}
+use Rattle.td_line.specs.Editors.{EditorValue, LaterEditor, AwaitsAnswer, IsWhy, polled}
 use Rattle.td_line.specs.Editors.{with_ask, when_shown, when_refused}
 use Rattle.td_script.specs.declared.live.editor_line.EditorLine.{EditorLine}
 use Rattle.td_script.specs.declared.live.editor_line.EditorLine.TheVariants as Line
@@ -30,16 +30,16 @@ use Rattle.td_trace.specs.declared.log.Did.TheVariants.{Call, Look}
 use Rattle.td_trace.specs.Editors.{Sofar, nothing_yet, further}
 use Rattle.td_live.specs.declared.ask.Ask.{Ask}
 use Rattle.td_live.specs.declared.next.Next.TheVariants as Next
-use Rattle.td_live.specs.Agenda.{IsNext}
+use Rattle.td_live.specs.Agenda.{IsNextToDo}
 use Rattle.td_live.specs.Asking.{request_of, asks_of}
 use Rattle.td_live.specs.Following.{Rest, Act, Called, Looked, Leads, Stays as LeadsStays, Calls}
-use Rattle.td_live.specs.Following.{Looks, Begins, IsOver, replied, all_of, calls_left}
-use Rattle.td_live.specs.Desks.{DeskValue, IsDesk, HasDone, LaterDesk, AwaitsNext, acts_of}
-use Rattle.td_live.specs.Desks.{acts_by, AreAnswered, AreSeen, sofar_of}
+use Rattle.td_live.specs.Following.{Looks, Begins, HasNothingLeft, replied, all_of, calls_left}
+use Rattle.td_live.specs.Desks.{DeskValue, IsDesk, HasDoneLines, LaterDesk, AwaitsNext, acts_of}
+use Rattle.td_live.specs.Desks.{acts_by, AreAnswered, AreLooksAt, sofar_of}
 use Rattle.td_live.specs.declared.went.Went.{Went}
 use Rattle.td_live.specs.declared.went.Went.TheVariants as Went
 use Rattle.td_live.specs.Turning.{AsksNothing, AreDone, IsDeskParts, IsUnused, new_desk, Stays, Keeps, HasAnswered}
-use Rattle.td_live.specs.Turning.{HasLooked, HasSubmitted, IsHindered, IsTurn}
+use Rattle.td_live.specs.Turning.{HasDoneLook, HasSubmitted, IsHindered, IsTurn}
 use Rattle.td_base.specs.declared.memory.Memory.{Memory}
 use Rattle.td_line.proofs.Editing.{later_editor_self, later_editor_then}
 use Rattle.td_site.proofs.Lists.{prefix_self, prefix_then}
@@ -58,7 +58,7 @@ as_many : (e : EditorValue) → length (polled e) ≡ length e.answers.taken
 as_many e = length-map e.answers.taken (λ (r : Report). r.answer)
 
 -- where no call is pending, each request has its answer
-pub all_answered : (d : DeskValue) → IsDesk d → (IsPending d.editor → ⊥)
+pub all_answered : (d : DeskValue) → IsDesk d → (AwaitsAnswer d.editor → ⊥)
     → length (polled d.editor) ≡ length d.editor.asks.sent
 all_answered d is idle = at_most (polled d.editor) d.editor.asks.sent is.asked
     (λ less. idle (subst (λ (n : ℕ). n < length d.editor.asks.sent) (as_many d.editor) less))
@@ -72,7 +72,7 @@ all_answered d is idle = at_most (polled d.editor) d.editor.asks.sent is.asked
 
 -- ---- a line begins
 
-pub desk_begun : (d : DeskValue) (rest : Rest) → IsDesk d → (IsPending d.editor → ⊥)
+pub desk_begun : (d : DeskValue) (rest : Rest) → IsDesk d → (AwaitsAnswer d.editor → ⊥)
     → calls_left rest ≤ calls_left d.rest → IsDesk (record d { rest = rest })
 desk_begun d rest is idle few = record {
   answered = is.answered;
@@ -88,7 +88,7 @@ desk_begun d rest is idle few = record {
 -- ---- a call is sent
 
 pub desk_submitted : (d : DeskValue) (request : Request) (ask : Ask) (asks : List Ask) → IsDesk d
-    → (IsPending d.editor → ⊥) → d.rest.asks ≡ ask ∷ asks → request ≡ request_of ask d.rest.made
+    → (AwaitsAnswer d.editor → ⊥) → d.rest.asks ≡ ask ∷ asks → request ≡ request_of ask d.rest.made
     → IsDesk (record d { editor = with_ask request d.editor })
 desk_submitted d request ask asks is idle next request_is =
     let q : Sent = record { call = d.editor.made + 1; request = request } in
@@ -115,7 +115,7 @@ desk_submitted d request ask asks is idle next request_is =
     }
 
 -- there is room for one more call
-pub has_room : (d : DeskValue) (ask : Ask) (asks : List Ask) → IsDesk d → (IsPending d.editor → ⊥)
+pub has_room : (d : DeskValue) (ask : Ask) (asks : List Ask) → IsDesk d → (AwaitsAnswer d.editor → ⊥)
     → d.rest.asks ≡ ask ∷ asks → d.editor.made < d.editor.calls
 has_room d ask asks is idle next =
     let all : length (polled d.editor) ≡ length d.editor.asks.sent = all_answered d is idle in
@@ -167,7 +167,7 @@ acts_answered d answer sent answers call is w sent_is answers_are =
     ∙ ap (λ (r : Request). acts_of d ++ Called r answer.reply ∷ []) w.request
 
 pub desk_answered : (d : DeskValue) (f : EditorValue) (answer : Answer) (rest : Rest) (call : ℕ) → IsDesk d
-    → IsPending d.editor → call ≡ d.editor.made → polled f ≡ polled d.editor ++ answer ∷ []
+    → AwaitsAnswer d.editor → call ≡ d.editor.made → polled f ≡ polled d.editor ++ answer ∷ []
     → f ≡ record d.editor {
       answers = record d.editor.answers { taken = f.answers.taken };
       reader = record d.editor.reader { known = f.reader.known };
@@ -200,7 +200,7 @@ desk_answered d f answer rest call is waits call_is polled_is f_is rest_is =
     record {
       answered = subst (λ (a : List Answer). AreAnswered 0 a did) (sym polled_is)
           (answered_call (polled d.editor) answer 0 d.did call is.answered (omega arith));
-      seen = subst (λ (s : List Publish). AreSeen s 0 0 did) (sym seen)
+      seen = subst (λ (s : List Publish). AreLooksAt s 0 0 did) (sym seen)
           (seen_call d.editor.reader.seen nothing_yet d.did call answer.entry is.seen);
       pending = λ p.
           let less : length f.answers.taken < length f.asks.sent = p in
@@ -217,7 +217,7 @@ desk_answered d f answer rest call is waits call_is polled_is f_is rest_is =
 -- ---- a look
 
 -- a desk whose reader has seen more is one
-pub desk_reader : (d : DeskValue) (f : EditorValue) → IsDesk d → (IsPending d.editor → ⊥)
+pub desk_reader : (d : DeskValue) (f : EditorValue) → IsDesk d → (AwaitsAnswer d.editor → ⊥)
     → f ≡ record d.editor { reader = f.reader } → IsPrefix d.editor.reader.seen f.reader.seen
     → last_upto d.editor.reader.seen ≤ last_upto f.reader.seen → IsDesk (record d { editor = f })
 desk_reader d f is idle f_is more rises =
@@ -234,7 +234,7 @@ desk_reader d f is idle f_is more rises =
     })
 
 pub desk_looked : (d : DeskValue) (f : EditorValue) (rest : Rest) (lines : List EditorLine) (p : Publish) (calls : ℕ)
-    → IsDesk d → (IsPending d.editor → ⊥) → d.rest.asks ≡ [] → d.rest.lines ≡ Line.Look ∷ lines
+    → IsDesk d → (AwaitsAnswer d.editor → ⊥) → d.rest.asks ≡ [] → d.rest.lines ≡ Line.Look ∷ lines
     → rest ≡ record d.rest { lines = lines } → f ≡ record d.editor { reader = f.reader }
     → IsPrefix d.editor.reader.seen f.reader.seen → EndsWith f.reader.seen p → d.editor.entry ≤ p.upto
     → last_upto d.editor.reader.seen ≤ p.upto → calls ≡ d.editor.made
@@ -311,7 +311,7 @@ done_before {a = a} (Begins {line = line} {lines = lines} asks lines_are no_look
           ((no_look, then.asks), then.lines);
     }
 
-pub over_done : (r : Rest) → IsOver r → AreDone r
+pub over_done : (r : Rest) → HasNothingLeft r → AreDone r
 over_done r over = record {
   asks = over.asks;
   lines = subst (λ (l : List EditorLine). AllByRecursion AsksNothing l) (sym over.lines) tt;
@@ -350,7 +350,7 @@ pub keeps_begun : (d e : DeskValue) (rest : Rest) → Leads d.rest [] rest → K
     → Keeps d e
 keeps_begun d e rest way k = record { stays = stays_begun d e rest way k.stays; editor = k.editor }
 
-pub turn_begun : (d e : DeskValue) (rest : Rest) (went : Went) → (IsPending d.editor → ⊥) → Leads d.rest [] rest
+pub turn_begun : (d e : DeskValue) (rest : Rest) (went : Went) → (AwaitsAnswer d.editor → ⊥) → Leads d.rest [] rest
     → IsTurn (record d { rest = rest }) went e → IsTurn d went e
 turn_begun d e rest Went.Answered idle way h = absurd (idle h.pending)
 turn_begun d e rest Went.Looked idle way h = record {
@@ -418,13 +418,13 @@ acts_kept : (d e : DeskValue) → e.editor.asks.sent ≡ d.editor.asks.sent → 
 acts_kept d e sent answers did = λ i. acts_by (sent i) (answers i) (did i)
 
 done_begun : (lines : List EditorLine) (d e : DeskValue) → acts_of e ≡ acts_of d → Leads d.rest [] e.rest
-    → HasDone lines d → HasDone lines e
+    → HasDoneLines lines d → HasDoneLines lines e
 done_begun lines d e acts way done =
     leads_by (all_of lines) e.rest (acts_of d ++ []) (acts_of e) (acts ∙ sym (append-nil (acts_of d)))
     (leads_then done way)
 
 done_by_editor : (lines : List EditorLine) (d e : DeskValue) → Stays d e
-    → e.editor ≡ record d.editor { reader = e.editor.reader } → HasDone lines d → HasDone lines e
+    → e.editor ≡ record d.editor { reader = e.editor.reader } → HasDoneLines lines d → HasDoneLines lines e
 done_by_editor lines d e stays editor_is =
     done_begun lines d e
     (acts_kept d e (ap (λ (x : EditorValue). x.asks.sent) editor_is) (ap (λ (x : EditorValue). polled x) editor_is)
@@ -434,8 +434,8 @@ done_by_editor lines d e stays editor_is =
 same_first : (x y : Ask) (xs ys : List Ask) → x ∷ xs ≡ y ∷ ys → x ≡ y
 same_first x y xs ys e = cc
 
-done_answered : (lines : List EditorLine) (d e : DeskValue) → IsDesk d → HasAnswered d e → HasDone lines d
-    → HasDone lines e
+done_answered : (lines : List EditorLine) (d e : DeskValue) → IsDesk d → HasAnswered d e → HasDoneLines lines d
+    → HasDoneLines lines e
 done_answered lines d e is h done =
     let w : AwaitsNext d = is.pending h.pending in
     let reply : Reply = h.answer.reply in
@@ -449,8 +449,8 @@ done_answered lines d e is h done =
     (subst (λ (r : Rest). Leads (all_of lines) (acts_of d ++ Called (request_of h.ask d.rest.made) reply ∷ []) r)
     (sym h.rest) (leads_call reply done h.next))
 
-done_looked : (lines : List EditorLine) (d e : DeskValue) → IsDesk d → HasLooked d e → HasDone lines d
-    → HasDone lines e
+done_looked : (lines : List EditorLine) (d e : DeskValue) → IsDesk d → HasDoneLook d e → HasDoneLines lines d
+    → HasDoneLines lines e
 done_looked lines d e is h done =
     let sent : e.editor.asks.sent ≡ d.editor.asks.sent = ap (λ (x : EditorValue). x.asks.sent) h.editor in
     let answers : polled e.editor ≡ polled d.editor = ap (λ (x : EditorValue). polled x) h.editor in
@@ -460,8 +460,8 @@ done_looked lines d e is h done =
     (concat h.publish.atoms) is.answered is.asked in
     leads_by (all_of lines) e.rest (acts_of d ++ Looked ∷ []) (acts_of e) acts (leads_then done h.rest)
 
-done_submitted : (lines : List EditorLine) (d e : DeskValue) → IsDesk d → HasSubmitted d e → HasDone lines d
-    → HasDone lines e
+done_submitted : (lines : List EditorLine) (d e : DeskValue) → IsDesk d → HasSubmitted d e → HasDoneLines lines d
+    → HasDoneLines lines e
 done_submitted lines d e is h =
     let q : Sent = record { call = d.editor.made + 1; request = h.request } in
     let sent : e.editor.asks.sent ≡ d.editor.asks.sent ++ q ∷ [] = ap (λ (x : EditorValue). x.asks.sent) h.editor in
@@ -473,7 +473,7 @@ done_submitted lines d e is h =
 
 -- a turn that answers so goes on with what was done
 pub done_on_turn : (lines : List EditorLine) (d e : DeskValue) (went : Went) → IsDesk d → IsTurn d went e
-    → HasDone lines d → HasDone lines e
+    → HasDoneLines lines d → HasDoneLines lines e
 done_on_turn lines d e Went.Answered is h = done_answered lines d e is h
 done_on_turn lines d e Went.Looked is h = done_looked lines d e is h
 done_on_turn lines d e Went.Submitted is h = done_submitted lines d e is h
@@ -526,8 +526,8 @@ later_by d e (Err m) is turn keeps later = record {
 
 -- ---- its answer
 
-answered_idle : (d : DeskValue) (f : EditorValue) (answer : Answer) → IsDesk d → IsPending d.editor
-    → polled f ≡ polled d.editor ++ answer ∷ [] → f.asks.sent ≡ d.editor.asks.sent → IsPending f → ⊥
+answered_idle : (d : DeskValue) (f : EditorValue) (answer : Answer) → IsDesk d → AwaitsAnswer d.editor
+    → polled f ≡ polled d.editor ++ answer ∷ [] → f.asks.sent ≡ d.editor.asks.sent → AwaitsAnswer f → ⊥
 answered_idle d f answer is waits polled_is sent p =
     let w : AwaitsNext d = is.pending waits in
     let less : length f.answers.taken < length f.asks.sent = p in
@@ -540,7 +540,7 @@ answered_idle d f answer is waits polled_is sent p =
     absurd (omega (arith, as_many f))
 
 pub parts_answered : (d : DeskValue) (f : EditorValue) (answer : Answer) (rest : Rest) (call : ℕ) (waits : Bool)
-    (did : List Did) → IsDeskParts call waits d → IsPending d.editor → polled f ≡ polled d.editor ++ answer ∷ []
+    (did : List Did) → IsDeskParts call waits d → AwaitsAnswer d.editor → polled f ≡ polled d.editor ++ answer ∷ []
     → f ≡ record d.editor {
       answers = record d.editor.answers { taken = f.answers.taken };
       reader = record d.editor.reader { known = f.reader.known };
@@ -558,7 +558,7 @@ parts_answered d f answer rest call waits did parts pending polled_is f_is rest_
 }
 
 pub turn_answered : (d : DeskValue) (f : EditorValue) (answer : Answer) (rest : Rest) (call : ℕ)
-    (did : List Did) → IsDesk d → call ≡ d.editor.made → IsPending d.editor
+    (did : List Did) → IsDesk d → call ≡ d.editor.made → AwaitsAnswer d.editor
     → polled f ≡ polled d.editor ++ answer ∷ []
     → f ≡ record d.editor {
       answers = record d.editor.answers { taken = f.answers.taken };
@@ -588,7 +588,7 @@ turn_answered d f answer rest call did is call_is pending polled_is f_is rest_is
 -- ---- its call
 
 pub parts_submitted : (d : DeskValue) (f : EditorValue) (request : Request) (call waited : ℕ) (waits : Bool)
-    → IsDeskParts waited waits d → (IsPending d.editor → ⊥) → IsNext (Next.Ask request) d.rest
+    → IsDeskParts waited waits d → (AwaitsAnswer d.editor → ⊥) → IsNextToDo (Next.Ask request) d.rest
     → call ≡ d.editor.made + 1 → f ≡ with_ask request d.editor → IsDeskParts call true (record d { editor = f })
 parts_submitted d f request call waited waits parts idle next call_is f_is =
     let q : Sent = record { call = d.editor.made + 1; request = request } in
@@ -604,8 +604,8 @@ parts_submitted d f request call waited waits parts idle next call_is f_is =
     })
 
 -- a desk is not Busy and not Spent
-pub only_full : (d : DeskValue) (why : NotSent) (request : Request) → IsDesk d → (IsPending d.editor → ⊥)
-    → IsNext (Next.Ask request) d.rest → IsWhy d.editor why → WasFull line_places d.editor.asks.sent
+pub only_full : (d : DeskValue) (why : NotSent) (request : Request) → IsDesk d → (AwaitsAnswer d.editor → ⊥)
+    → IsNextToDo (Next.Ask request) d.rest → IsWhy d.editor why → WasFull line_places d.editor.asks.sent
 only_full d (Why.Busy pending) request is idle next w = absurd (idle w.0)
 only_full d (Why.Spent calls) request is idle next w =
     let less : d.editor.made < d.editor.calls = has_room d next.0 next.1.0 is idle next.1.1 in
@@ -621,7 +621,7 @@ pub seen_rises : (old new : List Publish) (p : Publish) → EndsWith new p → l
 seen_rises old new p ends few = omega (arith, ends_upto new p ends)
 
 pub parts_reader : (d : DeskValue) (f : EditorValue) (call : ℕ) (waits : Bool) (did : List Did)
-    → IsDeskParts call waits d → (IsPending d.editor → ⊥) → f ≡ record d.editor { reader = f.reader }
+    → IsDeskParts call waits d → (AwaitsAnswer d.editor → ⊥) → f ≡ record d.editor { reader = f.reader }
     → IsPrefix d.editor.reader.seen f.reader.seen → last_upto d.editor.reader.seen ≤ last_upto f.reader.seen
     → did ≡ d.did
     → IsDeskParts call waits (record { editor = f; rest = d.rest; did = did })
@@ -630,12 +630,12 @@ parts_reader d f call waits did parts idle f_is more rises did_is =
     (sym did_is) (record {
       desk = desk_reader d f parts.desk idle f_is more rises;
       call_is = parts.call_is ∙ sym (ap (λ (e : EditorValue). e.made) f_is);
-      waits_is = subst (λ (e : EditorValue). IsTrue waits ↔ IsPending e) (sym f_is) parts.waits_is;
+      waits_is = subst (λ (e : EditorValue). IsTrue waits ↔ AwaitsAnswer e) (sym f_is) parts.waits_is;
     })
 
 pub parts_looked : (d : DeskValue) (f : EditorValue) (rest : Rest) (p : Publish) (call : ℕ) (waits : Bool)
-    (upto : ℕ) (text : List ℕ) (did : List Did) → IsDeskParts call waits d → (IsPending d.editor → ⊥)
-    → IsNext Next.Look d.rest
+    (upto : ℕ) (text : List ℕ) (did : List Did) → IsDeskParts call waits d → (AwaitsAnswer d.editor → ⊥)
+    → IsNextToDo Next.Look d.rest
     → ((lines : List EditorLine) → d.rest.lines ≡ Line.Look ∷ lines → rest ≡ record d.rest { lines = lines })
     → f ≡ record d.editor { reader = f.reader } → IsPrefix d.editor.reader.seen f.reader.seen
     → EndsWith f.reader.seen p → d.editor.entry ≤ p.upto → last_upto d.editor.reader.seen ≤ p.upto
@@ -650,16 +650,16 @@ parts_looked d f rest p call waits upto text did parts idle next rest_is f_is mo
           (desk_looked d f rest next.1.0 p call parts.desk idle next.0 next.1.1 (rest_is next.1.0 next.1.1) f_is more
           ends entry rises parts.call_is);
       call_is = parts.call_is ∙ sym (ap (λ (x : EditorValue). x.made) f_is);
-      waits_is = subst (λ (x : EditorValue). IsTrue waits ↔ IsPending x) (sym f_is) parts.waits_is;
+      waits_is = subst (λ (x : EditorValue). IsTrue waits ↔ AwaitsAnswer x) (sym f_is) parts.waits_is;
     }
 
 pub turn_looked : (d : DeskValue) (f : EditorValue) (rest : Rest) (p : Publish) (call : ℕ)
-    (upto : ℕ) (text : List ℕ) (did : List Did) → IsDesk d → call ≡ d.editor.made → (IsPending d.editor → ⊥)
-    → IsNext Next.Look d.rest
+    (upto : ℕ) (text : List ℕ) (did : List Did) → IsDesk d → call ≡ d.editor.made → (AwaitsAnswer d.editor → ⊥)
+    → IsNextToDo Next.Look d.rest
     → ((lines : List EditorLine) → d.rest.lines ≡ Line.Look ∷ lines → rest ≡ record d.rest { lines = lines })
     → f ≡ when_shown f.reader.seen d.editor → EndsWith f.reader.seen p
     → upto ≡ p.upto → text ≡ concat p.atoms → did ≡ d.did ++ Look call upto text ∷ []
-    → HasLooked d (record { editor = f; rest = rest; did = did })
+    → HasDoneLook d (record { editor = f; rest = rest; did = did })
 turn_looked d f rest p call upto text did is call_is idle next rest_is f_is ends upto_is text_is did_is =
     let all : length (polled d.editor) ≡ length d.editor.asks.sent = all_answered d is idle in
     let number : call ≡ length (polled d.editor) = omega (arith, is.made) in

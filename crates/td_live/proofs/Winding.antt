@@ -11,7 +11,7 @@ use Rattle.td_world.proofs.Moves.{size_family}
 use Rattle.td_live.specs.Live.{IsLiveFamilyOf, IsTraced}
 use Rattle.td_live.specs.Books.{BookValue, AreBooks, log_of}
 use Rattle.td_live.specs.Finishing.{IsFinishing, LaterBook}
-use Rattle.td_live.specs.Ending.{GoesOnTo}
+use Rattle.td_live.specs.Ending.{IsTraceFrom}
 use Rattle.td_live.proofs.Recording.{grown_then}
 use Rattle.td_live.proofs.Settling.{grown_settled, books_settled}
 use Rattle.td_live.proofs.Telling.{live_family}
@@ -41,7 +41,7 @@ module _ (w v u : WorldValue) (given : ℕ) (books : List BookValue) (logs : Lis
 
   pub wound_up : (bytes : List ℕ) → IsWorld u → SameVectors u → AllDecided u → IsTraced (family_of u) logs bytes
       → (lines : List (List EditorLine)) → AreBooks (family_of w) lines books
-      → GoesOnTo lines (family_of w) books bytes
+      → IsTraceFrom lines (family_of w) books bytes
   wound_up bytes i vectors decided traced lines h =
       let last : AreBooks (family_of v) lines f.done =
       subst (λ (bs : List BookValue). AreBooks (family_of v) lines bs) (append-nil f.done) (f.books lines h) in

@@ -6,14 +6,14 @@ use Rattle.td_live.specs.declared.ask.Ask.{Ask as Call}
 use Rattle.td_live.specs.declared.next.Next.{Next}
 use Rattle.td_live.specs.declared.next.Next.TheVariants.{Ask, Look, Over}
 use Rattle.td_live.specs.Asking.{request_of}
-use Rattle.td_live.specs.Following.{Rest, IsOver}
+use Rattle.td_live.specs.Following.{Rest, HasNothingLeft}
 
 -- what is next
-abbrev pub IsNext : Next → Rest → Type 0
-IsNext (Ask request) r =
+abbrev pub IsNextToDo : Next → Rest → Type 0
+IsNextToDo (Ask request) r =
     (call : Call) × ((calls : List Call) × (r.asks ≡ call ∷ calls)) × (request ≡ request_of call r.made)
-IsNext Look r = (r.asks ≡ []) × ((lines : List EditorLine) × (r.lines ≡ LookLine ∷ lines))
-IsNext Over r = IsOver r
+IsNextToDo Look r = (r.asks ≡ []) × ((lines : List EditorLine) × (r.lines ≡ LookLine ∷ lines))
+IsNextToDo Over r = HasNothingLeft r
 
 -- the next line is to begin
 pub record IsToBegin (r : Rest) : Type 0 where

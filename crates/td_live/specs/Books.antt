@@ -66,24 +66,24 @@ pub record IsBook (family : Family) (lines : List EditorLine) (b : BookValue) : 
   pub leads : Leads (all_of lines) acts b.rest
 
 -- each request of the histories is the entry of exactly one call, and no other entry is that of a call
-abbrev pub AreCounted : Family → List EditorLog → Type 0
-AreCounted family logs =
+abbrev pub AreEntriesOfCalls : Family → List EditorLog → Type 0
+AreEntriesOfCalls family logs =
     (site k : ℕ) → 0 < site → site ≤ length family → site_calls_at site k logs ≡ local_at (history family site) k
 
 -- the books of all editors, which have these lines
 pub record AreBooks (family : Family) (lines : List (List EditorLine)) (books : List BookValue) : Type 0 where
   pub each : AllZip (IsBook family) lines books
-  pub counted : AreCounted family (map log_of books)
+  pub counted : AreEntriesOfCalls family (map log_of books)
 
 -- the same sites, and the history of each goes on
-pub record IsGrown (old new : Family) : Type 0 where
+pub record AreHistoriesGrown (old new : Family) : Type 0 where
   pub size : length new ≡ length old
   pub histories : (site : ℕ) → 0 < site → site ≤ length old → IsPrefix (history old site) (history new site)
 
 -- the family and a book of it go on: each request that the family has more is a call that the book has more
 pub record GoesFurther (old : Family) (b : BookValue) (new : Family) (c : BookValue) : Type 0 where
   pub home : c.home ≡ b.home
-  pub grown : IsGrown old new
+  pub grown : AreHistoriesGrown old new
   pub kept : IsPrefix b.did c.did
   pub follows : (lines : List EditorLine) → IsBook old lines b → IsBook new lines c
   pub counts : (site k : ℕ) → 0 < site → site ≤ length old

@@ -7,7 +7,7 @@ use Rattle.td_view.specs.declared.publish.Publish.{Publish}
 use Rattle.td_view.specs.Publishes.{last_upto}
 use Rattle.td_line.specs.declared.ask.Ask.{Ask as Sent}
 use Rattle.td_line.specs.declared.answer.Answer.{Answer}
-use Rattle.td_line.specs.Editors.{EditorValue, LaterEditor, IsPending, polled}
+use Rattle.td_line.specs.Editors.{EditorValue, LaterEditor, AwaitsAnswer, polled}
 use Rattle.td_script.specs.declared.live.editor_line.EditorLine.{EditorLine}
 use Rattle.td_trace.specs.declared.log.Did.{Did}
 use Rattle.td_trace.specs.declared.log.Did.TheVariants.{Call, Look}
@@ -42,12 +42,12 @@ AreAnswered count (a ∷ answers) (Call call entry ∷ did) =
 AreAnswered count answers (Look calls upto text ∷ did) = (calls ≡ count) × AreAnswered count answers did
 
 -- each look was at one of these publishes, with at least the entry of the call before it and that of the look before it
-abbrev pub AreSeen : List Publish → (entry upto : ℕ) → List Did → Type 0
-AreSeen seen entry upto [] = ⊤
-AreSeen seen entry upto (Call call k ∷ did) = AreSeen seen k upto did
-AreSeen seen entry upto (Look calls u text ∷ did) =
+abbrev pub AreLooksAt : List Publish → (entry upto : ℕ) → List Did → Type 0
+AreLooksAt seen entry upto [] = ⊤
+AreLooksAt seen entry upto (Call call k ∷ did) = AreLooksAt seen k upto did
+AreLooksAt seen entry upto (Look calls u text ∷ did) =
     (entry ≤ u) × (upto ≤ u) × ((p : Publish) × In p seen × (p.upto ≡ u) × (concat p.atoms ≡ text))
-    × AreSeen seen entry u did
+    × AreLooksAt seen entry u did
 
 -- how far this has come, behind what was done before
 abbrev pub sofar_of : Sofar → List Did → Sofar
@@ -70,8 +70,8 @@ pub record AwaitsNext (d : DeskValue) : Type 0 where
 -- and it may make all calls that are still to come
 pub record IsDesk (d : DeskValue) : Type 0 where
   pub answered : AreAnswered 0 (polled d.editor) d.did
-  pub seen : AreSeen d.editor.reader.seen 0 0 d.did
-  pub pending : IsPending d.editor → AwaitsNext d
+  pub seen : AreLooksAt d.editor.reader.seen 0 0 d.did
+  pub pending : AwaitsAnswer d.editor → AwaitsNext d
   pub entry : (sofar_of nothing_yet d.did).entry ≡ d.editor.entry
   pub upto : (sofar_of nothing_yet d.did).upto ≤ last_upto d.editor.reader.seen
   pub asked : length (polled d.editor) ≤ length d.editor.asks.sent
@@ -79,11 +79,11 @@ pub record IsDesk (d : DeskValue) : Type 0 where
   pub room : length (polled d.editor) + calls_left d.rest ≤ d.editor.calls
 
 -- of these lines what is not still to do was done: it leads from one to the other
-abbrev pub HasDone : List EditorLine → DeskValue → Type 0
-HasDone lines d = Leads (all_of lines) (acts_of d) d.rest
+abbrev pub HasDoneLines : List EditorLine → DeskValue → Type 0
+HasDoneLines lines d = Leads (all_of lines) (acts_of d) d.rest
 
 -- the same desk, later: what it had done of any lines, and has done of them since
 pub record LaterDesk (d e : DeskValue) : Type 0 where
   pub editor : LaterEditor d.editor e.editor
-  pub done : (lines : List EditorLine) → HasDone lines d → HasDone lines e
+  pub done : (lines : List EditorLine) → HasDoneLines lines d → HasDoneLines lines e
   pub did : IsPrefix d.did e.did

@@ -8,17 +8,17 @@ use Rattle.td_script.specs.declared.live.editor_line.EditorLine.{EditorLine}
 use Rattle.td_trace.specs.declared.log.EditorLog.{EditorLog}
 use Rattle.td_live.specs.Desks.{DeskValue}
 use Rattle.td_live.specs.Live.{IsLiveFamilyOf, IsTraced}
-use Rattle.td_live.specs.Books.{BookValue, IsGrown}
+use Rattle.td_live.specs.Books.{BookValue, AreHistoriesGrown}
 
 -- the bytes are the trace of a live family that goes on from this one, with logs that go on from these books, of which
 -- the editors have these lines
-pub record GoesOnTo (lines : List (List EditorLine)) (old : Family) (books : List BookValue) (bytes : List ℕ)
+pub record IsTraceFrom (lines : List (List EditorLine)) (old : Family) (books : List BookValue) (bytes : List ℕ)
     : Type 0 where
   pub family : Family
   pub logs : List EditorLog
   pub live : IsLiveFamilyOf (map (λ (b : BookValue). b.home) books) lines family logs
   pub traced : IsTraced family logs bytes
-  pub grown : IsGrown old family
+  pub grown : AreHistoriesGrown old family
   pub kept : AllZip (λ (b : BookValue) (log : EditorLog). IsPrefix b.did log.did) books logs
 
 -- the bytes are the trace of a live family of the desks' editors, each at its home with these lines: what the workers

@@ -5,8 +5,8 @@ use mathlib.Core.List.{IsPrefix}
 use Rattle.td_machine.specs.History.{Family}
 use Rattle.td_script.specs.declared.live.editor_line.EditorLine.{EditorLine}
 use Rattle.td_trace.specs.declared.log.EditorLog.{EditorLog}
-use Rattle.td_live.specs.Following.{Rest, IsOver, calls_left}
-use Rattle.td_live.specs.Books.{BookValue, AreBooks, GoesFurther, IsGrown, log_of}
+use Rattle.td_live.specs.Following.{Rest, HasNothingLeft, calls_left}
+use Rattle.td_live.specs.Books.{BookValue, AreBooks, GoesFurther, AreHistoriesGrown, log_of}
 
 -- how much is left to do: never less than there are steps
 abbrev pub steps_left : Rest → ℕ
@@ -22,9 +22,9 @@ pub record IsFinishing (old : Family) (all : List BookValue) (new : Family) (log
     (left : List BookValue) : Type 0 where
   pub done : List BookValue
   pub logs_are : logs ≡ map log_of done
-  pub over : AllByRecursion (λ (b : BookValue). IsOver b.rest) done
+  pub over : AllByRecursion (λ (b : BookValue). HasNothingLeft b.rest) done
   pub later : AllZip LaterBook all (done ++ left)
-  pub grown : IsGrown old new
+  pub grown : AreHistoriesGrown old new
   pub books : (lines : List (List EditorLine)) → AreBooks old lines all → AreBooks new lines (done ++ left)
 
 -- the first book is done
@@ -34,5 +34,5 @@ pub record FinishedNext (old : Family) (books : List BookValue) (logs : List Edi
   pub last : BookValue
   pub first : books ≡ book ∷ left
   pub further : GoesFurther old book new last
-  pub over : IsOver last.rest
+  pub over : HasNothingLeft last.rest
   pub one : more ≡ logs ++ log_of last ∷ []

@@ -50,7 +50,7 @@ abbrev pub all_of : List EditorLine → Rest
 all_of lines = record { asks = []; made = None; lines = lines }
 
 -- nothing is left to do
-pub record IsOver (r : Rest) : Type 0 where
+pub record HasNothingLeft (r : Rest) : Type 0 where
   pub asks : r.asks ≡ []
   pub lines : r.lines ≡ []
 
@@ -69,9 +69,9 @@ AreActs entries (Done.Look calls upto text ∷ rest) (Called request reply ∷ a
 AreActs entries (Done.Look calls upto text ∷ rest) (Looked ∷ acts) = AreActs entries rest acts
 
 -- the calls and looks are those that the lines ask for, in order, each once, given the replies; and no other
-pub record Follows (entries : History) (lines : List EditorLine) (did : List Did) : Type 0 where
+pub record FollowsLines (entries : History) (lines : List EditorLine) (did : List Did) : Type 0 where
   pub acts : List Act
   pub are : AreActs entries did acts
   pub rest : Rest
   pub leads : Leads (all_of lines) acts rest
-  pub over : IsOver rest
+  pub over : HasNothingLeft rest

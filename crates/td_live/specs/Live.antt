@@ -11,15 +11,15 @@ use Rattle.td_trace.specs.declared.log.EditorLog.{EditorLog}
 use Rattle.td_trace.specs.Entries.{traced_family}
 use Rattle.td_trace.specs.Family.{IsLiveFamily, AreTexts}
 use Rattle.td_report.specs.Trace.{trace}
-use Rattle.td_live.specs.Following.{Follows}
+use Rattle.td_live.specs.Following.{FollowsLines}
 
 -- a live family of editors at these sites with these lines
 pub record IsLiveFamilyOf (homes : List ℕ) (lines : List (List EditorLine)) (family : Family) (logs : List EditorLog)
     : Type 0 where
   pub live : IsLiveFamily family logs
   pub homes_are : map (λ (log : EditorLog). log.home) logs ≡ homes
-  pub followed : AllZip (λ (own : List EditorLine) (log : EditorLog). Follows (history family log.home) own log.did)
-      lines logs
+  pub followed : AllZip (λ (own : List EditorLine) (log : EditorLog). FollowsLines (history family log.home) own
+      log.did) lines logs
 
 -- the text of each site at the end is what all its operations show
 abbrev pub TextsAreShown : Family → Type 0

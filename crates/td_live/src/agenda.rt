@@ -3,7 +3,7 @@ ghost use Rattle.td_script.specs.declared.live.editor_line.EditorLine.{EditorLin
 ghost use Rattle.td_script.specs.declared.live.editor_line.EditorLine.TheVariants as Line;
 ghost use Rattle.td_live.specs.declared.ask.Ask.{Ask};
 ghost use Rattle.td_live.specs.declared.next.Next.TheVariants as What;
-ghost use Rattle.td_live.specs.Agenda.{IsNext, IsToBegin};
+ghost use Rattle.td_live.specs.Agenda.{IsNextToDo, IsToBegin};
 ghost use Rattle.td_live.specs.Asking.{asks_of};
 ghost use Rattle.td_live.specs.Following.{Act, Leads, Rest, all_of, calls_left, replied};
 
@@ -50,7 +50,7 @@ impl Agenda {
 
     /// What is to do next: where no call is left of a line, the next line is begun. Takes no memory.
     pub fn next(&mut self) -> Next
-        ensures next { IsNext result self.new }
+        ensures next { IsNextToDo result self.new }
         ensures leads { (first : Rest) (acts : List Act) → Leads first acts self.old → Leads first acts self.new }
         ensures calls { calls_left self.new ≤ calls_left self.old }
         ensures same { self.old.asks ≢ [] → self.new ≡ self.old }
@@ -65,7 +65,7 @@ impl Agenda {
 
     // What is next, where no line has to begin first.
     fn at_hand(&self) -> Option<Next>
-        ensures { MatchOption result (IsToBegin self.now) (λ next. IsNext next self.now) }
+        ensures { MatchOption result (IsToBegin self.now) (λ next. IsNextToDo next self.now) }
     {
         if let Some(ask) = self.calls.first() {
             return Some(Next::Ask(ask.request(self.made)));
@@ -108,7 +108,7 @@ impl Agenda {
 
     /// The look that was next was done. Takes no memory.
     pub fn looked(&mut self)
-        requires { IsNext What.Look self.old }
+        requires { IsNextToDo What.Look self.old }
         ensures { (lines : List EditorLine) → self.old.lines ≡ Line.Look ∷ lines
             → self.new ≡ record self.old { lines = lines } }
     {

@@ -2,7 +2,7 @@
 ghost use Rattle.std.specs.Prelude.{◌≡◌, ◌<◌, ◌≤◌, ◌+◌, [], length, List, OnOk, IfOk};
 ghost use Rattle.td_trace.specs.Editors.{further, nothing_yet};
 ghost use Rattle.td_live.specs.declared.next.Next.TheVariants as What;
-ghost use Rattle.td_live.specs.Agenda.{IsNext};
+ghost use Rattle.td_live.specs.Agenda.{IsNextToDo};
 ghost use Rattle.td_live.specs.Following.{Rest, Act, Leads, all_of, calls_left};
 ghost use Rattle.td_live.specs.Books.{calls_done, log_of, with_call, with_look, brought_up};
 ghost use Rattle.td_live.specs.Drafts.{CanBringUp};
@@ -74,7 +74,7 @@ impl Book {
 
     /// What is to do next: where no call is left of a line, the next line is begun. Takes no memory.
     pub(crate) fn next(&mut self) -> Next
-        ensures next { IsNext result self.new.rest }
+        ensures next { IsNextToDo result self.new.rest }
         ensures rest { self.new ≡ record self.old { rest = self.new.rest } }
         ensures leads { (first : Rest) (acts : List Act) → Leads first acts self.old.rest → Leads first acts self.new.rest }
         ensures calls { calls_left self.new.rest ≤ calls_left self.old.rest }
@@ -96,7 +96,7 @@ impl Book {
 
     /// The look that was next was at this text, behind so many entries.
     pub(crate) fn put_look(&mut self, upto: u64, text: Bytes) -> Result<(), Memory>
-        requires { IsNext What.Look self.old.rest }
+        requires { IsNextToDo What.Look self.old.rest }
         ensures { OnOk result (self.new ≡ with_look upto text self.old) }
     {
         self.did.push(Did::Look {

@@ -6,10 +6,10 @@ ghost use Rattle.td_room.specs.Rooms.{AreOfOneRoom};
 ghost use Rattle.td_script.specs.declared.live.editor_line.EditorLine.{EditorLine};
 ghost use Rattle.td_world.specs.World.{family_of, size};
 ghost use Rattle.td_world.specs.Promises.{NobodyReady};
-ghost use Rattle.td_live.specs.Desks.{DeskValue, HasDone, IsDesk};
+ghost use Rattle.td_live.specs.Desks.{DeskValue, HasDoneLines, IsDesk};
 ghost use Rattle.td_live.specs.Books.{BookValue, AreBooks};
 ghost use Rattle.td_live.specs.Drafts.{CanBringUp, TakenApart, all_brought_up, book_of};
-ghost use Rattle.td_live.specs.Ending.{GoesOnTo, IsLiveEnd};
+ghost use Rattle.td_live.specs.Ending.{IsTraceFrom, IsLiveEnd};
 
 use crate::book::Book;
 use crate::desk::Desk;
@@ -33,7 +33,7 @@ pub fn conclude<D: Doc, R: Wait>(
     desks: Vec<Desk>,
 ) -> Result<Bytes, Memory>
     requires { AreOfOneRoom workers.items (map (λ (d : DeskValue). d.editor) desks.items) }
-    ensures { IfOk result (λ bytes. (lines : List (List EditorLine)) → AllZip HasDone lines desks.items
+    ensures { IfOk result (λ bytes. (lines : List (List EditorLine)) → AllZip HasDoneLines lines desks.items
         → IsLiveEnd workers.items lines desks.items bytes) }
 {
     let Ok((editors, books)) = take_apart(alloc, desks) else {
@@ -60,7 +60,7 @@ pub(crate) fn wind_up<D: Doc>(
     requires homes { AllByRecursion (λ (b : BookValue). b.home ≤ size world) books.items }
     requires nobody { NobodyReady world }
     ensures { IfOk result (λ bytes. (lines : List (List EditorLine)) → AreBooks (family_of world) lines books.items
-        → GoesOnTo lines (family_of world) books.items bytes) }
+        → IsTraceFrom lines (family_of world) books.items bytes) }
 {
     let mut world = world;
     let logs = finish(alloc, &mut world, books)?;

@@ -4,8 +4,8 @@ ghost use Rattle.std.specs.List.{AllByRecursion};
 ghost use Rattle.td_world.specs.World.{IsWorld, size, family_of};
 ghost use Rattle.td_world.specs.Promises.{NobodyReady};
 ghost use Rattle.td_live.specs.declared.next.Next.TheVariants as What;
-ghost use Rattle.td_live.specs.Agenda.{IsNext};
-ghost use Rattle.td_live.specs.Following.{IsOver};
+ghost use Rattle.td_live.specs.Agenda.{IsNextToDo};
+ghost use Rattle.td_live.specs.Following.{HasNothingLeft};
 ghost use Rattle.td_live.specs.Books.{BookValue, GoesFurther};
 ghost use Rattle.td_live.specs.Finishing.{IsFinishing, FinishedNext, steps_left};
 
@@ -62,7 +62,7 @@ fn finish_book<D: Doc>(alloc: Global, world: &mut World<D>, book: &mut Book) -> 
     requires home { book.old.home ≤ size world.old }
     ensures further { OnOk result (GoesFurther (family_of world.old) book.old (family_of world.new) book.new) }
     ensures size { OnOk result (size world.new ≡ size world.old) }
-    ensures over { OnOk result (IsOver book.new.rest) }
+    ensures over { OnOk result (HasNothingLeft book.new.rest) }
     ensures nobody { OnOk result (NobodyReady world.old → NobodyReady world.new) }
 {
     let mut over = false;
@@ -77,7 +77,7 @@ fn step<D: Doc>(alloc: Global, world: &mut World<D>, book: &mut Book) -> Result<
     requires home { book.old.home ≤ size world.old }
     ensures further { OnOk result (GoesFurther (family_of world.old) book.old (family_of world.new) book.new) }
     ensures size { OnOk result (size world.new ≡ size world.old) }
-    ensures over { IfOk result (λ over. over ≡ true → IsOver book.new.rest) }
+    ensures over { IfOk result (λ over. over ≡ true → HasNothingLeft book.new.rest) }
     ensures less { IfOk result (λ over. over ≡ false → steps_left book.new.rest < steps_left book.old.rest) }
     ensures nobody { OnOk result (NobodyReady world.old → NobodyReady world.new) }
 {
@@ -97,7 +97,7 @@ fn step<D: Doc>(alloc: Global, world: &mut World<D>, book: &mut Book) -> Result<
 // The call that is next.
 fn call<D: Doc>(world: &mut World<D>, book: &mut Book, request: Request) -> Result<(), Memory>
     requires home { book.old.home ≤ size world.old }
-    requires next { IsNext (What.Ask request) book.old.rest }
+    requires next { IsNextToDo (What.Ask request) book.old.rest }
     ensures further { OnOk result (GoesFurther (family_of world.old) book.old (family_of world.new) book.new) }
     ensures size { OnOk result (size world.new ≡ size world.old) }
     ensures less { OnOk result (steps_left book.new.rest < steps_left book.old.rest) }
@@ -113,7 +113,7 @@ fn call<D: Doc>(world: &mut World<D>, book: &mut Book, request: Request) -> Resu
 // The look that is next, at the text that the site has now.
 fn look<D: Doc>(alloc: Global, world: &World<D>, book: &mut Book) -> Result<(), Memory>
     requires home { book.old.home ≤ size world.now }
-    requires next { IsNext What.Look book.old.rest }
+    requires next { IsNextToDo What.Look book.old.rest }
     ensures further { OnOk result (GoesFurther (family_of world.now) book.old (family_of world.now) book.new) }
     ensures less { OnOk result (steps_left book.new.rest < steps_left book.old.rest) }
 {

@@ -1,10 +1,10 @@
 // What a desk does in a turn.
 ghost use Rattle.std.specs.Prelude.{◌≡◌, Ok, IfOk, OnErr};
 ghost use Rattle.std.specs.List.{concat};
-ghost use Rattle.td_line.specs.Editors.{IsPending, LaterEditor};
+ghost use Rattle.td_line.specs.Editors.{AwaitsAnswer, LaterEditor};
 ghost use Rattle.td_live.specs.declared.next.Next.TheVariants as Next;
 ghost use Rattle.td_live.specs.declared.went.Went.TheVariants as Went;
-ghost use Rattle.td_live.specs.Agenda.{IsNext};
+ghost use Rattle.td_live.specs.Agenda.{IsNextToDo};
 ghost use Rattle.td_live.specs.Desks.{IsDesk, LaterDesk};
 ghost use Rattle.td_live.specs.Turning.{IsAtEnd, IsTurn, Keeps};
 
@@ -40,7 +40,7 @@ impl Desk {
 
     // Polls the answer to the call that is pending.
     fn poll<R: Wait>(&mut self, rt: &R) -> Result<Went, Memory>
-        requires { IsPending self.old.editor }
+        requires { AwaitsAnswer self.old.editor }
         ensures turn { IfOk result (λ went. IsTurn self.old went self.new) }
         ensures err { OnErr result (self.new ≡ self.old) }
         ensures later { LaterEditor self.old.editor self.new.editor }
@@ -61,8 +61,8 @@ impl Desk {
 
     // Sends the call that is next.
     fn submit<R: Wait>(&mut self, rt: &R, request: Request) -> Went
-        requires idle { IsPending self.old.editor → ⊥ }
-        requires next { IsNext (Next.Ask request) self.old.rest }
+        requires idle { AwaitsAnswer self.old.editor → ⊥ }
+        requires next { IsNextToDo (Next.Ask request) self.old.rest }
         ensures turn { IsTurn self.old result self.new }
         ensures later { LaterEditor self.old.editor self.new.editor }
         ensures desk { IsDesk self.new }
@@ -80,8 +80,8 @@ impl Desk {
 
     // Does the look that is next.
     fn look(&mut self) -> Result<Went, Memory>
-        requires idle { IsPending self.old.editor → ⊥ }
-        requires next { IsNext Next.Look self.old.rest }
+        requires idle { AwaitsAnswer self.old.editor → ⊥ }
+        requires next { IsNextToDo Next.Look self.old.rest }
         ensures turn { IfOk result (λ went. IsTurn self.old went self.new) }
         ensures err { OnErr result (Keeps self.old self.new) }
         ensures later { LaterEditor self.old.editor self.new.editor }

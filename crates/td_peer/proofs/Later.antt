@@ -10,9 +10,9 @@ use Rattle.td_law_meeting.specs.Peers.{ArePackets, Hears, sent_to, new_peer}
 use Rattle.td_law_meeting.specs.Thin.{Loss}
 use Rattle.td_law_meeting.proofs.Telling.{tell_more, get_more}
 use Rattle.td_peer.specs.declared.parcel.Parcel.{Parcel}
-use Rattle.td_peer.specs.Peers.{PeerState, peer_of, packets, Linked}
+use Rattle.td_peer.specs.Peers.{PeerState, peer_of, packets, AreLinked}
 use Rattle.td_peer.specs.Serving.{Serves, LaterPeer}
-use Rattle.td_peer.specs.Opening.{IsFresh}
+use Rattle.td_peer.specs.Opening.{IsNewPeer}
 
 prefix_then : {X : Type 0} (xs ys zs : List X) → IsPrefix xs ys → IsPrefix ys zs → IsPrefix xs zs
 prefix_then {X} xs ys zs p q =
@@ -44,7 +44,7 @@ later_then p q r a b =
       sent = prefix_then p.outbox.sent q.outbox.sent r.outbox.sent a.sent b.sent;
     }
 
-pub linked_later : (p q r s : PeerState) → LaterPeer p r → LaterPeer q s → Linked p q → Linked r s
+pub linked_later : (p q r s : PeerState) → LaterPeer p r → LaterPeer q s → AreLinked p q → AreLinked r s
 linked_later p q r s a b l =
     record { there = a.outbox ∙ l.there ∙ sym b.inbox; back = b.outbox ∙ l.back ∙ sym a.inbox }
 
@@ -88,14 +88,14 @@ all_sent sent p s all =
 
 -- ---- at the beginning
 
-pub fresh_is_new : (one other places : ℕ) (lost : Loss) (p : PeerState) → IsFresh one other places lost p
+pub fresh_is_new : (one other places : ℕ) (lost : Loss) (p : PeerState) → IsNewPeer one other places lost p
     → peer_of p ≡ new_peer other lost
 fresh_is_new one other places lost p f =
     ap peer_of f.nothing
     ∙ (λ i. record (new_peer other lost) { taken = packets (f.taken i); sent = packets (f.sent i) })
 
 pub fresh_serves : (one other places : ℕ) (lost : Loss) (p : PeerState) (sent : List Message)
-    → IsFresh one other places lost p → Serves sent p
+    → IsNewPeer one other places lost p → Serves sent p
 fresh_serves one other places lost p sent f =
     subst (Serves sent) (sym f.nothing) (record {
       tells = record {
@@ -107,6 +107,6 @@ fresh_serves one other places lost p sent f =
       twice = λ m at again. absurd (cc again);
     })
 
-pub fresh_hears : (one other places : ℕ) (lost : Loss) (p : PeerState) → IsFresh one other places lost p
+pub fresh_hears : (one other places : ℕ) (lost : Loss) (p : PeerState) → IsNewPeer one other places lost p
     → Hears [] (peer_of p)
 fresh_hears one other places lost p f = subst (Hears []) (sym (fresh_is_new one other places lost p f)) tt

@@ -8,9 +8,9 @@ use Rattle.std.proofs.lemmas.List.{map-append}
 use Rattle.td_law_meeting.specs.Thin.{Loss}
 use Rattle.td_law_meeting.specs.Rows.{MatchesFirsts, AllMatch}
 use Rattle.td_law_meeting.proofs.Matching.{others_from, first_kept, first_left}
-use Rattle.td_peer.specs.Peers.{PeerState, Linked}
+use Rattle.td_peer.specs.Peers.{PeerState, AreLinked}
 use Rattle.td_peer.specs.declared.opening.TheConstants.{PLACES}
-use Rattle.td_peer.specs.Opening.{IsFresh, IsFreshRow, AreFreshRows, Paired, OpensNext, OpensFirst}
+use Rattle.td_peer.specs.Opening.{IsNewPeer, IsFreshRow, AreFreshRows, Paired, OpensNext, OpensFirst}
 use Rattle.td_base.proofs.Elements.{same_head, same_tail}
 
 abbrev pub sites : List PeerState → List ℕ
@@ -105,7 +105,7 @@ opens_first first last lost whole row (r ∷ rows) done o none = absurd (omega (
 -- what a worker keeps for the others of so many sites from this one on
 pub record IsFreshFrom (begin count site : ℕ) (lost : Loss) (row : List PeerState) : Type 0 where
   pub in_order : sites row ≡ others_from begin count site
-  pub fresh : AllByRecursion (λ (p : PeerState). IsFresh site p.site PLACES lost p) row
+  pub fresh : AllByRecursion (λ (p : PeerState). IsNewPeer site p.site PLACES lost p) row
 
 -- the rows of so many sites, from this one on
 abbrev pub AllFreshFrom : ℕ → ℕ → Loss → List (List PeerState) → Type 0
@@ -123,7 +123,7 @@ matches_weaker R S (x ∷ row) ((y ∷ ys) ∷ rows) h m = (h x y m.0, matches_w
 
 mine_fresh : (first : ℕ) (lost : Loss) (row : List PeerState) (rows : List (List PeerState))
     → MatchesFirsts (Paired first lost) row rows → AllByRecursion
-    (λ (p : PeerState). IsFresh first p.site PLACES lost p) row
+    (λ (p : PeerState). IsNewPeer first p.site PLACES lost p) row
 mine_fresh first lost [] rows m = tt
 mine_fresh first lost (p ∷ row) [] m = absurd m
 mine_fresh first lost (p ∷ row) ([] ∷ rows) m = absurd m
@@ -132,12 +132,12 @@ mine_fresh first lost (p ∷ row) ((q ∷ qs) ∷ rows) m = (m.0.mine, mine_fres
 module _ (first m : ℕ) (lost : Loss) where
   -- the row of a site behind the first, which it has something for in front now
   one_fresh : (site other : ℕ) (q : PeerState) (qs : List PeerState) → first < site → other ≡ site
-      → IsFresh other first PLACES lost q → IsFreshFrom (first + 1) m site lost qs
+      → IsNewPeer other first PLACES lost q → IsFreshFrom (first + 1) m site lost qs
       → IsFreshFrom first (suc m) site lost (q ∷ qs)
   one_fresh site other q qs below same f h =
       record {
         in_order = (λ i. is_first i ∷ h.in_order i) ∙ sym (first_kept first m site (differs first site below));
-        fresh = (subst (λ (k : ℕ × ℕ). IsFresh k.0 k.1 PLACES lost q) (λ i. (same i, sym is_first i)) f, h.fresh);
+        fresh = (subst (λ (k : ℕ × ℕ). IsNewPeer k.0 k.1 PLACES lost q) (λ i. (same i, sym is_first i)) f, h.fresh);
       }
     where
       is_first : q.site ≡ first
@@ -182,7 +182,7 @@ module _ (first m : ℕ) (lost : Loss) where
 
 pub record Opened (begin count : ℕ) (lost : Loss) (rows : List (List PeerState)) : Type 0 where
   pub all : length rows ≡ count
-  pub linked : AllMatch Linked count rows
+  pub linked : AllMatch AreLinked count rows
   pub fresh : AllFreshFrom begin count lost rows
 
 pub opened_more : (first count : ℕ) (lost : Loss) (rows theirs whole : List (List PeerState)) (row : List PeerState)
@@ -192,8 +192,8 @@ opened_more first count lost rows theirs whole row is o h =
     subst (Opened first (suc count) lost) (sym is) (record {
       all = ap suc (sym (rows_of theirs) ∙ ap length o.rests ∙ h.all);
       linked = (
-        matches_weaker (Paired first lost) Linked row theirs (λ p q w. w.linked) o.paired,
-        subst (AllMatch Linked count) (sym o.rests) h.linked,
+        matches_weaker (Paired first lost) AreLinked row theirs (λ p q w. w.linked) o.paired,
+        subst (AllMatch AreLinked count) (sym o.rests) h.linked,
       );
       fresh = fresh;
     })

@@ -7,7 +7,7 @@ use Rattle.td_law_meeting.specs.Accounts.{others}
 use Rattle.td_law_meeting.specs.Rows.{MatchesFirsts}
 use Rattle.td_peer.specs.declared.opening.TheConstants.{PLACES}
 use Rattle.td_peer.specs.declared.parcel.Parcel.{Parcel}
-use Rattle.td_peer.specs.Peers.{PeerState, Linked}
+use Rattle.td_peer.specs.Peers.{PeerState, AreLinked}
 
 -- over these links, with nothing waiting and nothing dealt with
 abbrev pub new_state : ℕ → ℕ → RxValue Parcel ℕ → TxValue Parcel ℕ → Loss → PeerState
@@ -26,7 +26,7 @@ new_state own site inbox outbox loss =
 
 -- what the worker of one site keeps for that of another one, over a link of so many places, when nothing was sent
 -- either way
-pub record IsFresh (one other places : ℕ) (lost : Loss) (p : PeerState) : Type 0 where
+pub record IsNewPeer (one other places : ℕ) (lost : Loss) (p : PeerState) : Type 0 where
   pub nothing : p ≡ new_state one other p.inbox p.outbox lost
   pub taken : p.inbox.taken ≡ []
   pub sent : p.outbox.sent ≡ []
@@ -35,7 +35,7 @@ pub record IsFresh (one other places : ℕ) (lost : Loss) (p : PeerState) : Type
 -- what the worker of one of so many sites keeps for each other one then, in the order of their sites
 pub record IsFreshRow (size site : ℕ) (lost : Loss) (row : List PeerState) : Type 0 where
   pub sites : map (λ (p : PeerState). p.site) row ≡ others size site
-  pub fresh : AllByRecursion (λ (p : PeerState). IsFresh site p.site PLACES lost p) row
+  pub fresh : AllByRecursion (λ (p : PeerState). IsNewPeer site p.site PLACES lost p) row
 
 -- the rows of so many sites, that of site 1 first
 pub record AreFreshRows (size : ℕ) (lost : Loss) (rows : List (List PeerState)) : Type 0 where
@@ -45,9 +45,9 @@ pub record AreFreshRows (size : ℕ) (lost : Loss) (rows : List (List PeerState)
 
 -- what the workers of a first site and of a later one keep for each other then
 pub record Paired (first : ℕ) (lost : Loss) (p q : PeerState) : Type 0 where
-  pub linked : Linked p q
-  pub mine : IsFresh first p.site PLACES lost p
-  pub theirs : IsFresh p.site first PLACES lost q
+  pub linked : AreLinked p q
+  pub mine : IsNewPeer first p.site PLACES lost p
+  pub theirs : IsNewPeer p.site first PLACES lost q
 
 -- one more of the rows behind has got something for the first site in front, and the row of the first site something
 -- for it

@@ -50,7 +50,7 @@ peer_of p =
     }
 
 -- the two are the ends of both links between two workers
-pub record Linked (p q : PeerState) : Type 0 where
+pub record AreLinked (p q : PeerState) : Type 0 where
   pub there : p.outbox.link ≡ q.inbox.link
   pub back : q.outbox.link ≡ p.inbox.link
 

@@ -4,18 +4,18 @@ ghost use Rattle.td_op.specs.declared.message.Message.{Message};
 ghost use Rattle.td_link.specs.Moments.{WasEmpty};
 ghost use Rattle.td_law_meeting.specs.Thin.{Loss, thin, messages_to};
 ghost use Rattle.td_law_meeting.specs.Peers.{ArePackets, Hears, new_peer};
-ghost use Rattle.td_peer.specs.Peers.{PeerState, peer_of, packets, Linked};
+ghost use Rattle.td_peer.specs.Peers.{PeerState, peer_of, packets, AreLinked};
 ghost use Rattle.td_peer.specs.Serving.{Serves, LaterPeer, TakesNext};
-ghost use Rattle.td_peer.specs.Opening.{IsFresh};
+ghost use Rattle.td_peer.specs.Opening.{IsNewPeer};
 
 /// Where nothing was sent either way a peer has taken what no history takes, and serves any replica.
 #[tactic(auto, using(crate::proofs::Later::fresh_is_new, crate::proofs::Later::fresh_serves, crate::proofs::Later::fresh_hears))]
 pub fn fresh_peers_owe_nothing()
-    ensures peer { (one other places : ℕ) (loss : Loss) (p : PeerState) → IsFresh one other places loss p
+    ensures peer { (one other places : ℕ) (loss : Loss) (p : PeerState) → IsNewPeer one other places loss p
         → peer_of p ≡ new_peer other loss }
     ensures serves { (one other places : ℕ) (loss : Loss) (p : PeerState) (sent : List Message)
-        → IsFresh one other places loss p → Serves sent p }
-    ensures hears { (one other places : ℕ) (loss : Loss) (p : PeerState) → IsFresh one other places loss p
+        → IsNewPeer one other places loss p → Serves sent p }
+    ensures hears { (one other places : ℕ) (loss : Loss) (p : PeerState) → IsNewPeer one other places loss p
         → Hears [] (peer_of p) }
 {}
 
@@ -44,5 +44,5 @@ pub fn no_packet_was_there()
 #[tactic(auto, using(crate::proofs::Later::later_then, crate::proofs::Later::linked_later))]
 pub fn linked_peers_stay_linked()
     ensures later { (p q r : PeerState) → LaterPeer p q → LaterPeer q r → LaterPeer p r }
-    ensures linked { (p q r s : PeerState) → LaterPeer p r → LaterPeer q s → Linked p q → Linked r s }
+    ensures linked { (p q r s : PeerState) → LaterPeer p r → LaterPeer q s → AreLinked p q → AreLinked r s }
 {}

@@ -1,7 +1,7 @@
 // How the links between workers end.
 ghost use Rattle.std.specs.Prelude.{◌≡◌, ◌<◌, ◌++◌, ◌∷◌, [], length, map, drop, List, IfOk, OnOk};
 ghost use Rattle.td_law_meeting.specs.Rows.{MatchesFirsts, AllMatch};
-ghost use Rattle.td_peer.specs.Peers.{PeerState, packets, Linked, PeersMet};
+ghost use Rattle.td_peer.specs.Peers.{PeerState, packets, AreLinked, PeersMet};
 ghost use mathlib.Core.List.{IsPrefix};
 ghost use Rattle.td_peer.specs.Meeting.{MetNext};
 
@@ -15,7 +15,7 @@ use td_link::{Rx, Tx, settle};
 
 // Settles both links between two workers. What was not taken is lost.
 fn meet<R: Wait>(rt: &R, alloc: Global, one: Peer, other: Peer) -> Result<(), Memory>
-    requires { Linked one other }
+    requires { AreLinked one other }
     ensures { OnOk result (PeersMet one other) }
 {
     let Peer {
@@ -62,7 +62,7 @@ fn meet_next<R: Wait>(
     rows: &mut Vec<Row>,
     left: &mut Vec<Row>,
 ) -> Result<(), Memory>
-    requires linked { MatchesFirsts Linked row.old rows.old.items }
+    requires linked { MatchesFirsts AreLinked row.old rows.old.items }
     requires some { 0 < length row.old }
     ensures { OnOk result (MetNext row.old row.new rows.old.items rows.new.items left.old.items left.new.items) }
 {
@@ -76,7 +76,7 @@ fn meet_next<R: Wait>(
 
 // Settles the links between the worker of this row and each one behind it. What is left of their rows is answered.
 fn meet_firsts<R: Wait>(rt: &R, alloc: Global, row: Row, rows: Vec<Row>) -> Result<Vec<Row>, Memory>
-    requires { MatchesFirsts Linked row rows.items }
+    requires { MatchesFirsts AreLinked row rows.items }
     ensures met { OnOk result (MatchesFirsts PeersMet row rows.items) }
     ensures left { IfOk result (λ left. left.items ≡ map (drop 1) rows.items) }
 {
@@ -91,7 +91,7 @@ fn meet_firsts<R: Wait>(rt: &R, alloc: Global, row: Row, rows: Vec<Row>) -> Resu
 
 /// Settles all links between workers, whose peers are given row by row. What was not taken is lost.
 pub fn meet_all<R: Wait>(rt: &R, alloc: Global, rows: Vec<Row>) -> Result<(), Memory>
-    requires { AllMatch Linked (length rows.items) rows.items }
+    requires { AllMatch AreLinked (length rows.items) rows.items }
     ensures { OnOk result (AllMatch PeersMet (length rows.items) rows.items) }
 {
     let mut rows = rows;

@@ -2,8 +2,8 @@
 ghost use Rattle.std.specs.Prelude.{◌≡◌, ◌<◌, ◌≤◌, ◌+◌, ◌∷◌, Some, length, List, IfOk, OnOk};
 ghost use Rattle.td_base.specs.declared.site.TheConstants.{MAX_SITE};
 ghost use Rattle.td_law_meeting.specs.Rows.{AllMatch};
-ghost use Rattle.td_peer.specs.Peers.{PeerState, Linked};
-ghost use Rattle.td_peer.specs.Opening.{new_state, IsFresh, AreFreshRows, OpensNext, OpensFirst};
+ghost use Rattle.td_peer.specs.Peers.{PeerState, AreLinked};
+ghost use Rattle.td_peer.specs.Opening.{new_state, IsNewPeer, AreFreshRows, OpensNext, OpensFirst};
 
 use crate::loss::Loss;
 use crate::parcel::Parcel;
@@ -42,7 +42,7 @@ impl Peer {
 /// places. The queues take their memory at once.
 pub fn open_rows(alloc: Global, n: u8, loss: Loss) -> Result<Vec<Row>, Memory>
     requires { n ≤ MAX_SITE }
-    ensures linked { IfOk result (λ rows. AllMatch Linked n rows.items) }
+    ensures linked { IfOk result (λ rows. AllMatch AreLinked n rows.items) }
     ensures fresh { IfOk result (λ rows. AreFreshRows n loss rows.items) }
 {
     let mut rows = Vec::new(alloc);
@@ -119,9 +119,9 @@ pub(crate) fn pair(
 ) -> Result<(Peer, Peer), Memory>
     requires some { 0 < places }
     requires few { places ≤ 65536 }
-    ensures linked { IfOk result (λ r. Linked r.0 r.1) }
-    ensures one { IfOk result (λ r. IsFresh one other places loss r.0) }
-    ensures other { IfOk result (λ r. IsFresh other one places loss r.1) }
+    ensures linked { IfOk result (λ r. AreLinked r.0 r.1) }
+    ensures one { IfOk result (λ r. IsNewPeer one other places loss r.0) }
+    ensures other { IfOk result (λ r. IsNewPeer other one places loss r.1) }
 {
     let (away, there) = link::<Parcel>(alloc, places, one)?;
     let (back, here) = link::<Parcel>(alloc, places, other)?;

@@ -16,7 +16,7 @@ use Rattle.td_report.specs.TraceLines.{TraceLine, written}
 use Rattle.td_reader.specs.declared.reached.Reached.{Reached}
 use Rattle.td_reader.specs.Form.{IsBeginning, IsFaultyForm, IsTraceOf, cut_lines, said, trace_bytes, trace_lines}
 use Rattle.td_reader.specs.Lines.{line_at}
-use Rattle.td_reader.specs.Places.{IsPlaced, starts_of}
+use Rattle.td_reader.specs.Places.{HasLinesAt, starts_of}
 use Rattle.td_reader.specs.Reached.{nothing_read, reached_by}
 use Rattle.td_reader.specs.Values.{TraceValue, IsTraceValue}
 use Rattle.td_reader.proofs.Feeds.{cut_written, first_piece, pieces_whole, written_some}
@@ -344,7 +344,7 @@ placed_at (l ∷ lines) at (suc k) start h e =
       fits = rest.fits;
     }
 
-pub line_placed : (bytes starts : List ℕ) (h : IsPlaced bytes starts) (k start : ℕ) → slice_get starts k ≡ Some start
+pub line_placed : (bytes starts : List ℕ) (h : HasLinesAt bytes starts) (k start : ℕ) → slice_get starts k ≡ Some start
     → IsLineAt bytes (said h.value) k start
 line_placed bytes starts h k start e =
     let at = placed_at (said h.value) 0 k start (trace_fits h.value h.is)
@@ -365,13 +365,13 @@ none_placed [] at k e = refl
 none_placed (l ∷ lines) at zero e = absurd (none-some at (sym e))
 none_placed (l ∷ lines) at (suc k) e = none_placed lines (at + length (written l)) k e
 
-pub no_line_placed : (bytes starts : List ℕ) (h : IsPlaced bytes starts) (k : ℕ) → slice_get starts k ≡ None
+pub no_line_placed : (bytes starts : List ℕ) (h : HasLinesAt bytes starts) (k : ℕ) → slice_get starts k ≡ None
     → slice_get (said h.value) k ≡ None
 no_line_placed bytes starts h k e = none_placed (said h.value) 0 k
     (sym (ap (λ (xs : List ℕ). slice_get xs k) h.placed) ∙ e)
 
 -- the lines of the value are those of each value that the bytes are the trace of
-pub said_again : (bytes starts : List ℕ) (h : IsPlaced bytes starts) (t : TraceValue) → IsTraceOf bytes t
+pub said_again : (bytes starts : List ℕ) (h : HasLinesAt bytes starts) (t : TraceValue) → IsTraceOf bytes t
     → said t ≡ said h.value
 said_again bytes starts h t is = same_said t h.value is.0 h.is (sym is.1 ∙ h.whole)
 
@@ -400,7 +400,7 @@ missing_rest bytes rest starts r number h none open_end e =
     subst (IsFaultyForm (cut_lines bytes)) (sym e) (missing_end bytes rest starts r h
     (nil_from_length rest (eqb-true (length rest) 0 none)) open_end)
 
-pub line_is : (bytes starts rest : List ℕ) (h : IsPlaced bytes starts) (k start : ℕ) (line : TraceLine)
+pub line_is : (bytes starts rest : List ℕ) (h : HasLinesAt bytes starts) (k start : ℕ) (line : TraceLine)
     (more : List ℕ) → slice_get starts k ≡ Some start
     → rest ≡ drop start bytes → line_at rest ≡ Some (line, more) → (t : TraceValue) → IsTraceOf bytes t → slice_get
     (said t) k ≡ Some line
@@ -410,18 +410,18 @@ line_is bytes starts rest h k start line more e whole is t trace =
     ap (λ (ls : List TraceLine). slice_get ls k) (said_again bytes starts h t trace) ∙ at.is ∙ ap
     (λ (l : TraceLine). Some l) same.0
 
-pub line_is_there : (bytes starts rest : List ℕ) (h : IsPlaced bytes starts) (k start : ℕ)
+pub line_is_there : (bytes starts rest : List ℕ) (h : HasLinesAt bytes starts) (k start : ℕ)
     → slice_get starts k ≡ Some start
     → rest ≡ drop start bytes → line_at rest ≢ None
 line_is_there bytes starts rest h k start e whole none =
     let at = line_placed bytes starts h k start e in
     none-some (at.line, at.more) (sym none ∙ ap line_at whole ∙ at.reads)
 
-pub start_within : (bytes starts : List ℕ) (h : IsPlaced bytes starts) (k start : ℕ) → slice_get starts k ≡ Some start
+pub start_within : (bytes starts : List ℕ) (h : HasLinesAt bytes starts) (k start : ℕ) → slice_get starts k ≡ Some start
     → start ≤ length bytes
 start_within bytes starts h k start e = (line_placed bytes starts h k start e).within
 
-pub no_line_is : (bytes starts : List ℕ) (h : IsPlaced bytes starts) (k : ℕ) → length starts ≤ k → (t : TraceValue)
+pub no_line_is : (bytes starts : List ℕ) (h : HasLinesAt bytes starts) (k : ℕ) → length starts ≤ k → (t : TraceValue)
     → IsTraceOf bytes t
     → slice_get (said t) k ≡ None
 no_line_is bytes starts h k past t trace =

@@ -18,7 +18,7 @@ use Rattle.td_reader.specs.Form.{IsTraceOf, said}
 use Rattle.td_reader.specs.LineNumbers.{did_count, history_lines, log_lines, part_lines}
 use Rattle.td_reader.specs.Lines.{line_at}
 use Rattle.td_reader.specs.Parts.{begins_of, is_heading, part_sizes}
-use Rattle.td_reader.specs.Places.{IsKept, IsPlaced, lines_at, onto_lines, starts_of, value_at}
+use Rattle.td_reader.specs.Places.{HasPartsAt, HasLinesAt, lines_at, onto_lines, starts_of, value_at}
 use Rattle.td_reader.specs.Reached.{nothing_read, reached_by}
 use Rattle.td_reader.specs.Values.{TraceValue}
 use Rattle.td_reader.proofs.Collecting.{value_again}
@@ -44,7 +44,7 @@ lines_again bytes front at (l ∷ lines) h e whole =
     ∙ ap (λ (ls : List TraceLine). l ∷ ls) (lines_again bytes (front ++ written l) (at + length (written l)) lines h.1
     next (whole ∙ sym (append_assoc front (written l) (all_written lines))))
 
-pub told_there : (bytes starts : List ℕ) (h : IsPlaced bytes starts) → value_at bytes starts ≡ h.value
+pub told_there : (bytes starts : List ℕ) (h : HasLinesAt bytes starts) → value_at bytes starts ≡ h.value
 unfolding value_at
 told_there bytes starts h =
     ap (λ (places : List ℕ). told_by (lines_at bytes places)) h.placed
@@ -58,7 +58,7 @@ pub record IsSeen (bytes starts parts : List ℕ) (sites : ℕ) (t : TraceValue)
   pub sites_are : sites ≡ t.sites
   pub few : length (said t) < 2 ^ 32
 
-pub seen : (bytes starts parts : List ℕ) (sites : ℕ) (t : TraceValue) → IsKept bytes starts parts sites
+pub seen : (bytes starts parts : List ℕ) (sites : ℕ) (t : TraceValue) → HasPartsAt bytes starts parts sites
     → value_at bytes starts ≡ t → IsSeen bytes starts parts sites t
 seen bytes starts parts sites t h e =
     subst (IsSeen bytes starts parts sites) (sym (told_there bytes starts h.lines) ∙ e) (record {
@@ -210,7 +210,7 @@ part_lines_of t =
 
 -- all was read, and where the texts begin
 pub record IsAllRead (bytes starts parts : List ℕ) (sites : ℕ) : Type 0 where
-  pub lines : IsPlaced bytes starts
+  pub lines : HasLinesAt bytes starts
   pub headed : parts ≡ firsts 1 (part_sizes lines.value)
   pub sites_are : sites ≡ lines.value.sites
   pub count : length starts ≡ length (said lines.value)
@@ -241,7 +241,7 @@ all_read bytes rest starts parts r sites h none ended e =
 
 pub kept : (bytes starts parts all : List ℕ) (sites texts : ℕ) → IsAllRead bytes starts parts sites
     → length starts < 2 ^ 32 → texts ≡ length starts - sites - 1 → all ≡ parts ++ texts ∷ []
-    → IsKept bytes starts all sites
+    → HasPartsAt bytes starts all sites
 kept bytes starts parts all sites texts h few e closes =
     let v : TraceValue = h.lines.value in
     let place : texts ≡ 1 + part_lines as_many (part_sizes v) = omega

@@ -20,7 +20,7 @@ use Rattle.td_reader.specs.Lines.{sites_at, history_at, entry_at, editor_at, cal
 use Rattle.td_reader.specs.Reading.{after}
 use Rattle.td_reader.specs.Replies.{reply_at}
 use Rattle.td_reader.specs.Requests.{told_at}
-use Rattle.td_reader.specs.Values.{FitsEntry, IsShort, IsLong}
+use Rattle.td_reader.specs.Values.{FitsEntry, IsShortNumber, IsLong}
 use Rattle.td_reader.proofs.Cursors.{after_back}
 use Rattle.td_reader.proofs.NameLaws.{site_there, site_back}
 use Rattle.td_reader.proofs.Numbers.{number_at_there, number_at_back, short_there, short_back, long_there, long_back}
@@ -35,7 +35,7 @@ abbrev pub FitsLine : TraceLine → Type 0
 FitsLine (SitesAre n) = n ≤ MAX_SITE
 FitsLine (HistoryOf site) = IsSite site
 FitsLine (EntryIs number entry) = IsLong number × FitsEntry entry
-FitsLine (EditorAt number home) = IsShort number × IsSite home
+FitsLine (EditorAt number home) = IsShortNumber number × IsSite home
 FitsLine (CallIs call entry) = IsLong call × IsLong entry
 FitsLine (LookIs calls upto text) = IsLong calls × IsLong upto × IsUtf8 text
 FitsLine (TextIs site text) = IsSite site × IsUtf8 text

@@ -19,7 +19,7 @@ use Rattle.td_report.specs.TraceLines.{TraceLine, SitesAre, HistoryOf, EntryIs, 
 use Rattle.td_report.specs.TraceLines.{Ended}
 use Rattle.td_reader.specs.declared.reached.Reached.{Reached}
 use Rattle.td_reader.specs.Reached.{nothing_read, reached_by}
-use Rattle.td_reader.specs.Values.{TraceValue, FitsEntry, FitsHistory, FitsDid, FitsLog, IsShort}
+use Rattle.td_reader.specs.Values.{TraceValue, FitsEntry, FitsHistory, FitsDid, FitsLog, IsShortNumber}
 use Rattle.td_reader.proofs.Lasts.{on_last, LastIs, last_pushed, last_changed, last_weaker, last_any, length_on_last}
 use Rattle.td_reader.proofs.Lasts.{all_on_last}
 use Rattle.td_reader.proofs.LineLaws.{FitsLine}
@@ -58,7 +58,7 @@ pub record IsAt (r : Reached) (lines : List TraceLine) : Type 0 where
   pub ended : r.is_ended ≡ true → (length value.histories ≡ value.sites) × (length value.texts ≡ value.sites)
   pub histories : AllByRecursion FitsHistory value.histories
   pub logs : AllByRecursion (FitsLog value.sites) value.logs
-  pub few_logs : IsShort (length value.logs)
+  pub few_logs : IsShortNumber (length value.logs)
   pub utf8 : AllByRecursion IsUtf8 value.texts
   pub said : lines ≡ opening value r.is_ended
   pub reached : run nothing_read lines ≡ Some r

@@ -29,15 +29,15 @@ unfoldable pub value_at : List ℕ → List ℕ → TraceValue
 value_at bytes starts = told_by (lines_at bytes starts)
 
 -- the bytes are a trace, whose lines begin at these places
-pub record IsPlaced (bytes starts : List ℕ) : Type 0 where
+pub record HasLinesAt (bytes starts : List ℕ) : Type 0 where
   pub value : TraceValue
   pub is : IsTraceValue value
   pub whole : bytes ≡ all_written (said value)
   pub placed : starts ≡ starts_of 0 (said value)
 
 -- the bytes are a trace of so many sites, whose lines begin at these places, and its parts at these lines
-pub record IsKept (bytes starts parts : List ℕ) (sites : ℕ) : Type 0 where
-  pub lines : IsPlaced bytes starts
+pub record HasPartsAt (bytes starts parts : List ℕ) (sites : ℕ) : Type 0 where
+  pub lines : HasLinesAt bytes starts
   pub parts_are : parts ≡ begins_of 1 (part_sizes lines.value)
   pub sites_are : sites ≡ lines.value.sites
   pub few : length (said lines.value) < 2 ^ 32

@@ -21,8 +21,8 @@ use Rattle.td_trace.specs.declared.told_input.ToldInput.{ToldInput}
 use Rattle.td_trace.specs.declared.told_input.ToldInput.TheVariants.{Asked, TookOp, TookVote, Went}
 
 -- an index, a length, a number of operations, and the number of an editor
-abbrev pub IsShort : ℕ → Type 0
-IsShort n = n < 2 ^ 32
+abbrev pub IsShortNumber : ℕ → Type 0
+IsShortNumber n = n < 2 ^ 32
 
 -- the number of an entry and of a call
 abbrev pub IsLong : ℕ → Type 0
@@ -30,14 +30,14 @@ IsLong n = n < 2 ^ 64
 
 -- the index of a request, where it has one
 abbrev pub IsIndexed : Request → Type 0
-IsIndexed (Insert index atom) = IsShort index
+IsIndexed (Insert index atom) = IsShortNumber index
 IsIndexed (InsertAfter after atom) = ⊤
-IsIndexed (Paste index run) = IsShort index
+IsIndexed (Paste index run) = IsShortNumber index
 IsIndexed (PasteAfter after run) = ⊤
-IsIndexed (Delete index) = IsShort index
+IsIndexed (Delete index) = IsShortNumber index
 IsIndexed (DeleteAtom id) = ⊤
 IsIndexed (Propose slot) = ⊤
-IsIndexed (ProposeAt index bit) = IsShort index
+IsIndexed (ProposeAt index bit) = IsShortNumber index
 IsIndexed (Cancel proposal) = ⊤
 
 abbrev pub FitsRequest : Request → Type 0
@@ -53,9 +53,9 @@ abbrev pub FitsReply : Reply → Type 0
 FitsReply (Made dot) = IsDot dot
 FitsReply Cancelled = ⊤
 FitsReply (Held by) = IsDot by
-FitsReply (Position len) = IsShort len
+FitsReply (Position len) = IsShortNumber len
 FitsReply (Gone id) = IsAtomId id
-FitsReply (Limit made undecided) = IsShort made × IsShort undecided
+FitsReply (Limit made undecided) = IsShortNumber made × IsShortNumber undecided
 FitsReply (NotOpen proposal) = IsDot proposal
 FitsReply New = ⊤
 FitsReply Later = ⊤
@@ -98,6 +98,6 @@ pub record IsTraceValue (t : TraceValue) : Type 0 where
   pub each_history : length t.histories ≡ t.sites
   pub histories : AllByRecursion FitsHistory t.histories
   pub logs : AllByRecursion (FitsLog t.sites) t.logs
-  pub few_logs : IsShort (length t.logs)
+  pub few_logs : IsShortNumber (length t.logs)
   pub each_text : length t.texts ≡ t.sites
   pub texts : AllByRecursion IsUtf8 t.texts

@@ -2,7 +2,7 @@ ghost use Rattle.std.specs.Prelude.{◌≡◌, ◌<◌, ◌^◌, MatchOption, No
 ghost use Rattle.td_reader.specs.Form.{IsTraceOf, said};
 ghost use Rattle.td_reader.specs.LineNumbers.{line_of_end};
 ghost use Rattle.td_reader.specs.Parts.{begins_of, part_sizes};
-ghost use Rattle.td_reader.specs.Places.{IsKept};
+ghost use Rattle.td_reader.specs.Places.{HasPartsAt};
 ghost use Rattle.td_reader.specs.Said.{said_by};
 ghost use Rattle.td_reader.specs.Values.{IsTraceValue};
 
@@ -22,20 +22,20 @@ pub struct ReadTrace<'a> {
 }
 
 impl<'a> Model for ReadTrace<'a> {
-    ghost use Rattle.td_reader.specs.Places.{IsKept, value_at};
+    ghost use Rattle.td_reader.specs.Places.{HasPartsAt, value_at};
     ghost use Rattle.td_reader.specs.Values.{TraceValue};
 
     ghost Value = { TraceValue };
 
     ghost view = { λ r. value_at r.bytes.now r.starts.items };
 
-    ghost invariant = { λ r. IsKept r.bytes.now r.starts.items r.parts r.sites };
+    ghost invariant = { λ r. HasPartsAt r.bytes.now r.starts.items r.parts r.sites };
 }
 
 impl<'a> ReadTrace<'a> {
     /// The trace that the bytes are, whose lines begin at these places, and its parts at these lines.
     pub(crate) fn of(bytes: &'a [u8], starts: Vec<u32>, parts: Parts, sites: u8) -> ReadTrace<'a>
-        requires { IsKept bytes.now starts.items parts sites }
+        requires { HasPartsAt bytes.now starts.items parts sites }
         ensures { IsTraceOf bytes.now result }
     {
         ReadTrace {

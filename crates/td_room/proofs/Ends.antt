@@ -18,7 +18,7 @@ use Rattle.td_law_meeting.proofs.Consistency.{consistent}
 use Rattle.td_law_meeting.proofs.Matching.{have_met}
 use Rattle.td_line.specs.declared.answer.Answer.{Answer}
 use Rattle.td_line.specs.Editors.{EditorValue}
-use Rattle.td_peer.specs.Peers.{PeerState, peer_of, Linked, PeersMet}
+use Rattle.td_peer.specs.Peers.{PeerState, peer_of, AreLinked, PeersMet}
 use Rattle.td_peer.specs.Serving.{Serves, LaterPeer}
 use Rattle.td_room.specs.Workers.{WorkerValue}
 use Rattle.td_room.specs.Rooms.{AreOfOneRoom, IsAtHome, Joined, editors_of}
@@ -198,9 +198,9 @@ module _ (es : List EditorValue) where
 
   pub linked_rows : (ws : List WorkerValue) (rs : List ReplicaValue) (gs : List (List (List Answer)))
       (rows : List (List PeerState))
-      → AllEnded es ws rs gs rows → AreOfOneRoom ws es → AllMatch Linked (length rows) rows
+      → AllEnded es ws rs gs rows → AreOfOneRoom ws es → AllMatch AreLinked (length rows) rows
   linked_rows ws rs gs rows h room =
-      subst (λ (k : ℕ). AllMatch Linked k rows) (sym (lengths ws rs gs rows h).1)
+      subst (λ (k : ℕ). AllMatch AreLinked k rows) (sym (lengths ws rs gs rows h).1)
       (all_linked (length ws) (map (λ (w : WorkerValue). w.peers) ws) rows (rows_later ws rs gs rows h) room.linked)
 
   family_is : (ws : List WorkerValue) (rs : List ReplicaValue) (gs : List (List (List Answer)))

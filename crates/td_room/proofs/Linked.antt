@@ -2,7 +2,7 @@
 use Rattle.std.proofs.Common.{ℕ, zero, suc, List, [], ◌∷◌, map, drop}
 use Rattle.std.specs.List.{AllZip}
 use Rattle.td_law_meeting.specs.Rows.{MatchesFirsts, AllMatch}
-use Rattle.td_peer.specs.Peers.{PeerState, Linked}
+use Rattle.td_peer.specs.Peers.{PeerState, AreLinked}
 use Rattle.td_peer.specs.Serving.{LaterPeer}
 use Rattle.td_peer.proofs.Later.{linked_later}
 
@@ -11,7 +11,7 @@ LaterRows rows after = AllZip (λ (ps qs : List PeerState). AllZip LaterPeer ps 
 
 firsts_later : (ps qs : List PeerState) (rows after : List (List PeerState)) → AllZip LaterPeer ps qs
     → LaterRows rows after
-    → MatchesFirsts Linked ps rows → MatchesFirsts Linked qs after
+    → MatchesFirsts AreLinked ps rows → MatchesFirsts AreLinked qs after
 firsts_later [] [] [] [] a r m = m
 firsts_later [] [] [] (s ∷ after) a r m = absurd r
 firsts_later [] [] (x ∷ rows) after a r m = absurd m
@@ -34,8 +34,8 @@ rests_later ([] ∷ rows) ((y ∷ ys) ∷ after) r = absurd r.0
 rests_later ((x ∷ xs) ∷ rows) ([] ∷ after) r = absurd r.0
 rests_later ((x ∷ xs) ∷ rows) ((y ∷ ys) ∷ after) r = (r.0.1, rests_later rows after r.1)
 
-pub all_linked : (k : ℕ) (rows after : List (List PeerState)) → LaterRows rows after → AllMatch Linked k rows
-    → AllMatch Linked k after
+pub all_linked : (k : ℕ) (rows after : List (List PeerState)) → LaterRows rows after → AllMatch AreLinked k rows
+    → AllMatch AreLinked k after
 all_linked zero rows after r m = m
 all_linked (suc k) [] [] r m = m
 all_linked (suc k) [] (y ∷ after) r m = absurd r

@@ -16,7 +16,7 @@ use Rattle.td_line.specs.declared.answer.Answer.{Answer}
 use Rattle.td_line.specs.Calls.{entry_at, local_in, local_of, local_at, AreRecorded, OnlyLocals}
 use Rattle.td_line.specs.Lines.{LineValue, HasServed}
 use Rattle.td_site.specs.Sites.{SiteValue}
-use Rattle.td_site.specs.Later.{LaterSite, IsNext, OnlyNexts}
+use Rattle.td_site.specs.Later.{LaterSite, TookNext, OnlyNexts}
 use Rattle.td_room.specs.Later.{Went, NoMoreLocals}
 use Rattle.td_room.proofs.Walks.{all_map}
 
@@ -95,9 +95,9 @@ none_next message e = cc e
 pub nexts_went : (s t : SiteValue) → LaterSite s t → OnlyNexts s.replica.entries t.replica.entries → Went s t
 nexts_went s t later only =
     went s t only.more later only.goes_on
-    (all_map IsNext TakesNone only.more (λ e next message f. none_next message (sym next.0 ∙ f)) only.nexts)
+    (all_map TookNext TakesNone only.more (λ e next message f. none_next message (sym next.0 ∙ f)) only.nexts)
 
-locals_still : (old more : History) → AllByRecursion IsNext more → (k : ℕ) → local_at (old ++ more) k ≡ local_at old k
+locals_still : (old more : History) → AllByRecursion TookNext more → (k : ℕ) → local_at (old ++ more) k ≡ local_at old k
 locals_still old [] h k = ap (λ (es : History). local_at es k) (append-nil old)
 locals_still old (e ∷ more) h k =
     ap (λ (es : History). local_at es k) (sym (append_assoc old (e ∷ []) more))

@@ -21,14 +21,14 @@ use Rattle.td_site.specs.Sites.{SiteValue}
 use Rattle.td_line.specs.Calls.{AreRecorded, answers_at, local_at}
 use Rattle.td_line.specs.Lines.{LineValue, HasServed}
 use Rattle.td_line.specs.Editors.{EditorValue, IsNewLine, IsNewEditor, Belongs}
-use Rattle.td_peer.specs.Peers.{PeerState, peer_of, Linked}
+use Rattle.td_peer.specs.Peers.{PeerState, peer_of, AreLinked}
 use Rattle.td_peer.specs.Serving.{Serves}
-use Rattle.td_peer.specs.Opening.{IsFresh, IsFreshRow, AreFreshRows}
+use Rattle.td_peer.specs.Opening.{IsNewPeer, IsFreshRow, AreFreshRows}
 use Rattle.td_peer.proofs.Later.{fresh_serves, fresh_hears}
 use Rattle.td_room.specs.Workers.{WorkerValue, IsConnected, IsServing, IsWorker, given_at}
 use Rattle.td_room.specs.Rooms.{IsAtHome, Joined, editors_of}
-use Rattle.td_room.specs.Opening.{numbers_of, AreNewWorkers, IsOpened, AreOpened, IsRoom}
-use Rattle.td_room.specs.Opening.{IsOpen, AreOpen, AreFreshFrom, OpenedNext}
+use Rattle.td_room.specs.Opening.{numbers_of, AreNewWorkers, IsEditorOpened, AreOpened, IsRoom}
+use Rattle.td_room.specs.Opening.{IsOpen, AreOpen, AreFreshRowsFrom, OpenedNext}
 use Rattle.td_room.proofs.Walks.{all_map}
 
 -- ---- a new worker
@@ -43,13 +43,13 @@ new_connected size site lost r ps e f =
     subst (λ (x : ReplicaValue). IsConnected x ps) (sym e)
     (record {
       numbers = f.sites;
-      owns = all_map (λ (p : PeerState). IsFresh site p.site PLACES lost p) (λ (p : PeerState). p.own ≡ site) ps
+      owns = all_map (λ (p : PeerState). IsNewPeer site p.site PLACES lost p) (λ (p : PeerState). p.own ≡ site) ps
           (λ p h. ap (λ (x : PeerState). x.own) h.nothing) f.fresh;
       welcome = tt;
-      hears = all_map (λ (p : PeerState). IsFresh site p.site PLACES lost p) (λ (p : PeerState). Hears [] (peer_of p))
+      hears = all_map (λ (p : PeerState). IsNewPeer site p.site PLACES lost p) (λ (p : PeerState). Hears [] (peer_of p))
           ps
           (λ p h. fresh_hears site p.site PLACES lost p h) f.fresh;
-      serves = all_map (λ (p : PeerState). IsFresh site p.site PLACES lost p) (λ (p : PeerState). Serves [] p) ps
+      serves = all_map (λ (p : PeerState). IsNewPeer site p.site PLACES lost p) (λ (p : PeerState). Serves [] p) ps
           (λ p h. fresh_serves site p.site PLACES lost p [] h) f.fresh;
     })
 
@@ -352,8 +352,8 @@ pub record Sites (homes : List ℕ) (size : ℕ) (all left : List (List PeerStat
     (rss : List (List ReaderValue)) : Type 0 where
   pub peers : map (λ (w : WorkerValue). w.peers) ws ++ left ≡ all
   pub many : length ws + length left ≡ size
-  pub opens_all : (lost : Loss) → AreFreshFrom size lost 1 all
-      → AreFreshFrom size lost (length ws + 1) left × AreOpen [] homes size lost [] 1 ws rss
+  pub opens_all : (lost : Loss) → AreFreshRowsFrom size lost 1 all
+      → AreFreshRowsFrom size lost (length ws + 1) left × AreOpen [] homes size lost [] 1 ws rss
 
 pub sites_first : (homes : List ℕ) (size : ℕ) (all : List (List PeerState)) (ws : List WorkerValue)
     (rss : List (List ReaderValue))
@@ -387,9 +387,9 @@ sites_next homes size all left next ws vs rss qss row e s o =
           omega (arith, a, b, count);
       opens_all = λ lost fresh.
           let h = s.opens_all lost fresh in
-          let rows = subst (λ (l : List (List PeerState)). AreFreshFrom size lost (length ws + 1) l) e h.0 in
+          let rows = subst (λ (l : List (List PeerState)). AreFreshRowsFrom size lost (length ws + 1) l) e h.0 in
           let up : suc (length ws + 1) ≡ length vs + 1 = omega (arith, count) in (
-            subst (λ (k : ℕ). AreFreshFrom size lost k next) up rows.1,
+            subst (λ (k : ℕ). AreFreshRowsFrom size lost k next) up rows.1,
             subst (λ (x : List WorkerValue × List (List ReaderValue)). AreOpen [] homes size lost [] 1 x.0 x.1)
                 (λ i. (sym o.last i, sym o.theirs i))
                 (open_last homes size lost 1 ws rss o.worker o.its h.1
@@ -404,14 +404,14 @@ sites_next homes size all left next ws vs rss qss row e s o =
 pub sites_last : (homes : List ℕ) (size : ℕ) (all left : List (List PeerState)) (ws : List WorkerValue)
     (rss : List (List ReaderValue)) → length left ≡ 0 → Sites homes size all left ws rss
     → (map (λ (w : WorkerValue). w.peers) ws ≡ all)
-    × ((lost : Loss) → AreFreshFrom size lost 1 all → AreOpen [] homes size lost [] 1 ws rss)
+    × ((lost : Loss) → AreFreshRowsFrom size lost 1 all → AreOpen [] homes size lost [] 1 ws rss)
 sites_last homes size all [] ws rss none s =
     (sym (append-nil (map (λ (w : WorkerValue). w.peers) ws)) ∙ s.peers, λ lost fresh. (s.opens_all lost fresh).1)
 sites_last homes size all (row ∷ left) ws rss none s = absurd (omega (arith, none))
 
 fresh_from : (size : ℕ) (lost : Loss) (site : ℕ) (rows : List (List PeerState))
     → ((place : ℕ) (row : List PeerState) → slice_get rows place ≡ Some row → IsFreshRow size (site + place) lost row)
-    → AreFreshFrom size lost site rows
+    → AreFreshRowsFrom size lost site rows
 fresh_from size lost site [] f = tt
 fresh_from size lost site (row ∷ rows) f = (
   subst (λ (k : ℕ). IsFreshRow size k lost row) (zero_end site) (f zero row refl),
@@ -426,7 +426,7 @@ fresh_from size lost site (row ∷ rows) f = (
     one_up a b = omega arith
 
 pub fresh_rows : (size : ℕ) (lost : Loss) (rows : List (List PeerState)) → AreFreshRows size lost rows
-    → AreFreshFrom size lost 1 rows
+    → AreFreshRowsFrom size lost 1 rows
 fresh_rows size lost rows f =
     fresh_from size lost 1 rows
     (λ place row e. subst (λ (k : ℕ). IsFreshRow size k lost row) (turned place) (f.each place row e))
@@ -486,7 +486,7 @@ map_length (w ∷ ws) = ap suc (map_length ws)
 
 pub room_is : (n : ℕ) (homes calls : List ℕ) (lost : Loss) (rows : List (List PeerState)) (ws : List WorkerValue)
     (es : List EditorValue) (rss : List (List ReaderValue)) → 1 ≤ n → n ≤ MAX_SITE → AreFreshRows n lost rows
-    → AllMatch Linked n rows → map (λ (w : WorkerValue). w.peers) ws ≡ rows → All (λ home. home ≤ n) homes
+    → AllMatch AreLinked n rows → map (λ (w : WorkerValue). w.peers) ws ≡ rows → All (λ home. home ≤ n) homes
     → AreOpen homes [] n lost es 1 ws rss → AreOpened homes calls es
     → IsRoom n homes calls lost ws es
 room_is n homes calls lost rows ws es rss some few fresh linked peers within there opened =
@@ -498,7 +498,7 @@ room_is n homes calls lost rows ws es rss some few fresh linked peers within the
         sites = λ place w e.
             subst (λ (k : ℕ). IsAtHome es (length ws) k w) (turned place)
             (at_home homes n (length ws) lost es 1 ws rss there (sym many) place w e);
-        linked = subst (λ (x : ℕ × List (List PeerState)). AllMatch Linked x.0 x.1) (λ i. (sym many i, sym peers i))
+        linked = subst (λ (x : ℕ × List (List PeerState)). AllMatch AreLinked x.0 x.1) (λ i. (sym many i, sym peers i))
             linked;
         homes = subst (λ (k : ℕ). AllByRecursion (λ (e : EditorValue). (0 < e.home) × (e.home ≤ k)) es) (sym many)
             (homes_within n homes calls es within opened);
@@ -544,7 +544,7 @@ open_new homes size lost site w rs all s r writer row ps number is site_is new p
     one_fewer k x = let e : k + 1 ≡ suc k = omega arith in ap (λ (j : ℕ). remove (replicate j x) 0) e
 
 pub opened : (home calls : ℕ) (r : ReaderValue) (e : EditorValue) (views : Book) → 1 ≤ home → IsNewEditor home r calls e
-    → r ≡ new_reader views (start ∷ []) → IsOpened home calls e
+    → r ≡ new_reader views (start ∷ []) → IsEditorOpened home calls e
 opened home calls r e views some n is =
     let same : e.reader ≡ new_reader views (start ∷ []) = n.reader_is ∙ is in
     record {
@@ -610,7 +610,7 @@ drop_whole (x ∷ xs) zero l = absurd (omega (arith, l))
 drop_whole (x ∷ xs) (suc i) l = drop_whole xs i (omega (arith, l))
 
 pub opened_more : (homes calls : List ℕ) (es : List EditorValue) (home number : ℕ) (e : EditorValue)
-    → length calls ≡ length homes → AreOpened homes calls es → IsOpened home number e
+    → length calls ≡ length homes → AreOpened homes calls es → IsEditorOpened home number e
     → AreOpened (homes ++ home ∷ []) (calls ++ number ∷ []) (es ++ e ∷ [])
 opened_more [] [] [] home number e n o k = (k, tt)
 opened_more [] (x ∷ calls) [] home number e n o k = absurd (omega (arith, n))

@@ -7,7 +7,7 @@ use Rattle.td_base.specs.declared.site.TheConstants.{MAX_SITE}
 use Rattle.td_law_meeting.specs.Rows.{AllMatch}
 use Rattle.td_line.specs.Lines.{LineValue, LaterLine}
 use Rattle.td_line.specs.Editors.{EditorValue, LaterEditor}
-use Rattle.td_peer.specs.Peers.{Linked}
+use Rattle.td_peer.specs.Peers.{AreLinked}
 use Rattle.td_room.specs.Workers.{WorkerValue, LaterWorker}
 use Rattle.td_room.specs.Rooms.{AreOfOneRoom, Joined, editors_of}
 use Rattle.td_room.proofs.Linked.{LaterRows, all_linked}
@@ -112,7 +112,7 @@ room_later ws vs es fs h k r =
                 (editors_of (place + 1) es) (editors_of (place + 1) fs) w.later.site.views w.later.lines
                 (editors_later (place + 1) es fs k) s.lines;
           };
-      linked = subst (λ (x : ℕ). AllMatch Linked x (map (λ (w : WorkerValue). w.peers) vs)) (sym n)
+      linked = subst (λ (x : ℕ). AllMatch AreLinked x (map (λ (w : WorkerValue). w.peers) vs)) (sym n)
           (all_linked (length ws) (map (λ (w : WorkerValue). w.peers) ws) (map (λ (w : WorkerValue). w.peers) vs)
           (rows_later ws vs h) r.linked);
       homes = subst (λ (x : ℕ). AllByRecursion (λ (e : EditorValue). (0 < e.home) × (e.home ≤ x)) fs) (sym n)

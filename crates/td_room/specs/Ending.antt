@@ -4,7 +4,7 @@ use Rattle.std.specs.List.{AllByRecursion, AllZip}
 use mathlib.Core.List.{IsPrefix}
 use Rattle.td_replica.specs.Replica.{ReplicaValue, IsReplica}
 use Rattle.td_view.specs.declared.publish.Publish.{Publish}
-use Rattle.td_view.specs.Publishes.{IsLegal}
+use Rattle.td_view.specs.Publishes.{AreLegal}
 use Rattle.td_view.specs.Values.{ReaderValue}
 use Rattle.td_site.specs.Sites.{SiteValue}
 use Rattle.td_site.specs.Later.{NothingReady}
@@ -22,7 +22,7 @@ use Rattle.td_room.specs.Closing.{IsAnswered, all_at, IsLooked, PeerDone}
 pub record SeenFrom (told : List Publish) (r : ReaderValue) : Type 0 where
   pub last : List Publish
   pub goes_on : IsPrefix told last
-  pub legal : IsLegal last
+  pub legal : AreLegal last
   pub seen : IsPrefix r.seen last
 
 -- the first of the lines and of the editors have ended

@@ -36,7 +36,7 @@ AreNewWorkers homes size lost site (w ∷ workers) =
 
 -- an editor that has done nothing, of this home, with so many calls, and has seen what is shown before anything is
 -- published
-pub record IsOpened (home calls : ℕ) (e : EditorValue) : Type 0 where
+pub record IsEditorOpened (home calls : ℕ) (e : EditorValue) : Type 0 where
   pub some : 0 < home
   pub new : IsNewEditor home e.reader calls e
   pub reader : e.reader ≡ new_reader e.reader.views (start ∷ [])
@@ -47,7 +47,7 @@ AreOpened [] calls [] = Unit {0}
 AreOpened [] calls (e ∷ editors) = ⊥
 AreOpened (home ∷ homes) calls [] = ⊥
 AreOpened (home ∷ homes) [] (e ∷ editors) = ⊥
-AreOpened (home ∷ homes) (count ∷ calls) (e ∷ editors) = IsOpened home count e × AreOpened homes calls editors
+AreOpened (home ∷ homes) (count ∷ calls) (e ∷ editors) = IsEditorOpened home count e × AreOpened homes calls editors
 
 -- a room of so many sites in which nothing was done yet
 pub record IsRoom (size : ℕ) (homes calls : List ℕ) (lost : Loss) (workers : List WorkerValue)
@@ -78,9 +78,10 @@ AreOpen done left size lost editors site (w ∷ workers) (rs ∷ readers) =
     IsOpen done left size lost editors site w rs × AreOpen done left size lost editors (suc site) workers readers
 
 -- the rows of the sites from this one on
-abbrev pub AreFreshFrom : ℕ → Loss → ℕ → List (List PeerState) → Type 0
-AreFreshFrom size lost site [] = Unit {0}
-AreFreshFrom size lost site (row ∷ rows) = IsFreshRow size site lost row × AreFreshFrom size lost (suc site) rows
+abbrev pub AreFreshRowsFrom : ℕ → Loss → ℕ → List (List PeerState) → Type 0
+AreFreshRowsFrom size lost site [] = Unit {0}
+AreFreshRowsFrom size lost site (row ∷ rows) =
+    IsFreshRow size site lost row × AreFreshRowsFrom size lost (suc site) rows
 
 -- one more site is opened, of which this is the row
 pub record OpenedNext (homes : List ℕ) (size site : ℕ) (row : List PeerState) (workers more : List WorkerValue)

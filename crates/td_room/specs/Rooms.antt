@@ -6,7 +6,7 @@ use Rattle.td_base.specs.declared.site.TheConstants.{MAX_SITE}
 use Rattle.td_law_meeting.specs.Rows.{AllMatch}
 use Rattle.td_line.specs.Lines.{LineValue}
 use Rattle.td_line.specs.Editors.{EditorValue, Belongs}
-use Rattle.td_peer.specs.Peers.{Linked}
+use Rattle.td_peer.specs.Peers.{AreLinked}
 use Rattle.td_room.specs.Workers.{WorkerValue}
 
 -- the editors of this site, in order
@@ -30,5 +30,5 @@ pub record AreOfOneRoom (workers : List WorkerValue) (editors : List EditorValue
   pub few : length workers ≤ MAX_SITE
   pub sites : (place : ℕ) (w : WorkerValue) → slice_get workers place ≡ Some w
       → IsAtHome editors (length workers) (place + 1) w
-  pub linked : AllMatch Linked (length workers) (map (λ (w : WorkerValue). w.peers) workers)
+  pub linked : AllMatch AreLinked (length workers) (map (λ (w : WorkerValue). w.peers) workers)
   pub homes : AllByRecursion (λ (e : EditorValue). (0 < e.home) × (e.home ≤ length workers)) editors

@@ -2,7 +2,7 @@
 ghost use Rattle.std.specs.Prelude.{◌≡◌, ◌++◌, ◌∷◌, [], ◌<◌, length, None, OnOk};
 ghost use Rattle.std.specs.List.{AllByRecursion};
 ghost use mathlib.Core.List.{IsPrefix};
-ghost use Rattle.td_view.specs.Publishes.{again, IsLegal};
+ghost use Rattle.td_view.specs.Publishes.{again, AreLegal};
 ghost use Rattle.td_view.specs.Values.{ReaderValue};
 ghost use Rattle.td_room.specs.Ending.{SeenFrom};
 
@@ -15,7 +15,7 @@ use td_view::{Reader, Told, Writer};
 fn look_once<R: Wait>(rt: &R, reader: &mut Reader)
     ensures known { IsPrefix reader.old.known reader.new.seen }
     ensures seen { IsPrefix reader.old.seen reader.new.seen }
-    ensures legal { IsLegal reader.new.seen }
+    ensures legal { AreLegal reader.new.seen }
 {
     for _ in rt.forever() {
         if let Some(()) = reader.look(|_shown| ()) {

@@ -8,7 +8,8 @@ ghost use Rattle.td_peer.specs.Peers.{PeerState};
 ghost use Rattle.td_peer.specs.Opening.{IsFreshRow};
 ghost use Rattle.td_room.specs.Workers.{WorkerValue};
 ghost use Rattle.td_room.specs.declared.room_fault.RoomFault.TheVariants.{Refused, Memory as WantOfMemory};
-ghost use Rattle.td_room.specs.Opening.{IsRoom, IsOpen, AreOpen, IsOpened, AreOpened, AreFreshFrom, OpenedNext, CanOpen, OpensOne};
+ghost use Rattle.td_room.specs.Opening.{IsRoom, IsOpen, AreOpen, IsEditorOpened, AreOpened};
+ghost use Rattle.td_room.specs.Opening.{AreFreshRowsFrom, OpenedNext, CanOpen, OpensOne};
 
 use crate::closing::quit_all;
 use crate::readers::Readers;
@@ -84,8 +85,8 @@ fn open_sites<D: Doc, R: Wait>(
     requires editors { length homes.now ≤ 64 }
     requires all { length rows.items ≡ n }
     requires none { workers.old.items ≡ [] }
-    requires fresh { (lost : LossValue) × AreFreshFrom n lost 1 rows.items }
-    ensures opens { IfOk result (λ readers. (lost : LossValue) → AreFreshFrom n lost 1 rows.items
+    requires fresh { (lost : LossValue) × AreFreshRowsFrom n lost 1 rows.items }
+    ensures opens { IfOk result (λ readers. (lost : LossValue) → AreFreshRowsFrom n lost 1 rows.items
         → AreOpen [] homes.now n lost [] 1 workers.new.items readers.items) }
     ensures peers { OnOk result (map (λ (w : WorkerValue). w.peers) workers.new.items ≡ rows.items) }
     ensures refused { IfErr result (λ fault. fault ≡ Refused → opener.new ≡ one_more opener.old) }
@@ -124,7 +125,7 @@ fn open_next<D: Doc, R: Wait>(
     requires editors { length homes.now ≤ 64 }
     requires some { 0 < length rows.old.items }
     requires within { length workers.old.items + length rows.old.items ≡ n }
-    requires fresh { (lost : LossValue) × AreFreshFrom n lost (length workers.old.items + 1) rows.old.items }
+    requires fresh { (lost : LossValue) × AreFreshRowsFrom n lost (length workers.old.items + 1) rows.old.items }
     ensures next { OnOk result ((row : List PeerState) × (rows.old.items ≡ row ∷ rows.new.items)
         × OpenedNext homes.now n (length workers.old.items + 1) row workers.old.items workers.new.items
         readers.old.items readers.new.items) }
@@ -248,7 +249,7 @@ fn open_editor<D: Doc>(
     ensures opens { OnOk result (OpensOne number home workers.old.items workers.new.items readers.old.items
         readers.new.items editors.old.items editors.new.items) }
     ensures opened { OnOk result ((e : EditorValue) × (editors.new.items ≡ editors.old.items ++ e ∷ [])
-        × IsOpened home calls e) }
+        × IsEditorOpened home calls e) }
     ensures peers { OnOk result (map (λ (w : WorkerValue). w.peers) workers.new.items
         ≡ map (λ (w : WorkerValue). w.peers) workers.old.items) }
 {

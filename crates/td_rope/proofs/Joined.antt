@@ -10,7 +10,7 @@ use Rattle.std.proofs.lemmas.Option.{slice_get-get_or, get_or_from_slice_get}
 use Rattle.std.proofs.lemmas.Grind.{flat_map-append}
 use Rattle.std.proofs.lemmas.List.{get_or-append-add, get_or_append_left}
 use Rattle.std.proofs.Math.Seq.{take-append-add, drop-append-add, drop-cons}
-use Rattle.td_rope.specs.Seats.{IsSeat}
+use Rattle.td_rope.specs.AmongParts.{IsAmongParts}
 
 -- ---- edits within a list
 
@@ -98,7 +98,7 @@ same_part f ps i d q lt same =
 
 -- with a piece put in it
 pub put_part : {S X : Type 0} (f : S → List X) (ps : List S) (i : ℕ) (d q : S) (run : List X) (r k : ℕ)
-    → IsSeat f ps k i r
+    → IsAmongParts f ps k i r
     → d ≡ get_or ps i d → f q ≡ insert_slice (f d) r run → flat_map f (set ps i q) ≡ insert_slice (flat_map f ps) k run
 put_part f ps i d q run r k seat this put =
     let a : List _ = flat_map f (take i ps) in
@@ -108,8 +108,8 @@ put_part f ps i d q run r k seat this put =
     ∙ ap (λ all. insert_slice all k run) (sym (at_part f ps i d seat.part_within))
 
 -- with one taken out of it
-pub taken_from_part : {S X : Type 0} (f : S → List X) (ps : List S) (i : ℕ) (d q : S) (r k : ℕ) → IsSeat f ps k i r
-    → k < length (flat_map f ps)
+pub taken_from_part : {S X : Type 0} (f : S → List X) (ps : List S) (i : ℕ) (d q : S) (r k : ℕ)
+    → IsAmongParts f ps k i r → k < length (flat_map f ps)
     → d ≡ get_or ps i d → f q ≡ remove (f d) r → flat_map f (set ps i q) ≡ remove (flat_map f ps) k
 taken_from_part f ps i d q r k seat lt this cut =
     let a : List _ = flat_map f (take i ps) in
@@ -119,7 +119,7 @@ taken_from_part f ps i d q r k seat lt this cut =
     ∙ ap (λ all. remove all k) (sym (at_part f ps i d seat.part_within))
 
 -- one that is in it
-pub get_part : {S X : Type 0} (f : S → List X) (ps : List S) (i : ℕ) (d : S) (r k : ℕ) (x : X) → IsSeat f ps k i r
+pub get_part : {S X : Type 0} (f : S → List X) (ps : List S) (i : ℕ) (d : S) (r k : ℕ) (x : X) → IsAmongParts f ps k i r
     → k < length (flat_map f ps)
     → d ≡ get_or ps i d → slice_get (f d) r ≡ Some x → slice_get (flat_map f ps) k ≡ Some x
 get_part f ps i d r k x seat lt this got =

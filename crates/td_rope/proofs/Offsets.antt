@@ -6,7 +6,7 @@ use Rattle.std.specs.List.{concat, flat_map}
 use Rattle.std.proofs.lemmas.Bool.{cases_lt}
 use Rattle.std.proofs.lemmas.List.{take-append-drop, take-append-le, take_more, take_all, append-nil}
 use Rattle.std.proofs.Math.Seq.{take-append-add}
-use Rattle.td_rope.specs.Seats.{IsSeat}
+use Rattle.td_rope.specs.AmongParts.{IsAmongParts}
 use Rattle.td_rope.specs.declared.unit.Unit.{Unit}
 use Rattle.td_rope.specs.Units.{IsIndexOf, offset_of, width}
 use Rattle.td_rope.proofs.Joined.{at_part}
@@ -86,7 +86,7 @@ index_behind unit atoms offset i is far = record {
 
 -- the offset of an atom of parts
 pub offset_seated : {S : Type 0} (f : S → List (List ℕ)) (ps : List S) (all : List (List ℕ)) (part r k : ℕ) (d : S)
-    (unit : Unit) → IsSeat f ps k part r → flat_map f ps ≡ all → d ≡ get_or ps part d
+    (unit : Unit) → IsAmongParts f ps k part r → flat_map f ps ≡ all → d ≡ get_or ps part d
     → width unit (concat (flat_map f (take part ps))) + offset_of unit (f d) r ≡ offset_of unit all k
 offset_seated f ps all part r k d unit seat all_is this =
     let a : List (List ℕ) = flat_map f (take part ps) in

@@ -1,4 +1,4 @@
 pub mod ChunkParts
-pub mod Seats
+pub mod AmongParts
 pub mod Units
 pub mod Sizes

@@ -1,6 +1,6 @@
 // Where an atom is among parts, by its index or by an offset, and room for more.
 ghost use Rattle.std.specs.Prelude.{◌≡◌, ◌<◌, ◌≤◌, ◌^◌, length, flat_map, OnOk};
-ghost use Rattle.td_rope.specs.Seats.{IsSeat};
+ghost use Rattle.td_rope.specs.AmongParts.{IsAmongParts};
 ghost use Rattle.td_rope.specs.Units.{IsIndexOf};
 
 use crate::part::Part;
@@ -19,7 +19,7 @@ pub struct Seat {
 pub fn find<P: Part>(parts: &[P], index: u32) -> Seat
     requires some { 0 < length parts.now }
     requires index { index ≤ length (flat_map P.atoms parts.now) }
-    ensures { IsSeat P.atoms parts.now index result.part result.index }
+    ensures { IsAmongParts P.atoms parts.now index result.part result.index }
 {
     let mut part = 0;
     let mut rest = index;

@@ -34,11 +34,12 @@ use Rattle.td_run.specs.declared.words.Form.{Form}
 use Rattle.td_run.specs.declared.words.Form.TheVariants.{Reads, Gen}
 use Rattle.td_run.specs.declared.words.Language.{Language}
 use Rattle.td_run.specs.declared.words.Language.TheVariants.{Play, Live, Kept, Trace}
-use Rattle.td_run.specs.Answer.{IsInLanguage, IsOutput, IsPlayed, IsRefused, IsWhole, PutsFront, fault_line}
+use Rattle.td_run.specs.Answer.{IsInLanguage, IsOutput, IsOutputFor, IsInputRefused}
+use Rattle.td_run.specs.Answer.{IsWholeOutput, PutsFront, fault_line}
 use Rattle.td_run.specs.Answer.{first_fault_in, most_bytes, usage_line}
-use Rattle.td_run.specs.Answered.{IsAnswered}
-use Rattle.td_run.specs.Answering.{IsAnswerTo, IsEnded, IsEndedOnTheWay, IsPlayedInto}
-use Rattle.td_run.specs.Answering.{IsPlayedOr, IsPut, IsReadFor, IsReads}
+use Rattle.td_run.specs.Answered.{IsRunOf}
+use Rattle.td_run.specs.Answering.{IsAnswerTo, IsAnswerPut, IsEndedOnTheWay, IsPlayedInto}
+use Rattle.td_run.specs.Answering.{IsPlayedOr, AreBytesPut, IsReadFor, IsReads}
 use Rattle.td_run.specs.Answering.{IsWholeOf}
 use Rattle.td_run.specs.Outputs.{IsSummary}
 use Rattle.td_run.specs.VerdictLine.{verdict_line}
@@ -52,8 +53,9 @@ pub whole_of : (language : Language) (left : Option (List ℕ)) (input : List �
     → IsWholeOf (Reads language) left status bytes
 whole_of language None input Done bytes told is = tt
 whole_of language None input Script bytes told is = tt
-whole_of language (Some left) input Done bytes told is = subst (λ (l : List ℕ). IsPlayed language l bytes) told is
-whole_of language (Some left) input Script bytes told is = subst (λ (l : List ℕ). IsRefused language l bytes) told is
+whole_of language (Some left) input Done bytes told is = subst (λ (l : List ℕ). IsOutputFor language l bytes) told is
+whole_of language (Some left) input Script bytes told is =
+    subst (λ (l : List ℕ). IsInputRefused language l bytes) told is
 whole_of language left input Memory bytes told is = absurd is
 whole_of language left input Usage bytes told is = absurd is
 whole_of language left input Read bytes told is = absurd is
@@ -84,13 +86,13 @@ long_kept_script input long =
 
 long_refused : (language : Language) (left : Option (List ℕ)) (bytes : List ℕ) → RefusesLong language
     → IfSome left (λ told. most_bytes language < length told)
-    → bytes ≡ fault_line 0 Size → IfSome left (λ told. IsRefused language told bytes)
+    → bytes ≡ fault_line 0 Size → IfSome left (λ told. IsInputRefused language told bytes)
 long_refused language None bytes refuses long is = tt
 long_refused language (Some input) bytes refuses long is = (0, Size, refuses input long, is)
 
 -- the verdict on an input that is too long for a trace
 long_judged : (left : Option (List ℕ)) (bytes : List ℕ) → IfSome left (λ told. most_bytes Trace < length told)
-    → bytes ≡ verdict_line (No 0 TooBig) → IfSome left (λ told. IsPlayed Trace told bytes)
+    → bytes ≡ verdict_line (No 0 TooBig) → IfSome left (λ told. IsOutputFor Trace told bytes)
 long_judged None bytes long is = tt
 long_judged (Some input) bytes long is = (No 0 TooBig, TooLong long, is)
 
@@ -241,7 +243,7 @@ refused_is input line kind (Err stop) first is = tt
 
 -- what is put at once is put on the way
 pub put_at_once : {K : Type 0} (k : sink.Ghosts K) (result : Result Answer Stop) (before after : K) (status : Status)
-    → IsEnded k result before after status → IsEndedOnTheWay k result before after status
+    → IsAnswerPut k result before after status → IsEndedOnTheWay k result before after status
 put_at_once k (Ok answer) before after status ended = inl ended
 put_at_once k (Err Unread) before after status ended = ended
 put_at_once k (Err NoMemory) before after status ended = ended
@@ -254,7 +256,7 @@ form_is words (Gen size number) is = inr (size, number, is)
 
 -- the whole output for the command is the one for the words
 pub whole_is : (words : List (List ℕ)) (form : Form) (left : Option (List ℕ)) (status : Status) (bytes : List ℕ)
-    → IsFormOf words form → IsWholeOf form left status bytes → IsWhole words left status bytes
+    → IsFormOf words form → IsWholeOf form left status bytes → IsWholeOutput words left status bytes
 whole_is words (Reads language) left Done bytes form is = inl (language, form, is)
 whole_is words (Reads language) left Script bytes form is = (language, form, is)
 whole_is words (Reads language) left Memory bytes form is = is
@@ -350,7 +352,7 @@ module _ {S K : Type 0} (s : source.Ghosts S) (k : sink.Ghosts K) (words : List 
     (before after : K)
   where
     usage_answered : ¬ IsForm words → new ≡ old → Appends (k.held before) (k.held after) usage_line
-        → IsAnswered s k words old new before after Usage
+        → IsRunOf s k words old new before after Usage
     usage_answered unknown same put = record {
       whole = λ ends. (usage_line, (unknown, refl), put);
       read = λ e. absurd cc;
@@ -371,7 +373,7 @@ module _ {S K : Type 0} (s : source.Ghosts S) (k : sink.Ghosts K) (words : List 
     done_answered : (bytes : List ℕ) → IsOutput words (s.left old) bytes → IsRead s words old new
         → ((language : Language) → IsReading words language → IsReadFor s language old new)
         → Appends (k.held before) (k.held after) bytes
-        → IsAnswered s k words old new before after Done
+        → IsRunOf s k words old new before after Done
     done_answered bytes output read to_end put = record {
       whole = λ ends. (bytes, output, put);
       read = λ e. absurd cc;
@@ -387,10 +389,10 @@ module _ {S K : Type 0} (s : source.Ghosts S) (k : sink.Ghosts K) (words : List 
     }
 
     no_refusal : (language : Language) (left : Option (List ℕ)) (bytes input : List ℕ)
-        → IfSome left (λ told. IsRefused language told bytes)
+        → IfSome left (λ told. IsInputRefused language told bytes)
         → left ≡ Some input → first_fault_in language input ≡ None → ⊥
     no_refusal language left bytes input refused told none =
-        clash (subst (λ (o : Option (List ℕ)). IfSome o (λ l. IsRefused language l bytes)) told refused)
+        clash (subst (λ (o : Option (List ℕ)). IfSome o (λ l. IsInputRefused language l bytes)) told refused)
       where
         differ : (line : ℕ) (kind : Kind) → first_fault_in language input ≡ Some (line, kind) → ⊥
         differ line kind e = none_some (sym none ∙ e)
@@ -398,13 +400,13 @@ module _ {S K : Type 0} (s : source.Ghosts S) (k : sink.Ghosts K) (words : List 
             none_some : ◌≡◌ {A = Option (ℕ × Kind)} None (Some (line, kind)) → ⊥
             none_some f = cc
 
-        clash : IsRefused language input bytes → ⊥
+        clash : IsInputRefused language input bytes → ⊥
         clash r = differ r.0 r.1 r.2
 
     script_answered : (bytes : List ℕ) (language : Language) → IsReading words language
-        → IfSome (s.left old) (λ told. IsRefused language told bytes)
+        → IfSome (s.left old) (λ told. IsInputRefused language told bytes)
         → IsRead s words old new → Appends (k.held before) (k.held after) bytes
-        → IsAnswered s k words old new before after Script
+        → IsRunOf s k words old new before after Script
     script_answered bytes language reading refused read put = record {
       whole = λ ends. (bytes, (language, reading, refused), put);
       read = λ e. absurd cc;
@@ -422,9 +424,9 @@ module _ {S K : Type 0} (s : source.Ghosts S) (k : sink.Ghosts K) (words : List 
       generated = λ size number gen. absurd (reading_is_no_gen words language size number reading gen);
     }
 
-    write_answered : (whole : Status) (bytes : List ℕ) → IsWhole words (s.left old) whole bytes
+    write_answered : (whole : Status) (bytes : List ℕ) → IsWholeOutput words (s.left old) whole bytes
         → IsRead s words old new → Rose (k.faults before) (k.faults after)
-        → PutsFront (k.held before) (k.held after) bytes → IsAnswered s k words old new before after Write
+        → PutsFront (k.held before) (k.held after) bytes → IsRunOf s k words old new before after Write
     write_answered whole bytes is read rose put = record {
       whole = ⊎_elim (λ (e : Write ≡ Done). absurd cc)
           (⊎_elim (λ (e : Write ≡ Usage). absurd cc) (λ (e : Write ≡ Script). absurd cc));
@@ -441,7 +443,7 @@ module _ {S K : Type 0} (s : source.Ghosts S) (k : sink.Ghosts K) (words : List 
     }
 
     read_answered : ReadsInput words → Rose (s.faults old) (s.faults new) → k.held after ≡ k.held before
-        → AreFewTurns s words old new → IsAnswered s k words old new before after Read
+        → AreFewTurns s words old new → IsRunOf s k words old new before after Read
     read_answered reading rose held turns = record {
       whole = ⊎_elim (λ (e : Read ≡ Done). absurd cc)
           (⊎_elim (λ (e : Read ≡ Usage). absurd cc) (λ (e : Read ≡ Script). absurd cc));
@@ -458,7 +460,7 @@ module _ {S K : Type 0} (s : source.Ghosts S) (k : sink.Ghosts K) (words : List 
     }
 
     memory_answered : IsForm words → (¬ ReadsInput words → new ≡ old) → k.held after ≡ k.held before
-        → AreFewTurns s words old new → IsAnswered s k words old new before after Memory
+        → AreFewTurns s words old new → IsRunOf s k words old new before after Memory
     memory_answered form unread held turns = record {
       whole = ⊎_elim (λ (e : Memory ≡ Done). absurd cc)
           (⊎_elim (λ (e : Memory ≡ Usage). absurd cc) (λ (e : Memory ≡ Script). absurd cc));
@@ -476,7 +478,7 @@ module _ {S K : Type 0} (s : source.Ghosts S) (k : sink.Ghosts K) (words : List 
 
     front_answered : (bytes : List ℕ) → IsReading words Play → IsOutput words (s.left old) bytes
         → PutsFront (k.held before) (k.held after) bytes → AreFewTurns s words old new
-        → IsAnswered s k words old new before after Memory
+        → IsRunOf s k words old new before after Memory
     front_answered bytes reading output put turns = record {
       whole = ⊎_elim (λ (e : Memory ≡ Done). absurd cc)
           (⊎_elim (λ (e : Memory ≡ Usage). absurd cc) (λ (e : Memory ≡ Script). absurd cc));
@@ -511,7 +513,7 @@ module _ {S K : Type 0} (s : source.Ghosts S) (k : sink.Ghosts K) (words : List 
 
     taken_answered : (form : Form) (answer : Answer) → IsFormOf words form → IsAnswerTo s form old new (Ok answer)
         → Appends (k.held before) (k.held after) answer.bytes → (status : Status) → answer.status ≡ status
-        → IsWhole words (s.left old) status answer.bytes → IsAnswered s k words old new before after status
+        → IsWholeOutput words (s.left old) status answer.bytes → IsRunOf s k words old new before after status
     taken_answered form answer is a put Done e whole =
         done_answered answer.bytes whole (read_of form answer is a)
         (λ language reading. a.to_end e language (form_of_reading words form language is reading)) put
@@ -523,51 +525,51 @@ module _ {S K : Type 0} (s : source.Ghosts S) (k : sink.Ghosts K) (words : List 
     taken_answered form answer is a put Write e whole = absurd whole
 
     put_answered : (form : Form) (answer : Answer) (status : Status) → IsFormOf words form
-        → IsAnswerTo s form old new (Ok answer) → IsPut k answer.bytes answer.status before after status
-        → IsAnswered s k words old new before after status
+        → IsAnswerTo s form old new (Ok answer) → AreBytesPut k answer.bytes answer.status before after status
+        → IsRunOf s k words old new before after status
     put_answered form answer status is a put =
         ⊎_elim
         (λ (p : (status ≡ answer.status) × Appends (k.held before) (k.held after) answer.bytes).
-        subst (IsAnswered s k words old new before after) (sym p.0)
+        subst (IsRunOf s k words old new before after) (sym p.0)
         (taken_answered form answer is a p.1 answer.status refl whole))
         (λ (p : (status ≡ Write) × Rose (k.faults before) (k.faults after)
         × PutsFront (k.held before) (k.held after) answer.bytes).
-        subst (IsAnswered s k words old new before after) (sym p.0)
+        subst (IsRunOf s k words old new before after) (sym p.0)
         (write_answered answer.status answer.bytes whole (read_of form answer is a) p.1 p.2))
         put
       where
-        whole : IsWhole words (s.left old) answer.status answer.bytes
+        whole : IsWholeOutput words (s.left old) answer.status answer.bytes
         whole = whole_is words form (s.left old) answer.status answer.bytes is a.whole
 
     -- what came of the command was put
     pub ended_answered : (form : Form) (result : Result Answer Stop) (status : Status) → IsFormOf words form
-        → IsAnswerTo s form old new result → IsEnded k result before after status
-        → IsAnswered s k words old new before after status
+        → IsAnswerTo s form old new result → IsAnswerPut k result before after status
+        → IsRunOf s k words old new before after status
     ended_answered form (Ok answer) status is a ended = put_answered form answer status is a ended
     ended_answered form (Err Unread) status is a ended =
         let r = a.read refl in
-        subst (IsAnswered s k words old new before after) (sym ended.0)
+        subst (IsRunOf s k words old new before after) (sym ended.0)
         (read_answered (reads_of form is r.0) r.1 (ap (λ (x : K). k.held x) ended.1)
         (turns_of form (Err Unread) is a))
     ended_answered form (Err NoMemory) status is a ended =
-        subst (IsAnswered s k words old new before after) (sym ended.0)
+        subst (IsRunOf s k words old new before after) (sym ended.0)
         (memory_answered (form_is words form is) (λ other. a.unread (λ reads. other (reads_of form is reads)))
         (ap (λ (x : K). k.held x) ended.1) (turns_of form (Err NoMemory) is a))
 
     -- a script was played, and what it prints was put on the way
     pub played_answered : (status : Status) → IsReading words Play → IsPlayedInto s k old new before after status
-        → IsAnswered s k words old new before after status
+        → IsRunOf s k words old new before after status
     played_answered status reading p = at p.answer p.is p.ended
       where
         at : (r : Result Answer Stop) → IsAnswerTo s (Reads Play) old new r
-            → IsEndedOnTheWay k r before after status → IsAnswered s k words old new before after status
+            → IsEndedOnTheWay k r before after status → IsRunOf s k words old new before after status
         at (Ok answer) is ended =
             ⊎_elim (put_answered (Reads Play) answer status reading is)
             (λ (q : (status ≡ Memory) × (answer.status ≡ Done)
             × PutsFront (k.held before) (k.held after) answer.bytes).
-            subst (IsAnswered s k words old new before after) (sym q.0)
+            subst (IsRunOf s k words old new before after) (sym q.0)
             (front_answered answer.bytes reading
-            (subst (λ (x : Status). IsWhole words (s.left old) x answer.bytes) q.1
+            (subst (λ (x : Status). IsWholeOutput words (s.left old) x answer.bytes) q.1
             (whole_is words (Reads Play) (s.left old) answer.status answer.bytes reading is.whole)) q.2
             (turns_of (Reads Play) (Ok answer) reading is)))
             ended
@@ -576,14 +578,14 @@ module _ {S K : Type 0} (s : source.Ghosts S) (k : sink.Ghosts K) (words : List 
 
     -- the words are no command
     pub other_answered : (status : Status) → ¬ IsForm words → new ≡ old
-        → IsPut k usage_line Usage before after status → IsAnswered s k words old new before after status
+        → AreBytesPut k usage_line Usage before after status → IsRunOf s k words old new before after status
     other_answered status unknown same put =
         ⊎_elim
         (λ (p : (status ≡ Usage) × Appends (k.held before) (k.held after) usage_line).
-        subst (IsAnswered s k words old new before after) (sym p.0) (usage_answered unknown same p.1))
+        subst (IsRunOf s k words old new before after) (sym p.0) (usage_answered unknown same p.1))
         (λ (p : (status ≡ Write) × Rose (k.faults before) (k.faults after)
         × PutsFront (k.held before) (k.held after) usage_line).
-        subst (IsAnswered s k words old new before after) (sym p.0)
+        subst (IsRunOf s k words old new before after) (sym p.0)
         (write_answered Usage usage_line (unknown, refl) read p.1 p.2))
         put
       where

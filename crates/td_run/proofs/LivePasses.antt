@@ -7,7 +7,7 @@ use Rattle.td_check.specs.Verdict.{IsPossible, IsVerdict, OfNoSite}
 use Rattle.td_check.specs.declared.verdict.Verdict.TheVariants.{Yes}
 use Rattle.td_check.proofs.Possible.{yes_is_possible}
 use Rattle.td_live.specs.Live.{IsTraceAmong}
-use Rattle.td_reader.specs.Values.{IsShort, TraceValue, IsTraceValue}
+use Rattle.td_reader.specs.Values.{IsShortNumber, TraceValue, IsTraceValue}
 use Rattle.td_reader.specs.declared.trace.TheConstants.{MAX_TRACE}
 use Rattle.td_report.specs.Trace.{trace}
 use Rattle.td_script.specs.declared.live.script.Live.{Live as LiveScript}
@@ -15,7 +15,7 @@ use Rattle.td_script.specs.declared.live.script.TheConstants.{MAX_EDITORS}
 use Rattle.td_script.specs.LiveScript.{SpellsLive}
 use Rattle.td_script.proofs.LiveFits.{editors_few}
 use Rattle.td_trace.specs.declared.log.EditorLog.{EditorLog}
-use Rattle.td_run.specs.Answer.{IsPlayed}
+use Rattle.td_run.specs.Answer.{IsOutputFor}
 use Rattle.td_run.specs.VerdictLine.{verdict_line}
 use Rattle.td_run.specs.declared.words.Language.TheVariants.{Live, Trace}
 use Rattle.td_run.proofs.YesFound.{possible_yes}
@@ -50,7 +50,7 @@ of_family input bytes live spells t short =
     ap (λ (l : List ℕ). length l) t.live.homes_are in
     let logs : length (map (λ (log : EditorLog). log.home) t.logs) ≡ length t.logs =
     length-map t.logs (λ (log : EditorLog). log.home) in
-    let few : IsShort (length t.logs) = omega (arith, few_homes, long, logs) in
+    let few : IsShortNumber (length t.logs) = omega (arith, few_homes, long, logs) in
     record {
       short = short;
       value = value;
@@ -64,18 +64,18 @@ of_family input bytes live spells t short =
           (record { family = t.family; live = t.live.live; is = refl; texts_are = t.traced.texts_are });
     }
 
-pub passes : (input bytes : List ℕ) → IsPlayed Live input bytes → length bytes ≤ MAX_TRACE → IsPossible bytes
+pub passes : (input bytes : List ℕ) → IsOutputFor Live input bytes → length bytes ≤ MAX_TRACE → IsPossible bytes
 passes input bytes (live, spells, is) short =
     ⊎_elim
     (λ (none : (live.sites ≡ 0) × (bytes ≡ trace 0 [] [] [])). of_none bytes none.1 short)
     (λ (among : IsTraceAmong live.sites live.homes live.lines bytes). of_family input bytes live spells among short) is
 
 -- so the verdict is yes, and that is what is printed of it
-pub has_yes : (input bytes : List ℕ) → IsPlayed Live input bytes → length bytes ≤ MAX_TRACE → IsVerdict bytes Yes
+pub has_yes : (input bytes : List ℕ) → IsOutputFor Live input bytes → length bytes ≤ MAX_TRACE → IsVerdict bytes Yes
 has_yes input bytes played short = possible_yes bytes (passes input bytes played short)
 
-pub says_yes : (input bytes line : List ℕ) → IsPlayed Live input bytes → length bytes ≤ MAX_TRACE
-    → IsPlayed Trace bytes line → line ≡ codes "yes\n"
+pub says_yes : (input bytes line : List ℕ) → IsOutputFor Live input bytes → length bytes ≤ MAX_TRACE
+    → IsOutputFor Trace bytes line → line ≡ codes "yes\n"
 says_yes input bytes line played short (verdict, is, line_is) =
     line_is ∙ ap verdict_line ((yes_is_possible bytes verdict is).1 (passes input bytes played short))
 

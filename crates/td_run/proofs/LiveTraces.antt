@@ -9,7 +9,7 @@ use Rattle.std.proofs.lemmas.Option.{same_Some}
 use Rattle.td_base.specs.Lists.{In}
 use Rattle.td_base.proofs.Lists.{In-map, all_in, all_of}
 use Rattle.td_doc.specs.Document.{text_of}
-use Rattle.td_live.specs.Following.{Follows}
+use Rattle.td_live.specs.Following.{FollowsLines}
 use Rattle.td_machine.specs.History.{History, Family, IsFamily, IsLegalFrom, IsReached, history, history_at, machine}
 use Rattle.td_machine.specs.History.{machine_after}
 use Rattle.td_machine.specs.Machine.{Machine, start}
@@ -22,7 +22,8 @@ use Rattle.td_op.specs.declared.message.Message.TheVariants.{Op, Vote}
 use Rattle.td_op.specs.declared.request.Request.{Request}
 use Rattle.td_op.specs.Input.{IsInput}
 use Rattle.td_reader.specs.Form.{trace_bytes}
-use Rattle.td_reader.specs.Values.{IsShort, IsLong, IsIndexed, FitsTold, FitsEntry, FitsHistory, FitsLog, TraceValue}
+use Rattle.td_reader.specs.Values.{IsShortNumber, IsLong, IsIndexed, FitsTold, FitsEntry}
+use Rattle.td_reader.specs.Values.{FitsHistory, FitsLog, TraceValue}
 use Rattle.td_reader.specs.Values.{IsTraceValue}
 use Rattle.td_script.specs.declared.live.editor_line.EditorLine.{EditorLine}
 use Rattle.td_trace.specs.declared.entry.TraceEntry.{TraceEntry}
@@ -164,8 +165,8 @@ module _ (family : Family) (logs : List EditorLog) (texts : List (List ℕ)) (li
       )
 
   module _ (lines : List (List EditorLine)) (fit : FitLines lines)
-      (followed : AllZip (λ (own : List EditorLine) (log : EditorLog). Follows (history family log.home) own log.did)
-      lines logs) where
+      (followed : AllZip (λ (own : List EditorLine) (log : EditorLog). FollowsLines (history family log.home) own
+      log.did) lines logs) where
     entry_fits : (site : ℕ) → 0 < site → site ≤ length family → (e : Entry) → In e (history family site)
         → FitsEntry (traced e)
     entry_fits site some within e i =
@@ -185,7 +186,7 @@ module _ (family : Family) (logs : List EditorLog) (texts : List (List ℕ)) (li
           few = history_few k less;
         }
 
-    pub is_value : IsShort (length logs) → AreTexts family texts → IsTraceValue (value_of family logs texts)
+    pub is_value : IsShortNumber (length logs) → AreTexts family texts → IsTraceValue (value_of family logs texts)
     is_value few are =
         record {
           few = is_family.few;

@@ -29,7 +29,7 @@ use Rattle.td_script.specs.LiveScript.{line_at, lines_at, lines_of_all}
 use Rattle.td_script.specs.declared.live.script.Live.{Live}
 use Rattle.td_live.specs.Asking.{request_of, typed, paste_on, pasted, asks_of}
 use Rattle.td_live.specs.Following.{Rest, Act, Called, Looked, replied, Leads, Stays, Calls, Looks, Begins, AreActs}
-use Rattle.td_live.specs.Following.{Follows, all_of}
+use Rattle.td_live.specs.Following.{FollowsLines, all_of}
 use Rattle.td_trace.specs.declared.entry.TraceEntry.{TraceEntry}
 use Rattle.td_trace.specs.declared.log.Did.{Did}
 use Rattle.td_trace.specs.declared.log.Did.TheVariants as Done
@@ -37,7 +37,7 @@ use Rattle.td_trace.specs.declared.log.EditorLog.{EditorLog}
 use Rattle.td_trace.specs.Entries.{traced, traced_history, told_of, is_request, tells_request, is_request_at}
 use Rattle.td_trace.specs.Family.{AreAllCalls}
 use Rattle.td_trace.specs.Editors.{calls_at, site_calls_at}
-use Rattle.td_reader.specs.Values.{IsShort, IsIndexed}
+use Rattle.td_reader.specs.Values.{IsShortNumber, IsIndexed}
 
 -- ---- the calls of a line
 
@@ -68,13 +68,13 @@ pasted_on before [] ask i = absurd i
 pasted_on before (run ∷ runs) ask (inl e) = subst FitsAsk (sym e) (λ made. tt)
 pasted_on before (run ∷ runs) ask (inr i) = pasted_on run runs ask i
 
-all_typed : (index : ℕ) (atoms : List (List ℕ)) → IsShort index → (ask : Ask) → In ask (typed index atoms)
+all_typed : (index : ℕ) (atoms : List (List ℕ)) → IsShortNumber index → (ask : Ask) → In ask (typed index atoms)
     → FitsAsk ask
 all_typed index [] h ask i = absurd i
 all_typed index (atom ∷ atoms) h ask (inl e) = subst FitsAsk (sym e) (λ made. h)
 all_typed index (atom ∷ atoms) h ask (inr i) = mapped FitsAsk _ atoms (λ other made. tt) ask i
 
-all_pasted : (index : ℕ) (runs : List (List (List ℕ))) → IsShort index → (ask : Ask) → In ask (pasted index runs)
+all_pasted : (index : ℕ) (runs : List (List (List ℕ))) → IsShortNumber index → (ask : Ask) → In ask (pasted index runs)
     → FitsAsk ask
 all_pasted index [] h ask i = absurd i
 all_pasted index (run ∷ runs) h ask (inl e) = subst FitsAsk (sym e) (λ made. h)
@@ -96,7 +96,7 @@ index_of Line.Look = 0
 abbrev pub FitsLine : EditorLine → Type 0
 FitsLine line = index_of line < 10 ^ 9
 
-short : (index : ℕ) → index < 10 ^ 9 → IsShort index
+short : (index : ℕ) → index < 10 ^ 9 → IsShortNumber index
 short index h = omega (arith, h)
 
 line_asks : (line : EditorLine) → FitsLine line → (ask : Ask) → In ask (asks_of line) → FitsAsk ask
@@ -352,8 +352,8 @@ recorded_fits h k e request there is acts r fits =
 
 -- each request of a history is that of one call, which a line asks for
 pub indexes_fit : (family : Family) (lines : List (List EditorLine)) (logs : List EditorLog) → FitLines lines
-    → AllZip (λ (own : List EditorLine) (log : EditorLog). Follows (history family log.home) own log.did) lines logs
-    → AreAllCalls family logs → (site : ℕ) → 0 < site → site ≤ length family
+    → AllZip (λ (own : List EditorLine) (log : EditorLog). FollowsLines (history family log.home) own log.did) lines
+    logs → AreAllCalls family logs → (site : ℕ) → 0 < site → site ≤ length family
     → (e : Entry) → In e (history family site) → (request : Request) → e.input ≡ Local request → IsIndexed request
 indexes_fit family lines logs fits followed calls site some within e i request is =
     let h : History = history family site in
@@ -363,9 +363,9 @@ indexes_fit family lines logs fits followed calls site some within e i request i
     let one : site_calls_at site (suc place.0) logs ≡ 1 = calls site (suc place.0) some within asked in
     let c : Caller site (suc place.0) logs = caller site (suc place.0) logs (omega (arith, one)) in
     let own =
-    zipped (λ (own : List EditorLine) (log : EditorLog). Follows (history family log.home) own log.did) lines logs
+    zipped (λ (own : List EditorLine) (log : EditorLog). FollowsLines (history family log.home) own log.did) lines logs
     followed c.log c.among in
-    let f : Follows (history family c.log.home) own.0 c.log.did = own.2 in
+    let f : FollowsLines (history family c.log.home) own.0 c.log.did = own.2 in
     let call = call_found (suc place.0) c.log.did c.some in
     let r : Recorded (history family c.log.home) f.acts (suc place.0) =
     acted (history family c.log.home) c.log.did f.acts f.are call.0 (suc place.0) call.1 in

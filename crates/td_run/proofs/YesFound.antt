@@ -2,7 +2,7 @@
 use Rattle.std.proofs.Common.{◌≡◌, ◌≢◌, ◌<◌, ◌≤◌, ◌+◌, ◌*◌, ◌-◌, ℕ, zero, suc, List, Bool, true, false, nat_eq}
 use Rattle.std.proofs.Common.{length, refl, sym, ap, ◌∙◌, subst, ⊎_elim, arith}
 use Rattle.std.proofs.lemmas.Bool.{eqb-true, eqb-false}
-use Rattle.td_check.specs.Verdict.{IsFound, OfNone, IsVerdict, OfNoSite, OfTrace, IsPossible}
+use Rattle.td_check.specs.Verdict.{IsFinding, OfNone, IsVerdict, OfNoSite, OfTrace, IsPossible}
 use Rattle.td_check.specs.declared.verdict.Verdict.TheVariants.{Yes}
 use Rattle.td_check.proofs.Ranges.{in_range}
 use Rattle.td_machine.specs.History.{Family, IsConsistent}
@@ -157,7 +157,7 @@ module _ (t : TraceValue) (l : IsLiveTrace t.histories t.logs t.texts) where
       (votes_sent l.family l.live.settled.consistent) ends.states reached ends.over
 
 pub found_yes : (t : TraceValue) (bytes : List ℕ) → IsTraceOf bytes t → 0 < t.sites
-    → IsLiveTrace t.histories t.logs t.texts → IsFound t Yes
+    → IsLiveTrace t.histories t.logs t.texts → IsFinding t Yes
 found_yes t bytes is some l =
     let e : Ends t.histories = ends t l in
     let texts = texts_there t.histories (in_range t is.0 some) e.states (reached t l) e.over (votes t l) in

@@ -60,15 +60,15 @@ first_fault_in Trace input = None
 
 -- the bytes are what the script or the kept script prints that the input spells, or the trace of what the live script
 -- came to, or the line of the verdict on the input
-abbrev pub IsPlayed : Language → List ℕ → List ℕ → Type 0
-IsPlayed Play input bytes = (script : Script) × Spells input script × IsOutputOf script bytes
-IsPlayed Live input bytes = (script : LiveScript) × SpellsLive input script × IsLiveTraceOf script bytes
-IsPlayed Kept input bytes = (script : KeptScript) × SpellsKept input script × IsKeptOutputOf script bytes
-IsPlayed Trace input bytes = (verdict : Verdict) × IsVerdict input verdict × (bytes ≡ verdict_line verdict)
+abbrev pub IsOutputFor : Language → List ℕ → List ℕ → Type 0
+IsOutputFor Play input bytes = (script : Script) × Spells input script × IsOutputOf script bytes
+IsOutputFor Live input bytes = (script : LiveScript) × SpellsLive input script × IsLiveTraceOf script bytes
+IsOutputFor Kept input bytes = (script : KeptScript) × SpellsKept input script × IsKeptOutputOf script bytes
+IsOutputFor Trace input bytes = (verdict : Verdict) × IsVerdict input verdict × (bytes ≡ verdict_line verdict)
 
 -- the input is no script, and the bytes name its first faulty line with its first fault
-abbrev pub IsRefused : Language → List ℕ → List ℕ → Type 0
-IsRefused language input bytes =
+abbrev pub IsInputRefused : Language → List ℕ → List ℕ → Type 0
+IsInputRefused language input bytes =
     (number : ℕ) × (kind : Kind) × (first_fault_in language input ≡ Some (number, kind))
     × (bytes ≡ fault_line number kind)
 
@@ -77,22 +77,22 @@ IsRefused language input bytes =
 -- the whole output for the words, and for the input, where that is told
 abbrev pub IsOutput : List (List ℕ) → Option (List ℕ) → List ℕ → Type 0
 IsOutput words input bytes =
-    ((language : Language) × IsReading words language × IfSome input (λ told. IsPlayed language told bytes))
+    ((language : Language) × IsReading words language × IfSome input (λ told. IsOutputFor language told bytes))
     ⊎ ((size number : ℕ) × IsGen words size number × IsSummary size number bytes)
 
 -- the whole output that goes with a status
-abbrev pub IsWhole : List (List ℕ) → Option (List ℕ) → Status → List ℕ → Type 0
-IsWhole words input Done bytes = IsOutput words input bytes
-IsWhole words input Usage bytes = (¬ IsForm words) × (bytes ≡ usage_line)
-IsWhole words input NoScript bytes =
-    (language : Language) × IsReading words language × IfSome input (λ told. IsRefused language told bytes)
-IsWhole words input Memory bytes = ⊥
-IsWhole words input Read bytes = ⊥
-IsWhole words input Write bytes = ⊥
+abbrev pub IsWholeOutput : List (List ℕ) → Option (List ℕ) → Status → List ℕ → Type 0
+IsWholeOutput words input Done bytes = IsOutput words input bytes
+IsWholeOutput words input Usage bytes = (¬ IsForm words) × (bytes ≡ usage_line)
+IsWholeOutput words input NoScript bytes =
+    (language : Language) × IsReading words language × IfSome input (λ told. IsInputRefused language told bytes)
+IsWholeOutput words input Memory bytes = ⊥
+IsWholeOutput words input Read bytes = ⊥
+IsWholeOutput words input Write bytes = ⊥
 
 -- the whole output was put
-abbrev pub Puts : (List ℕ → Type 0) → Option (List ℕ) → Option (List ℕ) → Type 0
-Puts IsIt old new = (bytes : List ℕ) × IsIt bytes × Appends old new bytes
+abbrev pub PutsWhole : (List ℕ → Type 0) → Option (List ℕ) → Option (List ℕ) → Type 0
+PutsWhole IsIt old new = (bytes : List ℕ) × IsIt bytes × Appends old new bytes
 
 -- a front of the bytes was put
 abbrev pub PutsFront : Option (List ℕ) → Option (List ℕ) → List ℕ → Type 0

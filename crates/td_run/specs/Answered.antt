@@ -8,22 +8,22 @@ use Rattle.td_run.specs.declared.status.Status.{Status}
 use Rattle.td_run.specs.declared.status.Status.TheVariants.{Done, Memory, Usage, Script, Read, Write}
 use Rattle.td_run.specs.declared.words.Language.{Language}
 use Rattle.td_run.specs.declared.words.Language.TheVariants.{Play}
-use Rattle.td_run.specs.Answer.{IsInLanguage, IsOutput, IsWhole, Puts, PutsFront, most_bytes}
+use Rattle.td_run.specs.Answer.{IsInLanguage, IsOutput, IsWholeOutput, PutsWhole, PutsFront, most_bytes}
 use Rattle.td_run.specs.Answering.{IsReadFor}
 use Rattle.td_run.specs.Words.{IsReading, ReadsInput, IsGen, IsForm}
 
 -- by what the source and the sink tell of themselves: of the words, the source before and after, the sink before and
 -- after, and the status
-pub record IsAnswered {S K : Type 0} (s : source.Ghosts S) (k : sink.Ghosts K) (words : List (List ℕ)) (old new : S)
+pub record IsRunOf {S K : Type 0} (s : source.Ghosts S) (k : sink.Ghosts K) (words : List (List ℕ)) (old new : S)
     (before after : K) (status : Status) : Type 0 where
   -- Done, Usage, Script: the whole output that goes with the status was put
   pub whole : (status ≡ Done) ⊎ (status ≡ Usage) ⊎ (status ≡ Script)
-      → Puts (IsWhole words (s.left old) status) (k.held before) (k.held after)
+      → PutsWhole (IsWholeOutput words (s.left old) status) (k.held before) (k.held after)
   -- Read: the source failed, and nothing was put
   pub read : status ≡ Read → ReadsInput words × Rose (s.faults old) (s.faults new) × (k.held after ≡ k.held before)
   -- Write: the sink failed, and took a front of what goes with the status that the run would have had
   pub write : status ≡ Write → Rose (k.faults before) (k.faults after) × ((whole : Status) × (bytes : List ℕ)
-      × IsWhole words (s.left old) whole bytes × PutsFront (k.held before) (k.held after) bytes)
+      × IsWholeOutput words (s.left old) whole bytes × PutsFront (k.held before) (k.held after) bytes)
   -- Memory: nothing was put, or a front of what a script prints
   pub memory : status ≡ Memory → IsForm words × ((k.held after ≡ k.held before)
       ⊎ (IsReading words Play × ((bytes : List ℕ) × IsOutput words (s.left old) bytes

@@ -15,19 +15,19 @@ use Rattle.td_run.specs.declared.words.Form.{Form}
 use Rattle.td_run.specs.declared.words.Form.TheVariants.{Reads, Gen}
 use Rattle.td_run.specs.declared.words.Language.{Language}
 use Rattle.td_run.specs.declared.words.Language.TheVariants.{Play, Live, Kept, Trace}
-use Rattle.td_run.specs.Answer.{IsPlayed, IsRefused, PutsFront, most_bytes}
+use Rattle.td_run.specs.Answer.{IsOutputFor, IsInputRefused, PutsFront, most_bytes}
 use Rattle.td_run.specs.Outputs.{IsSummary}
 
 -- what is written for an input in the language, and the status that goes with it
 abbrev pub IsPlayedOr : Language → List ℕ → Status → List ℕ → Type 0
-IsPlayedOr language input Done bytes = IsPlayed language input bytes
-IsPlayedOr language input Script bytes = IsRefused language input bytes
+IsPlayedOr language input Done bytes = IsOutputFor language input bytes
+IsPlayedOr language input Script bytes = IsInputRefused language input bytes
 IsPlayedOr language input status bytes = ⊥
 
 -- what is written for a command, where the input may not be told
 abbrev pub IsWholeOf : Form → Option (List ℕ) → Status → List ℕ → Type 0
-IsWholeOf (Reads language) input Done bytes = IfSome input (λ told. IsPlayed language told bytes)
-IsWholeOf (Reads language) input Script bytes = IfSome input (λ told. IsRefused language told bytes)
+IsWholeOf (Reads language) input Done bytes = IfSome input (λ told. IsOutputFor language told bytes)
+IsWholeOf (Reads language) input Script bytes = IfSome input (λ told. IsInputRefused language told bytes)
 IsWholeOf (Gen size number) input Done bytes = IsSummary size number bytes
 IsWholeOf form input status bytes = ⊥
 
@@ -65,30 +65,30 @@ pub record IsAnswerTo {S : Type 0} (s : source.Ghosts S) (form : Form) (old new 
 
 -- by what the sink tells of itself: the bytes were put, and the status is the one that goes with them; or the sink
 -- failed, and took a front of them
-abbrev pub IsPut : {K : Type 0} → sink.Ghosts K → List ℕ → Status → (before after : K) → Status → Type 0
-IsPut k bytes whole before after status =
+abbrev pub AreBytesPut : {K : Type 0} → sink.Ghosts K → List ℕ → Status → (before after : K) → Status → Type 0
+AreBytesPut k bytes whole before after status =
     ((status ≡ whole) × Appends (k.held before) (k.held after) bytes)
     ⊎ ((status ≡ Write) × Rose (k.faults before) (k.faults after) × PutsFront (k.held before) (k.held after) bytes)
 
 -- what came of a command was put, where it has an output
-abbrev pub IsEnded : {K : Type 0} → sink.Ghosts K → Result Answer Stop → (before after : K) → Status → Type 0
-IsEnded k (Ok answer) before after status = IsPut k answer.bytes answer.status before after status
-IsEnded k (Err Unread) before after status = (status ≡ Read) × (after ≡ before)
-IsEnded k (Err NoMemory) before after status = (status ≡ Memory) × (after ≡ before)
+abbrev pub IsAnswerPut : {K : Type 0} → sink.Ghosts K → Result Answer Stop → (before after : K) → Status → Type 0
+IsAnswerPut k (Ok answer) before after status = AreBytesPut k answer.bytes answer.status before after status
+IsAnswerPut k (Err Unread) before after status = (status ≡ Read) × (after ≡ before)
+IsAnswerPut k (Err NoMemory) before after status = (status ≡ Memory) × (after ≡ before)
 
 -- the same of an output that is put while it is made: memory may run out on the way
 abbrev pub IsPutOnTheWay : {K : Type 0} → sink.Ghosts K → List ℕ → (before after : K) → Status → Type 0
 IsPutOnTheWay k bytes before after status =
-    IsPut k bytes Done before after status ⊎ ((status ≡ Memory) × PutsFront (k.held before) (k.held after) bytes)
+    AreBytesPut k bytes Done before after status ⊎ ((status ≡ Memory) × PutsFront (k.held before) (k.held after) bytes)
 
 -- the same by what came of a script
 abbrev pub IsEndedOnTheWay : {K : Type 0} → sink.Ghosts K → Result Answer Stop → (before after : K) → Status
     → Type 0
 IsEndedOnTheWay k (Ok answer) before after status =
-    IsPut k answer.bytes answer.status before after status
+    AreBytesPut k answer.bytes answer.status before after status
     ⊎ ((status ≡ Memory) × (answer.status ≡ Done) × PutsFront (k.held before) (k.held after) answer.bytes)
-IsEndedOnTheWay k (Err Unread) before after status = IsEnded k (Err Unread) before after status
-IsEndedOnTheWay k (Err NoMemory) before after status = IsEnded k (Err NoMemory) before after status
+IsEndedOnTheWay k (Err Unread) before after status = IsAnswerPut k (Err Unread) before after status
+IsEndedOnTheWay k (Err NoMemory) before after status = IsAnswerPut k (Err NoMemory) before after status
 
 -- the script that the input spells was played, or its fault was told
 pub record IsInputPlayed {K : Type 0} (k : sink.Ghosts K) (input : List ℕ) (before after : K) (status : Status)

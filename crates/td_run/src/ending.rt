@@ -1,5 +1,5 @@
 // How a run ends by what came of its command.
-ghost use Rattle.td_run.specs.Answering.{IsEnded, IsPut};
+ghost use Rattle.td_run.specs.Answering.{IsAnswerPut, AreBytesPut};
 
 use crate::answer::{Answer, Stop};
 use crate::status::Status;
@@ -7,7 +7,7 @@ use td_io::{Sink, put_all};
 
 /// Puts the output of a command, where it has one.
 pub(crate) fn end<K: Sink>(sink: &mut K, answer: Result<Answer, Stop>) -> Status
-    ensures { IsEnded K.Sink answer sink.old sink.new result }
+    ensures { IsAnswerPut K.Sink answer sink.old sink.new result }
 {
     match answer {
         Ok(answer) => put(sink, answer.bytes.as_slice(), answer.status),
@@ -18,7 +18,7 @@ pub(crate) fn end<K: Sink>(sink: &mut K, answer: Result<Answer, Stop>) -> Status
 
 /// Puts the whole output that goes with the status.
 pub(crate) fn put<K: Sink>(sink: &mut K, output: &[u8], status: Status) -> Status
-    ensures { IsPut K.Sink output.now status sink.old sink.new result }
+    ensures { AreBytesPut K.Sink output.now status sink.old sink.new result }
 {
     match put_all(sink, output) {
         Ok(()) => status,

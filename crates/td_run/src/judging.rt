@@ -3,7 +3,7 @@ ghost use Rattle.std.specs.Prelude.{◌≡◌, ◌≤◌, ℕ, List, codes, leng
 ghost use Rattle.td_check.specs.Verdict.{IsPossible, IsVerdict};
 ghost use Rattle.td_check.specs.declared.verdict.Verdict.TheVariants.{Yes};
 ghost use Rattle.td_reader.specs.declared.trace.TheConstants.{MAX_TRACE};
-ghost use Rattle.td_run.specs.Answer.{IsPlayed};
+ghost use Rattle.td_run.specs.Answer.{IsOutputFor};
 ghost use Rattle.td_run.specs.Kept.{TracesLiveFamily};
 ghost use Rattle.td_run.specs.declared.words.Language.TheVariants.{Live, Trace};
 
@@ -20,11 +20,11 @@ pub fn a_trace_with_yes_keeps_the_promises()
 /// trace may be. (The last clause is what is printed of a script without a command.)
 #[tactic(auto, using(crate::proofs::LivePasses::none_has_yes))]
 pub fn what_live_prints_passes()
-    ensures possible { (input bytes : List ℕ) → IsPlayed Live input bytes → length bytes ≤ MAX_TRACE
+    ensures possible { (input bytes : List ℕ) → IsOutputFor Live input bytes → length bytes ≤ MAX_TRACE
         → IsPossible bytes }
-    ensures yes { (input bytes : List ℕ) → IsPlayed Live input bytes → length bytes ≤ MAX_TRACE
+    ensures yes { (input bytes : List ℕ) → IsOutputFor Live input bytes → length bytes ≤ MAX_TRACE
         → IsVerdict bytes Yes }
-    ensures printed { (input bytes line : List ℕ) → IsPlayed Live input bytes → length bytes ≤ MAX_TRACE
-        → IsPlayed Trace bytes line → line ≡ codes "yes\n" }
+    ensures printed { (input bytes line : List ℕ) → IsOutputFor Live input bytes → length bytes ≤ MAX_TRACE
+        → IsOutputFor Trace bytes line → line ≡ codes "yes\n" }
     ensures nothing { IsVerdict (codes "sites 0\nend\n") Yes }
 {}

@@ -1,6 +1,6 @@
 ghost use Rattle.std.specs.Prelude.{◌∷◌, [], codes};
 ghost use Rattle.td_run.specs.declared.words.Language.TheVariants.{Live as InLive};
-ghost use Rattle.td_run.specs.Answered.{IsAnswered};
+ghost use Rattle.td_run.specs.Answered.{IsRunOf};
 ghost use Rattle.td_run.specs.Words.{IsReading};
 
 use crate::ending::{end, put};
@@ -32,7 +32,7 @@ pub fn run<S: Source, K: Sink, G: Gate + Sync, R: Threads + Wait + Copy + Send +
     sink: &mut K,
     gate: &G,
 ) -> Status
-    ensures { IsAnswered S.Source K.Sink words.now source.old source.new sink.old sink.new result }
+    ensures { IsRunOf S.Source K.Sink words.now source.old source.new sink.old sink.new result }
 {
     if is_live(words) {
         return run_live(rt, alloc, source, sink, gate);
@@ -48,7 +48,7 @@ pub fn run_plain<S: Source, K: Sink>(
     sink: &mut K,
 ) -> Status
     requires { ¬ IsReading words.now InLive }
-    ensures { IsAnswered S.Source K.Sink words.now source.old source.new sink.old sink.new result }
+    ensures { IsRunOf S.Source K.Sink words.now source.old source.new sink.old sink.new result }
 {
     match asked_for(words) {
         Some(Form::Reads(Language::Play)) => played(alloc, source, sink),
@@ -69,7 +69,7 @@ pub fn run_live<S: Source, K: Sink, G: Gate + Sync, R: Threads + Wait + Copy + S
     sink: &mut K,
     gate: &G,
 ) -> Status
-    ensures { IsAnswered S.Source K.Sink (codes "live" ∷ []) source.old source.new sink.old sink.new result }
+    ensures { IsRunOf S.Source K.Sink (codes "live" ∷ []) source.old source.new sink.old sink.new result }
 {
     end(sink, traced(rt, alloc, source, gate))
 }

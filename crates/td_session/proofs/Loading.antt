@@ -3,11 +3,11 @@ use Rattle.std.proofs.Common.{◌≡◌, ◌⊎◌, ℕ, List, Err, inl, inr, su
 use Rattle.td_journal.proofs.Wholes.{of_is_not_bad}
 use Rattle.td_session.specs.declared.fault.Fault.{Fault}
 use Rattle.td_session.specs.declared.fault.Fault.TheVariants.{Memory}
-use Rattle.td_session.specs.Calls.{IsSeat}
+use Rattle.td_session.specs.Calls.{IsSiteAmong}
 use Rattle.td_session.specs.Saved.{IsLoaded, IsNoJournal, IsTooLong}
 
 -- at a site that there is
-pub not_loaded : (site sites own : ℕ) (journal : List ℕ) → IsSeat site sites → own ≡ site → (fault : Fault)
+pub not_loaded : (site sites own : ℕ) (journal : List ℕ) → IsSiteAmong site sites → own ≡ site → (fault : Fault)
     → (fault ≡ Memory) ⊎ (IsTooLong journal fault ⊎ IsNoJournal own sites journal fault)
     → IsLoaded site sites journal (Err fault)
 not_loaded site sites own journal seat own_is fault why =

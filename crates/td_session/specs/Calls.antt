@@ -31,15 +31,15 @@ IsRefused fault old result new = (result ≡ Err fault) × (new ≡ old)
 -- ---- opening
 
 -- there is such a site among so many
-pub record IsSeat (site sites : ℕ) : Type 0 where
+pub record IsSiteAmong (site sites : ℕ) : Type 0 where
   pub some : 1 ≤ site
   pub within : site ≤ sites
   pub few : sites ≤ MAX_SITE
 
 pub record IsOpened (site sites : ℕ) (result : Result ReplicaValue Fault) : Type 0 where
-  pub ok : IfOk result (λ r. IsSeat site sites × (r ≡ new_replica site sites))
-  pub memory : IsSeat site sites → IfErr result (λ fault. fault ≡ Memory)
-  pub other : ¬ IsSeat site sites → result ≡ Err Site
+  pub ok : IfOk result (λ r. IsSiteAmong site sites × (r ≡ new_replica site sites))
+  pub memory : IsSiteAmong site sites → IfErr result (λ fault. fault ≡ Memory)
+  pub other : ¬ IsSiteAmong site sites → result ≡ Err Site
 
 -- ---- requests
 

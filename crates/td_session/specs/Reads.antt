@@ -12,7 +12,7 @@ use Rattle.td_wire.specs.declared.format.Format.TheVariants.{Two}
 use Rattle.td_wire.specs.Spelling.{Spells}
 use Rattle.td_session.specs.declared.fault.Fault.{Fault}
 use Rattle.td_session.specs.declared.fault.Fault.TheVariants.{Memory, Site, Stretch}
-use Rattle.td_session.specs.Calls.{IsSeat}
+use Rattle.td_session.specs.Calls.{IsSiteAmong}
 
 -- the site to which a message goes: an operation goes to all others
 abbrev pub receiver : Message → Option ℕ
@@ -42,5 +42,5 @@ pub record IsStretchOf (from upto : ℕ) (rows : List DocRow) (result : Result (
 
 -- the number of the site in the version vector
 pub record IsHad (site : ℕ) (m : Machine) (result : Result ℕ Fault) : Type 0 where
-  pub seat : IsSeat site (length m.have) → result ≡ Ok (vector_get m.have site)
-  pub other : ¬ IsSeat site (length m.have) → result ≡ Err Site
+  pub seat : IsSiteAmong site (length m.have) → result ≡ Ok (vector_get m.have site)
+  pub other : ¬ IsSiteAmong site (length m.have) → result ≡ Err Site

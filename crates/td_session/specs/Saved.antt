@@ -7,7 +7,7 @@ use Rattle.td_journal.specs.Whole.{whole_journal, IsJournalOf}
 use Rattle.td_replica.specs.Replica.{ReplicaValue}
 use Rattle.td_session.specs.declared.fault.Fault.{Fault}
 use Rattle.td_session.specs.declared.fault.Fault.TheVariants.{Memory, Site, Journal, Long}
-use Rattle.td_session.specs.Calls.{IsSeat}
+use Rattle.td_session.specs.Calls.{IsSiteAmong}
 
 -- the journal of the session's inputs, in the format with checks
 abbrev pub session_journal : ReplicaValue → List ℕ
@@ -27,10 +27,10 @@ abbrev pub IsNoJournal : ℕ → ℕ → List ℕ → Fault → Type 0
 IsNoJournal site sites journal fault = (at : ℕ) × (fault ≡ Journal at) × IsBadAt site sites journal at
 
 pub record IsLoaded (site sites : ℕ) (journal : List ℕ) (result : Result ReplicaValue Fault) : Type 0 where
-  pub ok : IfOk result (λ r. IsSeat site sites × IsJournalOf site sites journal r)
+  pub ok : IfOk result (λ r. IsSiteAmong site sites × IsJournalOf site sites journal r)
   -- of a session's journal this is the session
   pub same : (r : ReplicaValue) → IsJournalOf site sites journal r
       → (result ≡ Ok r) ⊎ IfErr result (λ fault. (fault ≡ Memory) ⊎ IsTooLong journal fault)
-  pub err : IsSeat site sites → IfErr result (λ fault. (fault ≡ Memory) ⊎ (IsTooLong journal fault
+  pub err : IsSiteAmong site sites → IfErr result (λ fault. (fault ≡ Memory) ⊎ (IsTooLong journal fault
       ⊎ IsNoJournal site sites journal fault))
-  pub other : ¬ IsSeat site sites → result ≡ Err Site
+  pub other : ¬ IsSiteAmong site sites → result ≡ Err Site

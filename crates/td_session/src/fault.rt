@@ -26,7 +26,7 @@ pub enum Fault {
     Stretch,
     /// No place in the text: it is past the end.
     #[error("the text has no such place")]
-    Position,
+    Place,
     /// No journal of the site: the first part of the bytes that is none begins at `at`, the byte of the header that
     /// differs, or the beginning of a record.
     #[error("the bytes are no journal of the site from byte {at} on")]

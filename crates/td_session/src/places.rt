@@ -2,7 +2,7 @@
 ghost use Rattle.std.specs.Prelude.{◌≡◌, ◌≤◌, ◌<◌, IfErr, IfOk};
 ghost use Rattle.std.specs.List.{concat};
 ghost use Rattle.td_rope.specs.Units.{width, IsIndexOf};
-ghost use Rattle.td_session.specs.declared.fault.Fault.TheVariants.{Position};
+ghost use Rattle.td_session.specs.declared.fault.Fault.TheVariants.{Place};
 ghost use Rattle.td_session.specs.Places.{IsIndexAt, IsOffsetOf, IsWidthOf};
 
 use crate::fault::Fault;
@@ -31,7 +31,7 @@ impl Session {
         ensures told { IsOffsetOf unit index self.old.machine.doc result }
     {
         if index > self.len() {
-            return Err(Fault::Position);
+            return Err(Fault::Place);
         }
         match self.take_rope() {
             Ok(rope) => {
@@ -63,10 +63,10 @@ impl Session {
 // The atom of a rope in which an offset lies.
 fn index_in(rope: &Rope, unit: Unit, offset: u64) -> Result<u32, Fault>
     ensures ok { IfOk result (λ index. (offset ≤ width unit (concat rope.now)) × IsIndexOf unit rope.now offset index) }
-    ensures err { IfErr result (λ fault. (fault ≡ Position) × (width unit (concat rope.now) < offset)) }
+    ensures err { IfErr result (λ fault. (fault ≡ Place) × (width unit (concat rope.now) < offset)) }
 {
     if offset > rope.len_in(unit) {
-        return Err(Fault::Position);
+        return Err(Fault::Place);
     }
     Ok(rope.index_of(unit, offset))
 }

@@ -8,7 +8,7 @@ ghost use Rattle.td_op.specs.declared.request.Request.TheVariants.{Delete, Propo
 ghost use Rattle.td_replica.specs.Calls.{IsStepOf};
 ghost use Rattle.td_session.specs.declared.fault.Fault.TheVariants.{Memory as OutOfMemory, Text};
 ghost use Rattle.td_session.specs.Calls.{IsCall, IsCancel, IsInsert, IsOpened, IsPaste, IsReceived};
-ghost use Rattle.td_session.specs.Calls.{IsFirstRun, IsSeat, IsText, dot_of};
+ghost use Rattle.td_session.specs.Calls.{IsFirstRun, IsSiteAmong, IsText, dot_of};
 
 use crate::fault::Fault;
 use crate::shown::{followed, rope_of};
@@ -184,7 +184,7 @@ impl Session {
 
 /// The site with this number, where there is one among so many.
 pub(crate) fn seat(site: u8, sites: u8) -> Option<Site>
-    ensures { SomeIff result (IsSeat site sites) site }
+    ensures { SomeIff result (IsSiteAmong site sites) site }
 {
     if site > sites || sites > MAX_SITE {
         return None;

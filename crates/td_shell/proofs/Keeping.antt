@@ -24,7 +24,7 @@ use Rattle.td_replica.specs.Replica.{ReplicaValue}
 use Rattle.td_shell.specs.declared.halt.Halt.{Halt}
 use Rattle.td_shell.specs.declared.halt.Halt.TheVariants as Why
 use Rattle.td_shell.specs.Answers.{Effect}
-use Rattle.td_shell.specs.Staging.{HasFailed, IsAllKept, IsDone, IsHalted, IsSamePlace, IsStaged}
+use Rattle.td_shell.specs.Staging.{HasFailed, IsAllKept, IsLineDone, IsHalted, IsSamePlace, IsStaged}
 use Rattle.td_shell.specs.Wanting.{IsWanting, halt_of}
 use Rattle.td_shell.proofs.Staged.{fault_of, place_on}
 
@@ -77,7 +77,7 @@ module _ {D K : Type 0} {d : doc.Ghosts D} {w : disk.Ghosts K} where
   pub not_done : (old new : Kept D K d w) (e : Effect) (halt : Halt) → IsAllKept w old
       → ((c : List ℕ) → w.left_since (disk_of (journal_of old)) (w.clock (disk_of (journal_of old))) c
       → w.leaves (disk_of (journal_of old)) c) → IsWanting new e.replica halt → IsStaged old new
-      → IsDone w old new e (Err halt)
+      → IsLineDone w old new e (Err halt)
   not_done old new e halt kept only_now wanting staged =
       record {
         text = tt;
@@ -127,7 +127,7 @@ module _ {D K : Type 0} {d : doc.Ghosts D} {w : disk.Ghosts K} where
       → OnErr result ((result ≡ Err Why.Disk) × HasFailed w mid new)
       → w.faults (disk_of (journal_of mid)) ≤ w.faults (disk_of (journal_of new))
       → LeavesOnly w (disk_of (journal_of mid)) (disk_of (journal_of new))
-      (IsOwnJournalOfEither mid (acknowledged_in mid) (inputs_in mid)) → IsDone w old new e result
+      (IsOwnJournalOfEither mid (acknowledged_in mid) (inputs_in mid)) → IsLineDone w old new e result
   done_behind old mid new e text (Ok put) kept staged text_is is same_text same all place failed counts only =
       record {
         text = same_text ∙ text_is;

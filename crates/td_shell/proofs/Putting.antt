@@ -10,8 +10,8 @@ use Rattle.td_journal.specs.declared.kept.Kept.{Kept}
 use Rattle.td_shell.specs.declared.halt.Halt.{Halt}
 use Rattle.td_shell.specs.declared.halt.Halt.TheVariants as Why
 use Rattle.td_shell.specs.Answers.{Effect}
-use Rattle.td_shell.specs.Staging.{IsDone, IsHalted}
-use Rattle.td_shell.specs.Talk.{IsAnswered, IsUnanswered}
+use Rattle.td_shell.specs.Staging.{IsLineDone, IsHalted}
+use Rattle.td_shell.specs.Talk.{IsLineAnswered, IsUnanswered}
 
 -- an answer of a call that answers a value of any type
 abbrev pub done_as : {T : Type 0} → T → Result T Halt
@@ -31,7 +31,7 @@ module _ {D K W : Type 0} {d : doc.Ghosts D} {w : disk.Ghosts K} (k : sink.Ghost
 
   -- it was not done, and nothing was put
   pub not_answered : {T : Type 0} (old new : Kept D K d w) (at : W) (e : Effect) (halt : Halt)
-      → IsDone w old new e (Err halt) → IsAnswered w k e old new at at (halted_as {T = T} halt)
+      → IsLineDone w old new e (Err halt) → IsLineAnswered w k e old new at at (halted_as {T = T} halt)
   not_answered old new at e halt done =
       record {
         replica = tt;
@@ -45,8 +45,8 @@ module _ {D K W : Type 0} {d : doc.Ghosts D} {w : disk.Ghosts K} (k : sink.Ghost
 
   -- it was done, and its answer put
   pub answered_whole : {T : Type 0} (old new : Kept D K d w) (before after : W) (e : Effect) (text : List ℕ)
-      (unit : T) → IsDone w old new e (Ok text) → Appends (k.held before) (k.held after) text
-      → IsAnswered w k e old new before after (done_as unit)
+      (unit : T) → IsLineDone w old new e (Ok text) → Appends (k.held before) (k.held after) text
+      → IsLineAnswered w k e old new before after (done_as unit)
   answered_whole old new before after e text unit done put =
       record {
         replica = done.replica;
@@ -60,8 +60,9 @@ module _ {D K W : Type 0} {d : doc.Ghosts D} {w : disk.Ghosts K} (k : sink.Ghost
 
   -- or a part of it
   pub answered_partly : {T : Type 0} (old new : Kept D K d w) (before after : W) (e : Effect) (text : List ℕ)
-      → IsDone w old new e (Ok text) → AppendsPart (k.held before) (k.held after) text
-      → Rose (k.faults before) (k.faults after) → IsAnswered w k e old new before after (halted_as {T = T} Why.Write)
+      → IsLineDone w old new e (Ok text) → AppendsPart (k.held before) (k.held after) text
+      → Rose (k.faults before) (k.faults after)
+      → IsLineAnswered w k e old new before after (halted_as {T = T} Why.Write)
   answered_partly old new before after e text done part rose =
       record {
         replica = tt;

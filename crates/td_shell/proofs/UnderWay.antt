@@ -33,7 +33,8 @@ use Rattle.td_shell.specs.Lines.{IsInLine, ended, shortened}
 use Rattle.td_shell.proofs.ReadAs.{IsKeptOf, IsReadAs}
 use Rattle.td_shell.specs.Sending.{cut_answer, fault_line}
 use Rattle.td_shell.specs.Staging.{HasFailed, IsAllKept, IsKeptAs, IsSamePlace, IsStaged}
-use Rattle.td_shell.specs.Talk.{IsAnswered, IsAtTheEnd, IsCaused, IsKeptBy, IsOfFront, IsPut, IsTalk, IsUncut}
+use Rattle.td_shell.specs.Talk.{IsLineAnswered, IsAtTheEnd, IsCaused, IsKeptBy}
+use Rattle.td_shell.specs.Talk.{IsOfFront, AreAnswersPut, IsTalk, IsUncut}
 use Rattle.td_shell.specs.Talk.{and_next, begun, inputs_by}
 use Rattle.td_shell.specs.Wanting.{IsFull, status_of}
 use Rattle.td_shell.proofs.Heard.{IsLineOf, came_in_line, ended_more, filled, kept_whole, line_off}
@@ -221,7 +222,7 @@ module _ {D K S W : Type 0} {d : doc.Ghosts D} {w : disk.Ghosts K} (s : source.G
   pub answers_line : {T : Type 0} (old mid new : Kept D K d w) (src src' : S) (dst mid_sink new_sink : W)
       (unread line more : List ℕ) (number : ℕ) (done : T) → IsUnderWay s k old mid src src' dst mid_sink unread number
       → IsInLine line → unread ≡ line ++ 10 ∷ more
-      → IsAnswered w k (answer (counted number) line (replica_of mid)) mid new mid_sink new_sink
+      → IsLineAnswered w k (answer (counted number) line (replica_of mid)) mid new mid_sink new_sink
       (done_as done)
       → k.faults mid_sink ≤ k.faults new_sink
       → IsUnderWay s k old new src src' dst new_sink more (counted number)
@@ -283,7 +284,7 @@ module _ {D K S W : Type 0} {d : doc.Ghosts D} {w : disk.Ghosts K} (s : source.G
       → IsKeptBy w (replica_of old) new u.lines (u.rest ++ piece) status → IsSamePlace old new
       → LeavesOnly w (disk_of (journal_of old)) (disk_of (journal_of new))
       (IsOfFront old (begun status u.lines (u.rest ++ piece)))
-      → IsPut status u.lines (u.rest ++ piece) (replica_of old)
+      → AreAnswersPut status u.lines (u.rest ++ piece) (replica_of old)
       (IsAtTheEnd (s.left src) (s.left end) (u.rest ++ piece)) (k.held dst) (k.held dst')
       → IsCaused s k old new src end dst dst' u.lines (u.rest ++ piece) status
       → IsTalk s k old new src end dst dst' status
@@ -420,7 +421,7 @@ module _ {D K S W : Type 0} {d : doc.Ghosts D} {w : disk.Ghosts K} (s : source.G
   pub unanswered : {T : Type 0} (old mid new : Kept D K d w) (src src' : S) (dst mid_sink new_sink : W)
       (unread line more : List ℕ) (number : ℕ) (halt : Halt) → CountsNow w
       → IsUnderWay s k old mid src src' dst mid_sink unread number → IsInLine line → unread ≡ line ++ 10 ∷ more
-      → IsAnswered w k (answer (counted number) line (replica_of mid)) mid new mid_sink new_sink
+      → IsLineAnswered w k (answer (counted number) line (replica_of mid)) mid new mid_sink new_sink
       (halted_as {T = T} halt)
       → IsTalk s k old new src src' dst new_sink (status_of halt)
   unanswered old mid new src src' dst mid_sink new_sink unread line more number Why.Write counts_now u each off a =
@@ -552,11 +553,11 @@ module _ {D K W T : Type 0} {d : doc.Ghosts D} {w : disk.Ghosts K} (k : sink.Gho
   -- an answer to a line under other names
   pub answered_so : (r : ReplicaValue) (number n : ℕ) (line l : List ℕ) (old new : Kept D K d w) (before after : W)
       (result : Result T Halt) → n ≡ counted number → l ≡ line
-      → IsAnswered w k (answer n l r) old new before after result
-      → IsAnswered w k (answer (counted number) line r) old new before after result
+      → IsLineAnswered w k (answer n l r) old new before after result
+      → IsLineAnswered w k (answer (counted number) line r) old new before after result
   answered_so r number n line l old new before after result n_is l_is a =
-      subst (λ (m : ℕ). IsAnswered w k (answer m line r) old new before after result) n_is
-      (subst (λ (x : List ℕ). IsAnswered w k (answer n x r) old new before after result) l_is a)
+      subst (λ (m : ℕ). IsLineAnswered w k (answer m line r) old new before after result) n_is
+      (subst (λ (x : List ℕ). IsLineAnswered w k (answer n x r) old new before after result) l_is a)
 
 same_halt : {T : Type 0} (h i : Halt) → ◌≡◌ {A = Result T Halt} (Err h) (Err i) → h ≡ i
 same_halt h i e = cc

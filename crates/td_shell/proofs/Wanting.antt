@@ -30,7 +30,7 @@ use Rattle.td_shell.specs.Asking.{Edited, after_request, ask_all, done_before}
 use Rattle.td_report.specs.Asking.{pastes}
 use Rattle.td_shell.specs.Asking.{reply_to}
 use Rattle.td_shell.specs.Taking.{CaughtUp, after_take, nexts, one_more}
-use Rattle.td_shell.specs.Wanting.{HasNoRoom, IsWanting, halt_of}
+use Rattle.td_shell.specs.Wanting.{HasNoRoomFor, IsWanting, halt_of}
 use Rattle.td_shell.proofs.Going.{went_before}
 
 -- a record is as long behind any check
@@ -43,10 +43,10 @@ record_long Checked a b input =
 
 no_room_at : (f g : Format) (r q : ReplicaValue) (input : Input) (len : ℕ) (before : List ℕ) → f ≡ g → r ≡ q
     → len ≡ length (journal_bytes g q.machine.site q.machine.size (inputs_of q.entries))
-    → MAX_DISK_LEN < len + length (record_bytes g before input) + 1 → HasNoRoom f r input len
+    → MAX_DISK_LEN < len + length (record_bytes g before input) + 1 → HasNoRoomFor f r input len
 no_room_at f g r q input len before f_is r_is long more =
-    subst (λ (h : Format). HasNoRoom h r input len) (sym f_is)
-    (subst (λ (x : ReplicaValue). HasNoRoom g x input len) (sym r_is) (record {
+    subst (λ (h : Format). HasNoRoomFor h r input len) (sym f_is)
+    (subst (λ (x : ReplicaValue). HasNoRoomFor g x input len) (sym r_is) (record {
       long = long;
       no_room = subst (λ (n : ℕ). MAX_DISK_LEN < len + n + 1) (record_long g before [] input) more;
     }))

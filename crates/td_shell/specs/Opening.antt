@@ -20,11 +20,11 @@ abbrev pub IsBare : ℕ → ℕ → List ℕ → Type 0
 IsBare site n bytes = length bytes ≤ length (head_bytes Checked site n) + 1
 
 -- a file that a crash may have left before a journal was begun or opened; or it was bare, and is
-abbrev pub IsAsBefore : {K : Type 0} → disk.Ghosts K → ℕ → ℕ → K → List ℕ → Type 0
-IsAsBefore w site n before file = w.leaves before file ⊎ (IsBare site n (w.reads before) × IsBare site n file)
+abbrev pub IsLeftBefore : {K : Type 0} → disk.Ghosts K → ℕ → ℕ → K → List ℕ → Type 0
+IsLeftBefore w site n before file = w.leaves before file ⊎ (IsBare site n (w.reads before) × IsBare site n file)
 
 -- what was made of a disk: a new replica on a bare one, in the format with checks, and else the one of its journal
-pub record IsOpened {D K : Type 0} {d : doc.Ghosts D} (w : disk.Ghosts K) (site n : ℕ) (before : K)
+pub record IsOpenedOn {D K : Type 0} {d : doc.Ghosts D} (w : disk.Ghosts K) (site n : ℕ) (before : K)
     (kept : Kept D K d w) : Type 0 where
   pub all_kept : IsAllKept w kept
   pub site_is : (replica_of kept).machine.site ≡ site
@@ -32,7 +32,7 @@ pub record IsOpened {D K : Type 0} {d : doc.Ghosts D} (w : disk.Ghosts K) (site 
   pub begun : IsBare site n (w.reads before) → (replica_of kept ≡ new_replica site n) × (format_of kept ≡ Checked)
   pub opened : ¬ IsBare site n (w.reads before)
       → IsJournal (format_of kept) site n (inputs_in kept) (w.reads before)
-  pub any_moment : LeavesOnly w before (disk_of (journal_of kept)) (IsAsBefore w site n before)
+  pub any_moment : LeavesOnly w before (disk_of (journal_of kept)) (IsLeftBefore w site n before)
 
 -- why nothing was: the disk failed, or has no journal of the site
 abbrev pub IsRefusedFor : {K : Type 0} → disk.Ghosts K → ℕ → ℕ → (before after : K) → OpenFault → Type 0
@@ -41,6 +41,7 @@ IsRefusedFor w site n before after (Why.Bad at) =
 IsRefusedFor w site n before after Why.Disk = Rose (w.faults before) (w.faults after)
 IsRefusedFor w site n before after Why.Memory = ⊤
 
-pub record IsRefused {K : Type 0} (w : disk.Ghosts K) (site n : ℕ) (before after : K) (why : OpenFault) : Type 0 where
+pub record IsOpenRefused {K : Type 0} (w : disk.Ghosts K) (site n : ℕ) (before after : K) (why : OpenFault)
+    : Type 0 where
   pub caused : IsRefusedFor w site n before after why
-  pub any_moment : LeavesOnly w before after (IsAsBefore w site n before)
+  pub any_moment : LeavesOnly w before after (IsLeftBefore w site n before)

@@ -13,7 +13,7 @@ use Rattle.td_journal.specs.declared.kept.Kept.{Kept}
 use Rattle.td_journal.specs.Seen.{journal_of}
 use Rattle.td_shell.specs.declared.status.Status.{Status}
 use Rattle.td_shell.specs.declared.status.Status.TheVariants.{Memory, Bad, Disk}
-use Rattle.td_shell.specs.Opening.{IsOpened, IsRefused}
+use Rattle.td_shell.specs.Opening.{IsOpenedOn, IsOpenRefused}
 use Rattle.td_shell.specs.Talk.{IsTalk}
 
 -- a site among so many
@@ -37,7 +37,7 @@ pub record HasTalked {D K S W : Type 0} (d : doc.Ghosts D) (w : disk.Ghosts K) (
     (k : sink.Ghosts W) (site n : ℕ) (before after : K) (src src' : S) (dst dst' : W) (status : Status) : Type 0 where
   pub old : Kept D K d w
   pub new : Kept D K d w
-  pub opened : IsOpened w site n before old
+  pub opened : IsOpenedOn w site n before old
   pub talk : IsTalk s k old new src src' dst dst' status
   pub disk_is : after ≡ disk_of (journal_of new)
 
@@ -45,13 +45,13 @@ pub record HasTalked {D K S W : Type 0} (d : doc.Ghosts D) (w : disk.Ghosts K) (
 pub record HasRefused {K S W : Type 0} (w : disk.Ghosts K) (site n : ℕ) (before after : K) (src src' : S)
     (dst dst' : W) (status : Status) : Type 0 where
   pub why : OpenFault
-  pub refused : IsRefused w site n before after why
+  pub refused : IsOpenRefused w site n before after why
   pub status_is : status ≡ status_of_refused why
   pub unread : src' ≡ src
   pub unput : dst' ≡ dst
 
-abbrev pub IsRun : {D K S W : Type 0} → doc.Ghosts D → disk.Ghosts K → source.Ghosts S → sink.Ghosts W → (site n : ℕ)
-    → (before after : K) → (src src' : S) → (dst dst' : W) → Status → Type 0
-IsRun d w s k site n before after src src' dst dst' status =
+abbrev pub IsShellRun : {D K S W : Type 0} → doc.Ghosts D → disk.Ghosts K → source.Ghosts S → sink.Ghosts W
+    → (site n : ℕ) → (before after : K) → (src src' : S) → (dst dst' : W) → Status → Type 0
+IsShellRun d w s k site n before after src src' dst dst' status =
     HasTalked d w s k site n before after src src' dst dst' status
     ⊎ HasRefused w site n before after src src' dst dst' status

@@ -56,7 +56,7 @@ IsHalted w old new behind Read = ⊥
 IsHalted w old new behind Write = ⊥
 
 -- A line with this effect was done, or not. A crash at any moment leaves what was there before, or all that it does.
-pub record IsDone {D K : Type 0} {d : doc.Ghosts D} (w : disk.Ghosts K) (old new : Kept D K d w) (e : Effect)
+pub record IsLineDone {D K : Type 0} {d : doc.Ghosts D} (w : disk.Ghosts K) (old new : Kept D K d w) (e : Effect)
     (result : Result (List ℕ) Halt) : Type 0 where
   pub text : IfOk result (λ text. text ≡ e.text)
   pub replica : OnOk result (replica_of new ≡ e.replica)

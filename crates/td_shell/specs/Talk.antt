@@ -37,7 +37,7 @@ IsUnanswered w k e old new before after Unwritten =
 IsUnanswered w k e old new before after halt = (after ≡ before) × IsHalted w old new e.replica halt
 
 -- it was done, and its answer put; or not. A crash at any moment leaves what was there before, or all that it does.
-pub record IsAnswered {D K W T : Type 0} {d : doc.Ghosts D} (w : disk.Ghosts K) (k : sink.Ghosts W) (e : Effect)
+pub record IsLineAnswered {D K W T : Type 0} {d : doc.Ghosts D} (w : disk.Ghosts K) (k : sink.Ghosts W) (e : Effect)
     (old new : Kept D K d w) (before after : W) (result : Result T Halt) : Type 0 where
   pub replica : OnOk result (replica_of new ≡ e.replica)
   pub kept : OnOk result (IsAllKept w new)
@@ -119,10 +119,11 @@ pub record PutsPart (lines : List (List ℕ)) (rest : List ℕ) (r : ReplicaValu
   pub put : Appends before after (front ++ take count last)
 
 -- what was put of the answers: all, but where the sink failed
-abbrev pub IsPut : Status → List (List ℕ) → List ℕ → ReplicaValue → Type 0 → (before after : Option (List ℕ)) → Type 0
-IsPut Done lines rest r at_end before after = Appends before after (answers_to_end lines rest r)
-IsPut Write lines rest r at_end before after = PutsPart lines rest r at_end before after
-IsPut status lines rest r at_end before after = Appends before after (all_answers lines r).text
+abbrev pub AreAnswersPut : Status → List (List ℕ) → List ℕ → ReplicaValue → Type 0 → (before after : Option (List ℕ))
+    → Type 0
+AreAnswersPut Done lines rest r at_end before after = Appends before after (answers_to_end lines rest r)
+AreAnswersPut Write lines rest r at_end before after = PutsPart lines rest r at_end before after
+AreAnswersPut status lines rest r at_end before after = Appends before after (all_answers lines r).text
 
 -- Each status other than Done has its cause: the source, the sink or the disk failed, or a step of the next line has no
 -- room. Of want of memory no more is known.
@@ -153,6 +154,6 @@ pub record IsTalk {D K S W : Type 0} {d : doc.Ghosts D} {w : disk.Ghosts K} (s :
   pub any_moment : LeavesOnly w (disk_of (journal_of old)) (disk_of (journal_of new))
       (IsOfFront old (begun status lines rest))
   -- nothing was put but their answers
-  pub put : IsPut status lines rest (replica_of old) (IsAtTheEnd (s.left src) (s.left src') rest) (k.held dst)
+  pub put : AreAnswersPut status lines rest (replica_of old) (IsAtTheEnd (s.left src) (s.left src') rest) (k.held dst)
       (k.held dst')
   pub caused : IsCaused s k old new src src' dst dst' lines rest status

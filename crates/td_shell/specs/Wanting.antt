@@ -18,7 +18,7 @@ use Rattle.td_shell.specs.declared.status.Status.TheVariants as Ended
 
 -- the journal of the replica's inputs has so many bytes; with a record of the input behind them, and a gate, it would
 -- pass the greatest length of a disk
-pub record HasNoRoom (f : Format) (r : ReplicaValue) (input : Input) (len : ℕ) : Type 0 where
+pub record HasNoRoomFor (f : Format) (r : ReplicaValue) (input : Input) (len : ℕ) : Type 0 where
   pub long : len ≡ length (journal_bytes f r.machine.site r.machine.size (inputs_of r.entries))
   -- a record is as long behind any check
   pub no_room : MAX_DISK_LEN < len + length (record_bytes f [] input) + 1
@@ -29,7 +29,7 @@ pub record IsFull {D K : Type 0} {d : doc.Ghosts D} {w : disk.Ghosts K} (k : Kep
   pub input : Input
   pub others : List Input
   pub next : inputs_of behind.entries ≡ inputs_in k ++ input ∷ others
-  pub no_room : HasNoRoom (format_of k) (replica_of k) input len
+  pub no_room : HasNoRoomFor (format_of k) (replica_of k) input len
 
 -- why a kept replica did not come to the replica behind a command
 abbrev pub IsWanting : {D K : Type 0} {d : doc.Ghosts D} {w : disk.Ghosts K} → Kept D K d w → ReplicaValue → Halt

@@ -6,7 +6,7 @@ ghost use Rattle.td_journal.specs.Seen.{IsOwnJournalOfEither, acknowledged_in, i
 ghost use Rattle.td_journal.specs.Seen.{replica_of};
 ghost use Rattle.td_script.specs.ShellFaults.{IsFitToPaste};
 ghost use Rattle.td_shell.specs.Answers.{answer, replied, with_sent};
-ghost use Rattle.td_shell.specs.Staging.{HasFailed, IsAllKept, IsDone, IsSamePlace, IsStaged};
+ghost use Rattle.td_shell.specs.Staging.{HasFailed, IsAllKept, IsLineDone, IsSamePlace, IsStaged};
 ghost use Rattle.td_shell.specs.Wanting.{IsWanting};
 
 use crate::halt::Halt;
@@ -27,7 +27,7 @@ pub(crate) fn answer<D: Doc, K: Disk>(
     line: &[u8],
 ) -> Result<Bytes, Halt>
     requires { IsAllKept K.Disk kept.old }
-    ensures { IsDone K.Disk kept.old kept.new (answer number line.now (replica_of kept.old)) result }
+    ensures { IsLineDone K.Disk kept.old kept.new (answer number line.now (replica_of kept.old)) result }
 {
     // tells how many sites there are at most
     kept.replica().entries();
@@ -48,7 +48,7 @@ fn perform<D: Doc, K: Disk>(
 ) -> Result<Bytes, Halt>
     requires kept { IsAllKept K.Disk kept.old }
     requires fit { IsFitToPaste command.now }
-    ensures { IsDone K.Disk kept.old kept.new
+    ensures { IsLineDone K.Disk kept.old kept.new
         (with_sent (replica_of kept.old) (replied command.now (replica_of kept.old))) result }
 {
     let text = tell(alloc, kept, command)?;

@@ -8,7 +8,7 @@ ghost use Rattle.td_journal.specs.Bad.{IsBadAt};
 ghost use Rattle.td_journal.specs.Journal.{IsJournal};
 ghost use Rattle.td_journal.specs.Seen.{format_of, inputs_in, journal_of, replica_of};
 ghost use Rattle.td_replica.specs.Replica.{new_replica};
-ghost use Rattle.td_shell.specs.Opening.{IsAsBefore, IsBare};
+ghost use Rattle.td_shell.specs.Opening.{IsLeftBefore, IsBare};
 ghost use Rattle.td_shell.specs.Staging.{IsAllKept};
 
 use std::alloc::Global;
@@ -39,9 +39,9 @@ pub fn begin_or_open<D: Doc, K: Disk>(
     ensures opened { ¬ IsBare site n (K.Disk.reads disk) → IfOk result (λ kept.
         IsJournal (format_of kept) site n (inputs_in kept) (K.Disk.reads disk)) }
     ensures any_moment { IfOk result (λ kept. LeavesOnly K.Disk disk (disk_of (journal_of kept))
-        (IsAsBefore K.Disk site n disk)) }
+        (IsLeftBefore K.Disk site n disk)) }
     ensures any_moment_err { IfErr result (λ refused. LeavesOnly K.Disk disk refused.disk
-        (IsAsBefore K.Disk site n disk)) }
+        (IsLeftBefore K.Disk site n disk)) }
     ensures bad { IfErr result (λ refused. (at : ℕ) → refused.why ≡ OpenFault.Bad at
         → (¬ IsBare site n (K.Disk.reads disk)) × IsBadAt site n (K.Disk.reads disk) at) }
     ensures disk { IfErr result (λ refused. refused.why ≡ OpenFault.Disk

@@ -1,6 +1,6 @@
 ghost use Rattle.std.specs.Prelude.{◌≡◌, ℕ, IfNone, IfSome};
 ghost use Rattle.td_disk.specs.Moments.{IsSynced};
-ghost use Rattle.td_shell.specs.Running.{AreWordsOf, IsMember, IsRun, status_of_refused};
+ghost use Rattle.td_shell.specs.Running.{AreWordsOf, IsMember, IsShellRun, status_of_refused};
 
 use crate::opening::begin_or_open;
 use crate::status::Status;
@@ -49,7 +49,7 @@ pub fn run<D: Doc, K: Disk, S: Source, W: Sink, R: Wait>(
 ) -> (Status, K)
     requires member { IsMember member.site member.sites }
     requires synced { IsSynced K.Disk disk }
-    ensures { IsRun D.Doc K.Disk S.Source W.Sink member.site member.sites disk result.1 source.old source.new
+    ensures { IsShellRun D.Doc K.Disk S.Source W.Sink member.site member.sites disk result.1 source.old source.new
         sink.old sink.new result.0 }
 {
     match begin_or_open::<D, K>(alloc, member.site, member.sites, disk) {

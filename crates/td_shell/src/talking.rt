@@ -5,7 +5,7 @@ ghost use Rattle.td_journal.specs.Seen.{replica_of};
 ghost use Rattle.td_shell.specs.Answers.{answer};
 ghost use Rattle.td_shell.specs.Sending.{cut_answer};
 ghost use Rattle.td_shell.specs.Staging.{IsAllKept};
-ghost use Rattle.td_shell.specs.Talk.{IsAnswered, IsTalk, IsUncut};
+ghost use Rattle.td_shell.specs.Talk.{IsLineAnswered, IsTalk, IsUncut};
 ghost use Rattle.td_shell.specs.Wanting.{status_of};
 
 use crate::answering::answer;
@@ -82,7 +82,7 @@ fn answer_into<D: Doc, K: Disk, W: Sink>(
     sink: &mut W,
 ) -> Result<(), Halt>
     requires { IsAllKept K.Disk kept.old }
-    ensures answered { IsAnswered K.Disk W.Sink (answer number line.now (replica_of kept.old)) kept.old kept.new
+    ensures answered { IsLineAnswered K.Disk W.Sink (answer number line.now (replica_of kept.old)) kept.old kept.new
         sink.old sink.new result }
     ensures count { W.faults sink.old ≤ W.faults sink.new }
 {

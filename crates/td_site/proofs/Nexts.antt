@@ -19,7 +19,7 @@ use Rattle.td_machine.specs.Taking.{misfit, forget, waited, next_of, take_as, an
 use Rattle.td_machine.proofs.StepKinds.{least_in}
 use Rattle.td_replica.specs.Replica.{ReplicaValue, after_step, is_idle}
 use Rattle.td_site.specs.Sites.{SiteValue}
-use Rattle.td_site.specs.Later.{IsNext, OnlyNexts}
+use Rattle.td_site.specs.Later.{TookNext, OnlyNexts}
 
 -- ---- fewer wait
 
@@ -74,7 +74,7 @@ nexts_then a b c h k =
     record {
       more = h.more ++ k.more;
       goes_on = sym (append_assoc a h.more k.more) ∙ ap (λ (w : History). w ++ k.more) h.goes_on ∙ k.goes_on;
-      nexts = all_append IsNext h.more k.more h.nexts k.nexts;
+      nexts = all_append TookNext h.more k.more h.nexts k.nexts;
     }
 
 pub nexts_one : (r s : ReplicaValue) → not (is_idle (step r.machine Next).reply) ≡ true → s ≡ after_step Next r

@@ -19,19 +19,19 @@ pub record LaterSite (s t : SiteValue) : Type 0 where
   pub publishes : IsPrefix s.writer.publishes t.writer.publishes
 
 -- an operation that waited was taken or dropped
-abbrev pub IsNext : Entry → Type 0
-IsNext e = (e.input ≡ Next) × (is_idle e.reply ≡ false)
+abbrev pub TookNext : Entry → Type 0
+TookNext e = (e.input ≡ Next) × (is_idle e.reply ≡ false)
 
 -- the history goes on by such entries alone
 pub record OnlyNexts (old new : History) : Type 0 where
   pub more : History
   pub goes_on : old ++ more ≡ new
-  pub nexts : AllByRecursion IsNext more
+  pub nexts : AllByRecursion TookNext more
 
 -- no operation that waits can be taken
 abbrev pub NothingReady : Machine → Type 0
 NothingReady m = has_ready m ≡ false
 
 -- something is left to do: the last step is not shown, or an operation that waits can be taken
-abbrev pub IsBehind : SiteValue → Type 0
-IsBehind s = (s.late ≡ true) ⊎ (has_ready s.replica.machine ≡ true)
+abbrev pub HasWorkLeft : SiteValue → Type 0
+HasWorkLeft s = (s.late ≡ true) ⊎ (has_ready s.replica.machine ≡ true)

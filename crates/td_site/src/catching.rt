@@ -2,7 +2,7 @@
 ghost use Rattle.std.specs.Prelude.{◌≡◌, ◌<◌, true, false, length, OnOk, OnErr};
 ghost use Rattle.td_replica.specs.Replica.{has_ready};
 ghost use Rattle.td_site.specs.Shows.{texts_to};
-ghost use Rattle.td_site.specs.Later.{LaterSite, OnlyNexts, NothingReady, IsBehind};
+ghost use Rattle.td_site.specs.Later.{LaterSite, OnlyNexts, NothingReady, HasWorkLeft};
 
 use crate::site::Site;
 use std::sync::Wait;
@@ -19,7 +19,7 @@ impl<D: Doc> Site<D> {
         ensures late { OnOk result (self.new.late ≡ false) }
         ensures texts { OnOk result (self.new.writer.publishes
             ≡ texts_to self.new.replica (length self.new.replica.entries)) }
-        ensures err { OnErr result (IsBehind self.new) }
+        ensures err { OnErr result (HasWorkLeft self.new) }
         ensures later { LaterSite self.old self.new }
     {
         self.show(rt)?;
@@ -39,7 +39,7 @@ impl<D: Doc> Site<D> {
         ensures late { OnOk result (self.new.late ≡ false) }
         ensures texts { OnOk result (self.new.writer.publishes
             ≡ texts_to self.new.replica (length self.new.replica.entries)) }
-        ensures err { OnErr result (IsBehind self.new) }
+        ensures err { OnErr result (HasWorkLeft self.new) }
         ensures later { LaterSite self.old self.new }
     {
         self.step(&Input::Next)?;

@@ -7,8 +7,8 @@ use mathlib.Core.List.{IsPrefix}
 use prog.Atomic.{either}
 use Rattle.logbook.specs.Pages.{Cell, cell, keeps, no_nib, step, Moves, Goes}
 use Rattle.td_view.specs.declared.publish.Publish.{Publish}
-use Rattle.td_view.specs.Publishes.{IsLegal}
-use Rattle.td_view.specs.History.{IsKept, IsAdded}
+use Rattle.td_view.specs.Publishes.{AreLegal}
+use Rattle.td_view.specs.History.{HoldsHistory, IsAdded}
 use Rattle.td_view.proofs.Prefixes.{prefix_whole}
 
 abbrev pub shown : List Publish → List Publish
@@ -17,15 +17,15 @@ shown log = []
 abbrev pub moved : List Publish → List Publish → ℕ → Type 0
 moved xs ys n = Unit {0}
 
-pub adds_goes : (log v : List Publish) (e : Publish) (old : ℕ) → length v ≡ old → IsLegal (v ++ e ∷ []) → IsLegal log
+pub adds_goes : (log v : List Publish) (e : Publish) (old : ℕ) → length v ≡ old → AreLegal (v ++ e ∷ []) → AreLegal log
     → IsPrefix v log
     → (b : Bool) → (length log == old) ≡ b
-    → Goes IsKept shown moved 0 (v, (no_nib, None)) (λ n. either (n == old) (old + 1) n)
+    → Goes HoldsHistory shown moved 0 (v, (no_nib, None)) (λ n. either (n == old) (old + 1) n)
     (IsAdded (step 0 old (old + 1) e) (v, (no_nib, None))) ((length log, true) ∷ (0, true) ∷ []) log
 adds_goes log v e old len may legal pre true is =
     let here : length log ≡ old = grind (arith, nat_tests) in
     let same : v ≡ log = prefix_whole v log pre (omega arith) in
-    let legal' : IsLegal (log ++ e ∷ []) = subst (λ (l : List Publish). IsLegal (l ++ e ∷ [])) same may in
+    let legal' : AreLegal (log ++ e ∷ []) = subst (λ (l : List Publish). AreLegal (l ++ e ∷ [])) same may in
     let n : either (length log == old) (old + 1) (length log)
     ≡ length (log ++ e ∷ []) = rw is (omega (arith, length-append log (e ∷ []))) in (
       keeps,
@@ -38,7 +38,7 @@ adds_goes log v e old len may legal pre true is =
     )
 adds_goes log v e old len may legal pre false is =
     let all : log ++ [] ≡ log = append-nil log in
-    let legal' : IsLegal (log ++ []) = subst IsLegal (sym all) legal in
+    let legal' : AreLegal (log ++ []) = subst AreLegal (sym all) legal in
     let n : either (length log == old) (old + 1) (length log) ≡ length (log ++ []) = rw is (ap length (sym all)) in (
       keeps,
       [],
@@ -50,11 +50,11 @@ adds_goes log v e old len may legal pre false is =
     )
 
 -- whatever the book is, the exchange adds the entry to all that was seen, or finds that the history is longer
-pub adds_moves : (v : List Publish) (e : Publish) (old : ℕ) → length v ≡ old → IsLegal (v ++ e ∷ [])
-    → Moves IsKept shown moved 0 (v, (no_nib, None)) (λ n. either (n == old) (old + 1) n)
+pub adds_moves : (v : List Publish) (e : Publish) (old : ℕ) → length v ≡ old → AreLegal (v ++ e ∷ [])
+    → Moves HoldsHistory shown moved 0 (v, (no_nib, None)) (λ n. either (n == old) (old + 1) n)
     (IsAdded (step 0 old (old + 1) e) (v, (no_nib, None)))
 adds_moves v e old len may cs log kept pre away =
     let P : List Cell → Type 0 = λ c. (0 < length c) × ((cell c 0).1 ≡ true)
-    × Goes IsKept shown moved 0 (v, (no_nib, None)) (λ n. either (n == old) (old + 1) n)
+    × Goes HoldsHistory shown moved 0 (v, (no_nib, None)) (λ n. either (n == old) (old + 1) n)
     (IsAdded (step 0 old (old + 1) e) (v, (no_nib, None))) c log in
     subst P (sym kept.words) (omega arith, refl, adds_goes log v e old len may kept.legal pre (length log == old) refl)

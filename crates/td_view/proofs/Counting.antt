@@ -3,18 +3,18 @@ use Rattle.std.proofs.Common.{◌≡◌, ℕ, zero, suc, ◌-◌, ◌<◌, List,
 use Rattle.std.proofs.Common.{ap, sym, ◌∙◌, subst, arith, append_assoc}
 use Rattle.logbook.specs.Pages.{Book}
 use Rattle.td_view.specs.declared.publish.Publish.{Publish}
-use Rattle.td_view.specs.Publishes.{again, Follows}
+use Rattle.td_view.specs.Publishes.{again, MayFollow}
 use Rattle.td_view.specs.Values.{ToldValue, tolds}
 
 -- after one with a number above 1 comes the one with a number less
-pub follows_down : (x p : Publish) (m : ℕ) → x ≡ again p m → 0 < m - 1 → Follows x (again p (m - 1))
+pub follows_down : (x p : Publish) (m : ℕ) → x ≡ again p m → 0 < m - 1 → MayFollow x (again p (m - 1))
 follows_down x p m is more =
-    let f : Follows (again p m) (again p (m - 1)) = record {
+    let f : MayFollow (again p m) (again p (m - 1)) = record {
       rises = omega arith;
       goes_on = λ one. absurd (omega (arith, one, more));
       counts = λ lt. (refl, refl, omega (arith, more));
     } in
-    subst (λ (y : Publish). Follows y (again p (m - 1))) (sym is) f
+    subst (λ (y : Publish). MayFollow y (again p (m - 1))) (sym is) f
 
 -- what is told of one of them is told, and the others remain
 pub told_more : (items : List ToldValue) (views : Book) (log next : List Publish) (p : Publish) (m : ℕ)

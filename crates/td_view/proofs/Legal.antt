@@ -2,7 +2,7 @@
 use Rattle.std.proofs.Common.{◌≡◌, ℕ, suc, ◌-◌, List, [], ◌∷◌, ◌++◌, length, drop}
 use Rattle.std.proofs.Common.{refl, sym, subst, arith, length-append}
 use Rattle.td_view.specs.declared.publish.Publish.{Publish}
-use Rattle.td_view.specs.Publishes.{Follows, IsLegal, IsLegalAfter, EndsWith}
+use Rattle.td_view.specs.Publishes.{MayFollow, AreLegal, IsLegalAfter, EndsWith}
 
 one_head : (x p : Publish) → x ∷ [] ≡ p ∷ [] → x ≡ p
 one_head x p e = cc
@@ -26,11 +26,12 @@ ends_snoc xs p =
     dropped [] p = refl
     dropped (x ∷ xs) p = dropped xs p
 
-after_snoc : (x : Publish) (xs : List Publish) (p q : Publish) → IsLegalAfter x xs → EndsWith (x ∷ xs) p → Follows p q
+after_snoc : (x : Publish) (xs : List Publish) (p q : Publish) → IsLegalAfter x xs → EndsWith (x ∷ xs) p → MayFollow p q
     → IsLegalAfter x (xs ++ q ∷ [])
-after_snoc x [] p q l e f = (subst (λ (y : Publish). Follows y q) (sym (ends_one x p e)) f, tt)
+after_snoc x [] p q l e f = (subst (λ (y : Publish). MayFollow y q) (sym (ends_one x p e)) f, tt)
 after_snoc x (y ∷ ys) p q l e f = (l.0, after_snoc y ys p q l.1 (ends_tail x y ys p e) f)
 
-pub legal_snoc : (xs : List Publish) (p q : Publish) → IsLegal xs → EndsWith xs p → Follows p q → IsLegal (xs ++ q ∷ [])
+pub legal_snoc : (xs : List Publish) (p q : Publish) → AreLegal xs → EndsWith xs p → MayFollow p q
+    → AreLegal (xs ++ q ∷ [])
 legal_snoc [] p q l e f = tt
 legal_snoc (x ∷ xs) p q l e f = after_snoc x xs p q l e f

@@ -8,7 +8,7 @@ use Rattle.atomic_table.proofs.Lists.{at_set, at_snoc}
 use Rattle.td_view.specs.declared.shown.Shown.{Shown}
 use Rattle.td_view.specs.declared.table.Named.{Named}
 use Rattle.td_view.specs.Deeds.{Publishes}
-use Rattle.td_view.specs.Tied.{Stands, Tied, nobody, given_more}
+use Rattle.td_view.specs.Tied.{StandsAtEnd, Tied, nobody, given_more}
 
 -- a seat knows no other history than that of x
 abbrev Same : Shown → Named → Type 0
@@ -36,13 +36,13 @@ every_one x (suc j) v e = absurd (some-ne-none v (sym e))
 moved : (x y : Shown) (views : List Named) → y.past.book ≡ x.past.book → Every x views → Every y views
 moved x y views same all j u e p is = all j u e p is ∙ sym same
 
-pub begins : (x : Shown) → Stands x → Tied x (nobody ∷ [])
+pub begins : (x : Shown) → StandsAtEnd x → Tied x (nobody ∷ [])
 begins x s = (s, every_one x)
 
 pub admits : Admits Tied nobody
 admits x views h = (h.0, every_snoc x views nobody (same_none x) h.1)
 
-pub names : (seat : ℕ) (v : Named) (x y : Shown) → Stands y → y.past.book ≡ x.past.book
+pub names : (seat : ℕ) (v : Named) (x y : Shown) → StandsAtEnd y → y.past.book ≡ x.past.book
     → TurnsAt Tied seat v x y (λ v x y w. w ≡ record { of = Some y.past; given = [] })
 names seat v x y s same views h at = (
   record { of = Some y.past; given = [] },
@@ -57,13 +57,13 @@ names seat v x y s same views h at = (
     some_same : (a b : Publishes) → Some a ≡ Some b → a ≡ b
     some_same a b e = cc
 
-pub shows : (seat : ℕ) (v : Named) (x y : Shown) → Stands y → y.past.book ≡ x.past.book
+pub shows : (seat : ℕ) (v : Named) (x y : Shown) → StandsAtEnd y → y.past.book ≡ x.past.book
     → TurnsAt Tied seat v x y (λ v x y w. w ≡ v)
 shows seat v x y s same views h at = let all = moved x y views same h.1 in
     (v, (s, every_set y views seat v (all seat v at) all), refl)
 
 pub looks : (seat : ℕ) (v : Named) → Turns Tied seat v (λ x. x)
-    (λ v x y w. (w ≡ given_more v y.past) × Stands y × ((p : Publishes) → v.of ≡ Some p → p.book ≡ y.past.book))
+    (λ v x y w. (w ≡ given_more v y.past) × StandsAtEnd y × ((p : Publishes) → v.of ≡ Some p → p.book ≡ y.past.book))
 looks seat v x views h at = (
   given_more v x.past,
   (h.0, every_set x views seat (given_more v x.past) (h.1 seat v at) h.1),

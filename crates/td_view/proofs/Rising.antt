@@ -3,31 +3,31 @@ use Rattle.std.proofs.Common.{◌≡◌, ℕ, suc, ◌-◌, ◌≤◌, List, [],
 use Rattle.std.proofs.Common.{sym, subst, arith, le_refl, le_trans, zero-le}
 use mathlib.Core.List.{IsPrefix}
 use Rattle.td_view.specs.declared.publish.Publish.{Publish}
-use Rattle.td_view.specs.Publishes.{Follows, IsLegal, IsLegalAfter, EndsWith, last_upto}
+use Rattle.td_view.specs.Publishes.{MayFollow, AreLegal, IsLegalAfter, EndsWith, last_upto}
 
 after_front : (p : Publish) (xs more : List Publish) → IsLegalAfter p (xs ++ more) → IsLegalAfter p xs
 after_front p [] more l = tt
 after_front p (x ∷ xs) more l = (l.0, after_front x xs more l.1)
 
-front : (xs more : List Publish) → IsLegal (xs ++ more) → IsLegal xs
+front : (xs more : List Publish) → AreLegal (xs ++ more) → AreLegal xs
 front [] more l = tt
 front (x ∷ xs) more l = after_front x xs more l
 
-pub legal_prefix : (xs ys : List Publish) → IsPrefix xs ys → IsLegal ys → IsLegal xs
-legal_prefix xs ys p l = front xs p.0 (subst IsLegal (sym p.1) l)
+pub legal_prefix : (xs ys : List Publish) → IsPrefix xs ys → AreLegal ys → AreLegal xs
+legal_prefix xs ys p l = front xs p.0 (subst AreLegal (sym p.1) l)
 
 upto_first : (p : Publish) (rest : List Publish) → IsLegalAfter p rest → p.upto ≤ last_upto (p ∷ rest)
 upto_first p [] l = le_refl p.upto
-upto_first p (q ∷ rest) l = let f : Follows p q = l.0 in le_trans f.rises (upto_first q rest l.1)
+upto_first p (q ∷ rest) l = let f : MayFollow p q = l.0 in le_trans f.rises (upto_first q rest l.1)
 
-rises_by : (xs more : List Publish) → IsLegal (xs ++ more) → last_upto xs ≤ last_upto (xs ++ more)
+rises_by : (xs more : List Publish) → AreLegal (xs ++ more) → last_upto xs ≤ last_upto (xs ++ more)
 rises_by [] more l = zero-le
 rises_by (x ∷ []) more l = upto_first x more l
 rises_by (x ∷ y ∷ xs) more l = rises_by (y ∷ xs) more l.1
 
-pub rises : (xs ys : List Publish) → IsPrefix xs ys → IsLegal ys → last_upto xs ≤ last_upto ys
+pub rises : (xs ys : List Publish) → IsPrefix xs ys → AreLegal ys → last_upto xs ≤ last_upto ys
 rises xs ys p l = subst (λ (zs : List Publish). last_upto xs ≤ last_upto zs) p.1
-    (rises_by xs p.0 (subst IsLegal (sym p.1) l))
+    (rises_by xs p.0 (subst AreLegal (sym p.1) l))
 
 one_head : (x p : Publish) → x ∷ [] ≡ p ∷ [] → x ≡ p
 one_head x p e = cc

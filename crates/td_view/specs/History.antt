@@ -2,12 +2,12 @@
 use Rattle.std.specs.Prelude.{ℕ, ◌≡◌, ◌==◌, true, List, [], ◌∷◌, ◌++◌, length, MatchBool}
 use Rattle.logbook.specs.Pages.{Cell, Step, View, Book, Named}
 use Rattle.td_view.specs.declared.publish.Publish.{Publish}
-use Rattle.td_view.specs.Publishes.{IsLegal}
+use Rattle.td_view.specs.Publishes.{AreLegal}
 
 -- the first word is the length of the history, which is legal. A book has two words; the second stays 0
-pub record IsKept (cells : List Cell) (log : List Publish) : Type 0 where
+pub record HoldsHistory (cells : List Cell) (log : List Publish) : Type 0 where
   pub words : cells ≡ (length log, true) ∷ (0, true) ∷ []
-  pub legal : IsLegal log
+  pub legal : AreLegal log
 
 abbrev pub head_of : Book → Named
 head_of book = record { tracked = true; key = 0; book = book }

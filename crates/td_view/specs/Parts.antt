@@ -6,7 +6,7 @@ use Rattle.td_view.specs.declared.deed.Deed.{Deed}
 use Rattle.td_view.specs.Publishes.{StartsWith}
 use Rattle.td_view.specs.History.{head_of}
 use Rattle.td_view.specs.Deeds.{Publishes}
-use Rattle.td_view.specs.Tied.{Stands}
+use Rattle.td_view.specs.Tied.{StandsAtEnd}
 
 -- x is the text shown, and these deeds are done for the next one; the writer adds to the history by this word, has this
 -- beginning of it, which is all of it, and owes the publish at the end of that
@@ -17,7 +17,7 @@ pub record IsWriterParts (x : Shown) (deeds : List Deed) (word : Named) (past : 
   pub few : number < 2 ^ 63
   pub shown : x.past ≡ past
   pub rested : x.last ≡ 0
-  pub stands : Stands x
+  pub stands : StandsAtEnd x
   pub nothing : debt ≡ None → deeds ≡ []
   pub same : (o : Publishes) → debt ≡ Some o → o.book ≡ past.book
 

@@ -17,7 +17,7 @@ abbrev pub again : Publish → ℕ → Publish
 again p last = publish p.upto p.atoms last
 
 -- q may come right after p: upto does not fall; after a `last` above 1 comes the same with one less; after 1 nothing
-pub record Follows (p q : Publish) : Type 0 where
+pub record MayFollow (p q : Publish) : Type 0 where
   pub rises : p.upto ≤ q.upto
   pub goes_on : p.last ≢ 1
   pub counts : 1 < p.last → (q.upto ≡ p.upto) × (q.atoms ≡ p.atoms) × (q.last + 1 ≡ p.last)
@@ -25,11 +25,11 @@ pub record Follows (p q : Publish) : Type 0 where
 -- each publish may come right after the one before it
 abbrev pub IsLegalAfter : Publish → List Publish → Type 0
 IsLegalAfter p [] = Unit {0}
-IsLegalAfter p (q ∷ rest) = Follows p q × IsLegalAfter q rest
+IsLegalAfter p (q ∷ rest) = MayFollow p q × IsLegalAfter q rest
 
-abbrev pub IsLegal : List Publish → Type 0
-IsLegal [] = Unit {0}
-IsLegal (p ∷ rest) = IsLegalAfter p rest
+abbrev pub AreLegal : List Publish → Type 0
+AreLegal [] = Unit {0}
+AreLegal (p ∷ rest) = IsLegalAfter p rest
 
 -- the list ends with this publish
 abbrev pub EndsWith : List Publish → Publish → Type 0
@@ -59,6 +59,6 @@ pub legal_after_prop : (p : Publish) (rest : List Publish) → IsProp (IsLegalAf
 legal_after_prop p [] = hlevel props
 legal_after_prop p (q ∷ rest) = hlevel (props, legal_after_prop q rest)
 
-pub legal_prop : (log : List Publish) → IsProp (IsLegal log)
+pub legal_prop : (log : List Publish) → IsProp (AreLegal log)
 legal_prop [] = hlevel props
 legal_prop (p ∷ rest) = legal_after_prop p rest

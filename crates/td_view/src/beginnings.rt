@@ -1,6 +1,6 @@
 ghost use Rattle.std.specs.Prelude.{◌≡◌, ◌≤◌, length};
 ghost use mathlib.Core.List.{IsPrefix};
-ghost use Rattle.td_view.specs.Publishes.{IsLegal};
+ghost use Rattle.td_view.specs.Publishes.{AreLegal};
 
 use crate::history::Publishes;
 
@@ -9,7 +9,7 @@ pub fn compare(first: &Publishes, second: &Publishes)
     requires book { second.now.book ≡ first.now.book }
     requires shorter { length first.now.log ≤ length second.now.log }
     ensures prefix { IsPrefix first.now.log second.now.log }
-    ensures legal { IsLegal second.now.log }
+    ensures legal { AreLegal second.now.log }
 {
     let mut both = first.again();
     both.learn(second);
@@ -23,7 +23,7 @@ pub fn longer(first: &Publishes, count: u64, second: &Publishes, other: u64) -> 
     ensures count { result.1 ≡ length result.0.log }
     ensures first { IsPrefix first.now.log result.0.log }
     ensures second { IsPrefix second.now.log result.0.log }
-    ensures legal { IsLegal result.0.log }
+    ensures legal { AreLegal result.0.log }
 {
     if count < other {
         compare(first, second);

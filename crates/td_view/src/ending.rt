@@ -1,8 +1,8 @@
 ghost use Rattle.std.specs.Prelude.{◌≡◌, ◌<◌, ◌^◌, ◌+◌, ◌++◌, ◌∷◌, [], length, drop, None, IfOk, IfSome};
 ghost use Rattle.td_view.specs.History.{head_of};
-ghost use Rattle.td_view.specs.Publishes.{IsLegal};
+ghost use Rattle.td_view.specs.Publishes.{AreLegal};
 ghost use Rattle.td_view.specs.Deeds.{publish_of, published};
-ghost use Rattle.td_view.specs.Tied.{Stands};
+ghost use Rattle.td_view.specs.Tied.{StandsAtEnd};
 ghost use Rattle.td_view.specs.Values.{tolds};
 
 use crate::ended::Ended;
@@ -76,8 +76,8 @@ fn count_down<R: Wait>(
     requires counted { (publishing.now.count ≡ length past.now.log + 1) × (publishing.now.count < 2 ^ 63) }
     requires shown { press.desk.shown.value.past ≡ past.now }
     requires nothing { drop press.behind press.log.items ≡ [] }
-    requires legal { IsLegal (past.now.log ++ published publishing.now press.desk.shown.value.atoms ∷ []) }
-    ensures stands { IfSome result.1 (λ next. Stands result.0.desk.shown.value
+    requires legal { AreLegal (past.now.log ++ published publishing.now press.desk.shown.value.atoms ∷ []) }
+    ensures stands { IfSome result.1 (λ next. StandsAtEnd result.0.desk.shown.value
         × (result.0.desk.shown.value.past ≡ next) × (drop result.0.behind result.0.log.items ≡ [])) }
     ensures same { IfSome result.1 (λ next.
         publish_of result.0.desk.shown.value ≡ published publishing.now press.desk.shown.value.atoms) }

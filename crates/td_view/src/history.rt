@@ -1,6 +1,6 @@
 ghost use Rattle.std.specs.Prelude.{◌≡◌, ◌+◌, ◌<◌, ◌^◌, ◌++◌, ◌∷◌, [], length, IfSome};
 ghost use Rattle.td_view.specs.History.{head_of};
-ghost use Rattle.td_view.specs.Publishes.{IsLegal};
+ghost use Rattle.td_view.specs.Publishes.{AreLegal};
 
 use crate::publish::Publish;
 use logbook::{Gain, Offer, Plain, Play, Rule, Seen, Word};
@@ -12,10 +12,10 @@ pub struct History;
 impl Rule<Publish, u64> for History {
     ghost use Rattle.std.specs.Prelude.{[], ◌∷◌};
     ghost use base.Fml.{ftrue};
-    ghost use Rattle.td_view.specs.History.{IsKept};
+    ghost use Rattle.td_view.specs.History.{HoldsHistory};
     ghost use Rattle.td_view.specs.Publishes.{start};
 
-    ghost holds = { λ cells log. IsKept cells log };
+    ghost holds = { λ cells log. HoldsHistory cells log };
 
     ghost first = { start ∷ [] };
 
@@ -79,7 +79,7 @@ impl<K: Entry> Plain<(), Publish, u64> for Adds<K> {
 pub fn extend<K: Entry>(head: &Head, past: &Publishes, count: u64) -> Option<Publishes>
     requires head { head.now ≡ head_of past.now.book }
     requires count { (count ≡ length past.now.log) × (count < 2 ^ 63) }
-    requires legal { IsLegal (past.now.log ++ K.entry ∷ []) }
+    requires legal { AreLegal (past.now.log ++ K.entry ∷ []) }
     ensures book { IfSome result (λ next. next.book ≡ past.now.book) }
     ensures log { IfSome result (λ next. next.log ≡ past.now.log ++ K.entry ∷ []) }
 {

@@ -5,7 +5,7 @@ ghost use Rattle.td_view.specs.declared.views_fault.ViewsFault.TheVariants.{Refu
 ghost use Rattle.td_view.specs.History.{head_of};
 ghost use Rattle.td_view.specs.Publishes.{start};
 ghost use Rattle.td_view.specs.Deeds.{publish_of};
-ghost use Rattle.td_view.specs.Tied.{Stands, IsFresh};
+ghost use Rattle.td_view.specs.Tied.{StandsAtEnd, IsUngiven};
 ghost use Rattle.td_view.specs.Values.{new_reader, one_more};
 
 use crate::history::{Head, Publishes};
@@ -67,10 +67,10 @@ fn first_press<R: Wait>(
 ) -> Result<Press, AllocError>
     requires past { past.now.log ≡ start ∷ [] }
     requires readers { 0 < readers }
-    ensures stands { IfOk result (λ press. Stands press.desk.shown.value
+    ensures stands { IfOk result (λ press. StandsAtEnd press.desk.shown.value
         × (publish_of press.desk.shown.value ≡ start) × (press.desk.shown.value.past ≡ past.now)) }
     ensures nothing { IfOk result (λ press. drop press.behind press.log.items ≡ []) }
-    ensures fresh { IfOk result (λ press. IsFresh past.now (seat press.desk.place)) }
+    ensures fresh { IfOk result (λ press. IsUngiven past.now (seat press.desk.place)) }
 {
     let one = Shown::start(Rope::new(alloc), past.again());
     let two = Shown::start(Rope::new(alloc), past.again());
@@ -86,12 +86,12 @@ fn first_press<R: Wait>(
 // An empty publish, by which the seat of the press learns which history the texts carry.
 fn name<R: Wait>(rt: &R, press: Press) -> (Press, Result<(), AllocError>)
     requires nothing { drop press.behind press.log.items ≡ [] }
-    requires stands { Stands press.desk.shown.value }
-    ensures { IfOk result.1 (λ _. Stands result.0.desk.shown.value
+    requires stands { StandsAtEnd press.desk.shown.value }
+    ensures { IfOk result.1 (λ _. StandsAtEnd result.0.desk.shown.value
         × (publish_of result.0.desk.shown.value ≡ publish_of press.desk.shown.value)
         × (result.0.desk.shown.value.past ≡ press.desk.shown.value.past)
         × (drop result.0.behind result.0.log.items ≡ [])
-        × IsFresh result.0.desk.shown.value.past (seat result.0.desk.place)) }
+        × IsUngiven result.0.desk.shown.value.past (seat result.0.desk.place)) }
 {
     press.publish_as::<Names, R>(rt)
 }
@@ -105,7 +105,7 @@ fn row(
     readers: u32,
 ) -> (Press, Result<Vec<Reader>, ViewsFault>)
     requires past { length past.now.log ≡ 1 }
-    requires fresh { IsFresh past.now (seat press.desk.place) }
+    requires fresh { IsUngiven past.now (seat press.desk.place) }
     ensures kept { (result.0.desk.shown ≡ press.desk.shown)
         × (drop result.0.behind result.0.log.items ≡ drop press.behind press.log.items) }
     ensures readers { IfOk result.1 (λ all. all.items ≡ replicate readers (new_reader past.now.book past.now.log)) }
@@ -130,11 +130,11 @@ fn row(
 
 // A seat that knows the history.
 fn looker(press: &mut Press, past: &Publishes) -> Result<Looker, AllocError>
-    requires { IsFresh past.now (seat press.old.desk.place) }
+    requires { IsUngiven past.now (seat press.old.desk.place) }
     ensures kept { (press.new.desk.shown ≡ press.old.desk.shown)
         × (drop press.new.behind press.new.log.items ≡ drop press.old.behind press.old.log.items)
         × (seat press.new.desk.place ≡ seat press.old.desk.place) }
-    ensures fresh { IfOk result (λ looker. IsFresh past.now (seat looker.place)) }
+    ensures fresh { IfOk result (λ looker. IsUngiven past.now (seat looker.place)) }
 {
     let _ = past;
     let mut reader = press.factory().reader()?;

@@ -1,9 +1,9 @@
 ghost use Rattle.std.specs.Prelude.{◌≡◌, ◌+◌, ◌≤◌, ◌^◌, ◌∷◌, ◌++◌, [], length, take, drop};
 ghost use Rattle.std.specs.Prelude.{IfErr, IfOk, IfSome, IsTrue};
 ghost use Rattle.td_view.specs.History.{head_of};
-ghost use Rattle.td_view.specs.Publishes.{changed_all, IsLegal, EndsWith};
+ghost use Rattle.td_view.specs.Publishes.{changed_all, AreLegal, EndsWith};
 ghost use Rattle.td_view.specs.Deeds.{state_of, published, deeds_of};
-ghost use Rattle.td_view.specs.Tied.{Stands};
+ghost use Rattle.td_view.specs.Tied.{StandsAtEnd};
 
 use crate::deed::Deed;
 use crate::history::{Entry, Head, Publishes, extend};
@@ -36,7 +36,7 @@ pub fn enter(
 ) -> Option<Publishes>
     requires head { head.now ≡ head_of past.now.book }
     requires count { (publishing.now.count ≡ length past.now.log + 1) × (publishing.now.count ≤ 2 ^ 63) }
-    requires legal { IsLegal (past.now.log ++ published publishing.now shown.now.atoms ∷ []) }
+    requires legal { AreLegal (past.now.log ++ published publishing.now shown.now.atoms ∷ []) }
     ensures book { IfSome result (λ next. next.book ≡ past.now.book) }
     ensures log { IfSome result (λ next. next.log ≡ past.now.log ++ published publishing.now shown.now.atoms ∷ []) }
 {
@@ -53,7 +53,7 @@ fn enter_picked<K: Entry>(
     requires entry { K.entry ≡ published publishing.now shown.now.atoms }
     requires head { head.now ≡ head_of past.now.book }
     requires count { (publishing.now.count ≡ length past.now.log + 1) × (publishing.now.count ≤ 2 ^ 63) }
-    requires legal { IsLegal (past.now.log ++ published publishing.now shown.now.atoms ∷ []) }
+    requires legal { AreLegal (past.now.log ++ published publishing.now shown.now.atoms ∷ []) }
     ensures book { IfSome result (λ next. next.book ≡ past.now.book) }
     ensures log { IfSome result (λ next. next.log ≡ past.now.log ++ published publishing.now shown.now.atoms ∷ []) }
 {
@@ -110,10 +110,10 @@ pub fn show<R: Wait>(
 ) -> (Press, Result<(), AllocError>)
     requires pending { drop press.behind press.log.items ≡ deeds_of publishing.now next.now }
     requires counted { publishing.now.count ≡ length next.now.log }
-    requires legal { IsLegal next.now.log }
+    requires legal { AreLegal next.now.log }
     requires ends { EndsWith next.now.log (published publishing.now press.desk.shown.value.atoms) }
     requires book { next.now.book ≡ press.desk.shown.value.past.book }
-    ensures stands { IfOk result.1 (λ _. Stands result.0.desk.shown.value) }
+    ensures stands { IfOk result.1 (λ _. StandsAtEnd result.0.desk.shown.value) }
     ensures shown { IfOk result.1 (λ _. state_of result.0.desk.shown.value
         ≡ (
           publishing.now.upto,

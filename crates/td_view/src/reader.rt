@@ -3,9 +3,9 @@ ghost use Rattle.std.specs.Fn.{FnOnceReturnsAt};
 ghost use mathlib.Core.List.{IsPrefix};
 ghost use Rattle.left_right.specs.Sides.{view as seat};
 ghost use Rattle.td_view.specs.declared.shown.Shown.{Shown};
-ghost use Rattle.td_view.specs.Publishes.{IsLegal, EndsWith};
+ghost use Rattle.td_view.specs.Publishes.{AreLegal, EndsWith};
 ghost use Rattle.td_view.specs.Deeds.{publish_of};
-ghost use Rattle.td_view.specs.Tied.{IsFresh};
+ghost use Rattle.td_view.specs.Tied.{IsUngiven};
 ghost use Rattle.td_view.specs.Values.{new_reader, one_more};
 ghost use Rattle.td_view.specs.Looks.{IsMissed};
 
@@ -35,7 +35,7 @@ pub struct Reader {
 impl Model for Reader {
     ghost use Rattle.std.specs.Option.{ForSome};
     ghost use Rattle.left_right.specs.Sides.{view as seat};
-    ghost use Rattle.td_view.specs.Tied.{Knows};
+    ghost use Rattle.td_view.specs.Tied.{KnowsPast};
     ghost use Rattle.td_view.specs.Values.{ReaderValue};
     ghost use Rattle.td_view.specs.Looks.{logs_of};
     ghost use Rattle.td_view.specs.Parts.{IsReaderParts};
@@ -51,13 +51,13 @@ impl Model for Reader {
     } };
 
     ghost invariant = { λ r.
-        IsReaderParts r.seen r.known r.count × ForSome r.looker (λ looker. Knows r.known (seat looker.place)) };
+        IsReaderParts r.seen r.known r.count × ForSome r.looker (λ looker. KnowsPast r.known (seat looker.place)) };
 }
 
 impl Reader {
     pub(crate) fn new(looker: Looker, past: &Publishes, count: u64) -> Reader
         requires count { count ≡ length past.now.log }
-        requires fresh { IsFresh past.now (seat looker.place) }
+        requires fresh { IsUngiven past.now (seat looker.place) }
         ensures { result ≡ new_reader past.now.book past.now.log }
     {
         Reader {
@@ -75,7 +75,7 @@ impl Reader {
         ensures same { self.new ≡ record self.old { known = self.new.known } }
         ensures before { IsPrefix self.old.known self.new.known }
         ensures told { IsPrefix told.list self.new.known }
-        ensures legal { IsLegal self.new.known }
+        ensures legal { AreLegal self.new.known }
     {
         let (past, other) = told.parts();
         let (known, count) = longer(&self.known, self.count, &past, other);
@@ -93,7 +93,7 @@ impl Reader {
             (x : Shown) × FnOnceReturnsAt F.FnOnce f x answer × EndsWith self.new.seen (publish_of x)) }
         ensures later { IfSome result (λ _.
             IsPrefix self.old.known self.new.seen × IsPrefix self.old.seen self.new.seen) }
-        ensures legal { IfSome result (λ _. IsLegal self.new.seen) }
+        ensures legal { IfSome result (λ _. AreLegal self.new.seen) }
         ensures some { IfSome result (λ _. self.new ≡ record self.old {
           seen = self.new.seen;
           known = self.new.seen;

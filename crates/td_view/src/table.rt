@@ -1,6 +1,6 @@
 ghost use Rattle.std.specs.Prelude.{◌≡◌, [], Some};
 ghost use Rattle.td_view.specs.Deeds.{Publishes};
-ghost use Rattle.td_view.specs.Tied.{Stands, nobody, given_more};
+ghost use Rattle.td_view.specs.Tied.{StandsAtEnd, nobody, given_more};
 
 use crate::deed::Deed;
 use crate::history::Publishes;
@@ -53,7 +53,7 @@ impl Outcome<Shown, Named> for Shows {
 pub struct Looks;
 
 impl Outcome<Shown, Named> for Looks {
-    ghost then = { λ v x y w. (w ≡ given_more v y.past) × Stands y
+    ghost then = { λ v x y w. (w ≡ given_more v y.past) × StandsAtEnd y
         × ((p : Publishes) → v.of ≡ Some p → p.book ≡ y.past.book) };
 }
 

@@ -1,5 +1,5 @@
 ghost use Rattle.std.specs.Prelude.{◌≡◌, ◌+◌, ◌≤◌, length, drop, Some, None, IfOk, IfSome, IfNone, OnErr, OnOk};
-ghost use Rattle.td_view.specs.Publishes.{EndsWith, IsLegal};
+ghost use Rattle.td_view.specs.Publishes.{EndsWith, AreLegal};
 ghost use Rattle.td_view.specs.Values.{told_of, after_publish};
 ghost use Rattle.td_view.specs.Deeds.{Publishes, publish_of, published};
 ghost use Rattle.td_view.specs.Owing.{Owes, StillOwes};
@@ -164,7 +164,7 @@ impl Writer {
     pub fn told(&self) -> Told
         ensures told { result ≡ told_of self.now }
         ensures last { EndsWith result.list self.now.shown }
-        ensures legal { IsLegal result.list }
+        ensures legal { AreLegal result.list }
     {
         Told::new(self.past.again(), self.count)
     }
@@ -201,7 +201,7 @@ fn begin(
         (drop press.now.behind press.now.log.items) given publishing.now.changes.now }
     ensures none { IfNone result (owed ≡ None) }
     ensures book { IfSome result (λ r. r.0.book ≡ past.now.book) }
-    ensures legal { IfSome result (λ r. IsLegal r.0.log) }
+    ensures legal { IfSome result (λ r. AreLegal r.0.log) }
     ensures owes { IfSome result (λ r. Owes past.now.log r.0
         (published publishing.now press.now.desk.shown.value.atoms)
         (drop press.now.behind press.now.log.items) r.1 publishing.now.changes.now) }

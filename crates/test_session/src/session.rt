@@ -107,8 +107,8 @@ fn faults(rt: &impl Abort, session: &mut Session) {
         Fault::Dot,
         Fault::Packet { at: 2 },
         Fault::Stretch,
-        Fault::Position,
-        Fault::Position,
+        Fault::Place,
+        Fault::Place,
         Fault::Site,
     ];
     for call in 0..10u8 {

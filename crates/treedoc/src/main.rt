@@ -7,7 +7,7 @@
 
 ghost use Rattle.std.specs.Prelude.{◌≡◌, drop};
 ghost use Rattle.std.specs.Process.{exit_status};
-ghost use Rattle.td_run.specs.Answered.{IsAnswered};
+ghost use Rattle.td_run.specs.Answered.{IsRunOf};
 ghost use Rattle.td_run.specs.Number.{status_number};
 
 mod progress;
@@ -64,7 +64,7 @@ fn run_behind_name<S: Source, K: Sink, G: Gate + Sync, R: Threads + Wait + Copy 
     sink: &mut K,
     gate: &G,
 ) -> Status
-    ensures { IsAnswered S.Source K.Sink (drop 1 arguments.now) source.old source.new sink.old sink.new result }
+    ensures { IsRunOf S.Source K.Sink (drop 1 arguments.now) source.old source.new sink.old sink.new result }
 {
     match arguments {
         [_name, words @ ..] => run(rt, alloc, words, source, sink, gate),

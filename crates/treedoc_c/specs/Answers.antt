@@ -6,7 +6,7 @@ use Rattle.td_op.specs.declared.reply.Reply.TheVariants.{Made, Cancelled, Held, 
 use Rattle.td_op.specs.declared.reply.Reply.TheVariants.{Later, Repeat, Unfit, Taken, Dropped, Idle}
 use Rattle.td_session.specs.declared.fault.Fault.{Fault}
 use Rattle.td_session.specs.declared.fault.Fault.TheVariants.{Memory, Site, Atom, Text, Dot, Packet, Stretch}
-use Rattle.td_session.specs.declared.fault.Fault.TheVariants.{Journal, Long, Position as NoPlace}
+use Rattle.td_session.specs.declared.fault.Fault.TheVariants.{Journal, Long, Place}
 use Rattle.treedoc_c.specs.declared.answer.Answer.{Answer}
 use Rattle.treedoc_c.specs.declared.status.Status.{Status}
 use Rattle.treedoc_c.specs.declared.status.Status.TheVariants as status
@@ -49,7 +49,7 @@ fault_answer Text = alone status.BadText
 fault_answer Dot = alone status.BadDot
 fault_answer (Packet at) = placed status.BadPacket at
 fault_answer Stretch = alone status.BadStretch
-fault_answer NoPlace = alone status.BadPlace
+fault_answer Place = alone status.BadPlace
 fault_answer (Journal at) = placed status.BadJournal at
 fault_answer Long = alone status.LongJournal
 

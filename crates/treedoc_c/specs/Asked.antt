@@ -3,7 +3,7 @@ use Rattle.std.specs.Prelude.{◌≡◌, ◌⊎◌, ℕ, Option, Some, None, Res
 use Rattle.td_op.specs.declared.reply.Reply.{Reply}
 use Rattle.td_replica.specs.Replica.{ReplicaValue, new_replica}
 use Rattle.td_session.specs.declared.fault.Fault.{Fault}
-use Rattle.td_session.specs.Calls.{IsSeat}
+use Rattle.td_session.specs.Calls.{IsSiteAmong}
 use Rattle.treedoc_c.specs.declared.answer.Answer.{Answer}
 use Rattle.treedoc_c.specs.declared.status.Status.{Status}
 use Rattle.treedoc_c.specs.declared.status.Status.TheVariants.{Done, Memory, BadSite}
@@ -11,7 +11,7 @@ use Rattle.treedoc_c.specs.Numbers.{status_number}
 use Rattle.treedoc_c.specs.Answers.{answer_of}
 
 -- the call of the session was made, and its result is answered
-pub record IsAnswered (call : ReplicaValue → Result Reply Fault → ReplicaValue → Type 0) (old : ReplicaValue)
+pub record IsCallAnswered (call : ReplicaValue → Result Reply Fault → ReplicaValue → Type 0) (old : ReplicaValue)
     (new : Option ReplicaValue) (answer : Answer) : Type 0 where
   pub after : ReplicaValue
   pub result : Result Reply Fault
@@ -25,6 +25,6 @@ IsHeldBy r new status = ((status ≡ Done) × (new ≡ Some r)) ⊎ ((status ≡
 
 -- a closed session was opened at a site among so many, or stays closed
 pub record IsOpenedBy (site sites : ℕ) (new : Option ReplicaValue) (status : ℕ) : Type 0 where
-  pub seat : IsSeat site sites → ((status ≡ status_number Done) × (new ≡ Some (new_replica site sites)))
+  pub seat : IsSiteAmong site sites → ((status ≡ status_number Done) × (new ≡ Some (new_replica site sites)))
       ⊎ ((status ≡ status_number Memory) × (new ≡ None))
-  pub other : ¬ IsSeat site sites → (status ≡ status_number BadSite) × (new ≡ None)
+  pub other : ¬ IsSiteAmong site sites → (status ≡ status_number BadSite) × (new ≡ None)

@@ -4,7 +4,7 @@ use Rattle.td_op.specs.declared.reply.Why.{Why}
 use Rattle.td_op.specs.declared.reply.Why.TheVariants.{Size, Own, Atom as NoAtom, Proposal, Vote, Address}
 use Rattle.td_session.specs.declared.fault.Fault.{Fault}
 use Rattle.td_session.specs.declared.fault.Fault.TheVariants.{Memory as NoMemory, Site, Atom, Text, Dot, Packet}
-use Rattle.td_session.specs.declared.fault.Fault.TheVariants.{Stretch, Journal, Long, Position as NoPlace}
+use Rattle.td_session.specs.declared.fault.Fault.TheVariants.{Stretch, Journal, Long, Place}
 use Rattle.treedoc_c.specs.declared.status.Status.{Status}
 use Rattle.treedoc_c.specs.declared.status.Status.TheVariants.{Done, Made, Cancelled, Held, Position, Gone, Limit}
 use Rattle.treedoc_c.specs.declared.status.Status.TheVariants.{NotOpen, New, Later, Repeat, Unfit, Taken, Dropped}
@@ -52,7 +52,7 @@ fault_status Text = BadText
 fault_status Dot = BadDot
 fault_status (Packet at) = BadPacket
 fault_status Stretch = BadStretch
-fault_status NoPlace = BadPlace
+fault_status Place = BadPlace
 fault_status (Journal at) = BadJournal
 fault_status Long = LongJournal
 

@@ -12,7 +12,7 @@ use Rattle.treedoc_c.specs.declared.written.Written.{Written}
 use Rattle.treedoc_c.specs.Numbers.{fault_status, status_number}
 
 -- the bytes stand at the front of the room, where they fit; else it is as before, and the status says so
-pub record IsWritten (bytes : List ℕ) (to : ℕ) (old new : List ℕ) (w : Written) : Type 0 where
+pub record IsWrittenInto (bytes : List ℕ) (to : ℕ) (old new : List ℕ) (w : Written) : Type 0 where
   pub len : w.len ≡ length bytes
   pub goes : w.to ≡ to
   pub fits : length bytes ≤ length old
@@ -25,12 +25,12 @@ nothing_written s = record { status = status_number s; to = 0; len = 0 }
 
 -- the text is written, where there is one
 abbrev pub IsWrittenOf : Result (List ℕ) Fault → List ℕ → List ℕ → Written → Type 0
-IsWrittenOf (Ok text) old new w = IsWritten text 0 old new w
+IsWrittenOf (Ok text) old new w = IsWrittenInto text 0 old new w
 IsWrittenOf (Err fault) old new w = (w ≡ nothing_written (fault_status fault)) × (new ≡ old)
 
 -- the text is written, unless memory runs out
 abbrev pub IsTextWritten : List ℕ → List ℕ → List ℕ → Written → Type 0
-IsTextWritten text old new w = (IsWritten text 0 old new w) ⊎ (IsWrittenOf (Err NoMemory) old new w)
+IsTextWritten text old new w = (IsWrittenInto text 0 old new w) ⊎ (IsWrittenOf (Err NoMemory) old new w)
 
 -- the stretch is written, where there is one
 pub record IsStretchWritten (from upto : ℕ) (rows : List DocRow) (old new : List ℕ) (w : Written) : Type 0 where
@@ -48,7 +48,7 @@ pub record IsPacketWritten (k : ℕ) (sent : List Message) (old new : List ℕ) 
   pub to : Option ℕ
   pub packet : List ℕ
   pub is : IsPacketOf k sent to packet
-  pub written : IsWritten packet (goes_to to) old new w
+  pub written : IsWrittenInto packet (goes_to to) old new w
 
 -- where there is such a message its packet is written
 pub record IsPacked (k : ℕ) (sent : List Message) (old new : List ℕ) (w : Written) : Type 0 where

@@ -88,7 +88,7 @@ pub(crate) fn fault_answer(fault: &Fault) -> Answer
         Fault::Dot => Answer::alone(Status::BadDot),
         Fault::Packet { at } => placed(Status::BadPacket, *at),
         Fault::Stretch => Answer::alone(Status::BadStretch),
-        Fault::Position => Answer::alone(Status::BadPlace),
+        Fault::Place => Answer::alone(Status::BadPlace),
         Fault::Journal { at } => placed(Status::BadJournal, *at),
         Fault::Long => Answer::alone(Status::LongJournal),
     }

@@ -7,7 +7,7 @@ ghost use Rattle.td_replica.specs.Replica.{ReplicaValue};
 ghost use Rattle.td_session.specs.Calls.{IsCall, IsCancel, IsInsert, IsPaste, IsReceived};
 ghost use Rattle.treedoc_c.specs.declared.status.Status.TheVariants.{Closed};
 ghost use Rattle.treedoc_c.specs.Answers.{alone};
-ghost use Rattle.treedoc_c.specs.Asked.{IsAnswered};
+ghost use Rattle.treedoc_c.specs.Asked.{IsCallAnswered};
 ghost use Rattle.treedoc_c.specs.Side.{side};
 
 use crate::answer::Answer;
@@ -20,7 +20,7 @@ use td_base::Bit;
 pub extern "C" fn td_insert(session: &mut HeldSession, index: u32, text: &[u8]) -> Answer
     ensures closed { session.old.handle.value ≡ None → (result ≡ alone Closed) × (session.new.handle.value ≡ None) }
     ensures open { (r : ReplicaValue) → session.old.handle.value ≡ Some r
-        → IsAnswered (IsInsert index text.now) r session.new.handle.value result }
+        → IsCallAnswered (IsInsert index text.now) r session.new.handle.value result }
 {
     if !session.is_open {
         return Answer::alone(Status::Closed);
@@ -33,7 +33,7 @@ pub extern "C" fn td_insert(session: &mut HeldSession, index: u32, text: &[u8]) 
 pub extern "C" fn td_paste(session: &mut HeldSession, index: u32, text: &[u8]) -> Answer
     ensures closed { session.old.handle.value ≡ None → (result ≡ alone Closed) × (session.new.handle.value ≡ None) }
     ensures open { (r : ReplicaValue) → session.old.handle.value ≡ Some r
-        → IsAnswered (IsPaste index text.now) r session.new.handle.value result }
+        → IsCallAnswered (IsPaste index text.now) r session.new.handle.value result }
 {
     if !session.is_open {
         return Answer::alone(Status::Closed);
@@ -46,7 +46,7 @@ pub extern "C" fn td_paste(session: &mut HeldSession, index: u32, text: &[u8]) -
 pub extern "C" fn td_delete(session: &mut HeldSession, index: u32) -> Answer
     ensures closed { session.old.handle.value ≡ None → (result ≡ alone Closed) × (session.new.handle.value ≡ None) }
     ensures open { (r : ReplicaValue) → session.old.handle.value ≡ Some r
-        → IsAnswered (IsCall (Local (Delete index))) r session.new.handle.value result }
+        → IsCallAnswered (IsCall (Local (Delete index))) r session.new.handle.value result }
 {
     if !session.is_open {
         return Answer::alone(Status::Closed);
@@ -59,7 +59,7 @@ pub extern "C" fn td_delete(session: &mut HeldSession, index: u32) -> Answer
 pub extern "C" fn td_flatten_root(session: &mut HeldSession) -> Answer
     ensures closed { session.old.handle.value ≡ None → (result ≡ alone Closed) × (session.new.handle.value ≡ None) }
     ensures open { (r : ReplicaValue) → session.old.handle.value ≡ Some r
-        → IsAnswered (IsCall (Local (Propose Root))) r session.new.handle.value result }
+        → IsCallAnswered (IsCall (Local (Propose Root))) r session.new.handle.value result }
 {
     if !session.is_open {
         return Answer::alone(Status::Closed);
@@ -72,7 +72,7 @@ pub extern "C" fn td_flatten_root(session: &mut HeldSession) -> Answer
 pub extern "C" fn td_flatten_side(session: &mut HeldSession, index: u32, right: bool) -> Answer
     ensures closed { session.old.handle.value ≡ None → (result ≡ alone Closed) × (session.new.handle.value ≡ None) }
     ensures open { (r : ReplicaValue) → session.old.handle.value ≡ Some r
-        → IsAnswered (IsCall (Local (ProposeAt index (side right)))) r session.new.handle.value result }
+        → IsCallAnswered (IsCall (Local (ProposeAt index (side right)))) r session.new.handle.value result }
 {
     if !session.is_open {
         return Answer::alone(Status::Closed);
@@ -85,7 +85,7 @@ pub extern "C" fn td_flatten_side(session: &mut HeldSession, index: u32, right: 
 pub extern "C" fn td_cancel(session: &mut HeldSession, site: u8, number: u32) -> Answer
     ensures closed { session.old.handle.value ≡ None → (result ≡ alone Closed) × (session.new.handle.value ≡ None) }
     ensures open { (r : ReplicaValue) → session.old.handle.value ≡ Some r
-        → IsAnswered (IsCancel site number) r session.new.handle.value result }
+        → IsCallAnswered (IsCancel site number) r session.new.handle.value result }
 {
     if !session.is_open {
         return Answer::alone(Status::Closed);
@@ -98,7 +98,7 @@ pub extern "C" fn td_cancel(session: &mut HeldSession, site: u8, number: u32) ->
 pub extern "C" fn td_receive(session: &mut HeldSession, packet: &[u8]) -> Answer
     ensures closed { session.old.handle.value ≡ None → (result ≡ alone Closed) × (session.new.handle.value ≡ None) }
     ensures open { (r : ReplicaValue) → session.old.handle.value ≡ Some r
-        → IsAnswered (IsReceived packet.now) r session.new.handle.value result }
+        → IsCallAnswered (IsReceived packet.now) r session.new.handle.value result }
 {
     if !session.is_open {
         return Answer::alone(Status::Closed);
@@ -111,7 +111,7 @@ pub extern "C" fn td_receive(session: &mut HeldSession, packet: &[u8]) -> Answer
 pub extern "C" fn td_next(session: &mut HeldSession) -> Answer
     ensures closed { session.old.handle.value ≡ None → (result ≡ alone Closed) × (session.new.handle.value ≡ None) }
     ensures open { (r : ReplicaValue) → session.old.handle.value ≡ Some r
-        → IsAnswered (IsCall Next) r session.new.handle.value result }
+        → IsCallAnswered (IsCall Next) r session.new.handle.value result }
 {
     if !session.is_open {
         return Answer::alone(Status::Closed);

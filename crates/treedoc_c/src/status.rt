@@ -93,7 +93,7 @@ impl Status {
             Fault::Dot => Status::BadDot,
             Fault::Packet { .. } => Status::BadPacket,
             Fault::Stretch => Status::BadStretch,
-            Fault::Position => Status::BadPlace,
+            Fault::Place => Status::BadPlace,
             Fault::Journal { .. } => Status::BadJournal,
             Fault::Long => Status::LongJournal,
         }

@@ -1,6 +1,6 @@
 ghost use Rattle.std.specs.Prelude.{◌≡◌, None, IfSome};
 ghost use Rattle.treedoc_c.specs.declared.status.Status.TheVariants.{NoMessage};
-ghost use Rattle.treedoc_c.specs.Written.{IsWritten, IsWrittenOf, goes_to, nothing_written};
+ghost use Rattle.treedoc_c.specs.Written.{IsWrittenInto, IsWrittenOf, goes_to, nothing_written};
 
 use crate::status::Status;
 use td_base::{Bytes, Site};
@@ -30,7 +30,7 @@ impl Written {
 
     /// Writes the bytes into the room, if they fit.
     pub(crate) fn of(bytes: &[u8], to: u32, room: &mut [u8]) -> Written
-        ensures { IsWritten bytes.now to room.old room.new result }
+        ensures { IsWrittenInto bytes.now to room.old room.new result }
     {
         let len = bytes.len();
         if room.len() < len {
@@ -61,7 +61,7 @@ impl Written {
     /// Writes a packet into the room, and for whom it is, where there is one.
     pub(crate) fn packet(outgoing: &Option<Outgoing>, room: &mut [u8]) -> Written
         ensures none { outgoing.now ≡ None → (result ≡ nothing_written NoMessage) × (room.new ≡ room.old) }
-        ensures some { IfSome outgoing.now (λ out. IsWritten out.packet (goes_to out.to) room.old room.new result) }
+        ensures some { IfSome outgoing.now (λ out. IsWrittenInto out.packet (goes_to out.to) room.old room.new result) }
     {
         match outgoing {
             Some(outgoing) => Written::of(outgoing.packet.bytes(), number(outgoing.to), room),

@@ -11,7 +11,7 @@ ghost use Rattle.std.specs.Process.{exit_status};
 ghost use Rattle.td_disk.specs.Moments.{IsSynced};
 ghost use Rattle.td_shell.specs.Number.{status_number};
 ghost use Rattle.td_shell.specs.Running.{IsMember};
-ghost use Rattle.treedoc_site.specs.Words.{IsAnswered, IsRunOnFile};
+ghost use Rattle.treedoc_site.specs.Words.{IsRunByWords, IsRunOnFile};
 
 use std::alloc::Global;
 use std::env::FillError;
@@ -61,7 +61,7 @@ fn run_words<S: Source, W: Sink, R: Wait + Files<File = File> + AllocGlobal + Ep
     source: &mut S,
     sink: &mut W,
 ) -> Status
-    ensures { IsAnswered ⟦<Tree as Doc>⟧ ⟦<FileDisk as Disk>⟧ S.Source W.Sink arguments.now source.old source.new
+    ensures { IsRunByWords ⟦<Tree as Doc>⟧ ⟦<FileDisk as Disk>⟧ S.Source W.Sink arguments.now source.old source.new
         sink.old sink.new result }
 {
     let [_name, path, site, sites] = arguments else {

@@ -1,7 +1,7 @@
 use Rattle.std.proofs.Common.{◌≡◌, ◌≤◌, ◌+◌, ℕ, Some, length, refl, sym, ap, ◌∙◌, subst, arith}
 use Rattle.std.proofs.lemmas.Option.{slice_get_read}
 use Rattle.std.specs.Prelude.{slice_get}
-use Rattle.td_check.specs.Alone.{IsRowOf}
+use Rattle.td_check.specs.Alone.{IsRowOfCalls}
 use Rattle.td_check.specs.Findings.{IsAlone}
 use Rattle.td_check.proofs.AloneFirst.{none_of_all, none_of_more}
 use Rattle.td_check.proofs.alone.first_in.Goals as goal
@@ -30,5 +30,5 @@ first_of-requires-clause-row c =
     ap (slice_get rows) (sym c.from.ensures)
     ∙ slice_get_read rows (length rows) c.from.result row refl
     (omega (arith, c.from.ensures, c.requires.each, c.sites-n-end.ensures.sites)) c.index-rows-from.is in
-    subst (IsRowOf t t.logs c.at.result) (sym c.deref.ensures.value)
-    (subst (λ (s : ℕ). IsRowOf t t.logs s row.items) (sym site) (c.requires.row c.loop-n.n row at))
+    subst (IsRowOfCalls t t.logs c.at.result) (sym c.deref.ensures.value)
+    (subst (λ (s : ℕ). IsRowOfCalls t t.logs s row.items) (sym site) (c.requires.row c.loop-n.n row at))

@@ -3,7 +3,7 @@ use Rattle.std.specs.List.{AllZip}
 use Rattle.td_room.specs.Rooms.{AreOfOneRoom}
 use Rattle.td_room.specs.Workers.{WorkerValue, LaterWorker}
 use Rattle.td_script.specs.declared.live.editor_line.EditorLine.{EditorLine}
-use Rattle.td_live.specs.Desks.{DeskValue, HasDone, LaterDesk}
+use Rattle.td_live.specs.Desks.{DeskValue, HasDoneLines, LaterDesk}
 use Rattle.td_live.specs.Ending.{IsLiveEnd}
 use Rattle.td_live.specs.Live.{IsTraceAmong}
 use Rattle.td_live.specs.Seating.{homes_of}
@@ -43,6 +43,6 @@ returns g c =
     (λ bytes ended.
     traced_after c.args.workers.items c.work.new.workers c.args.editors.items c.args.lines.items c.in-Ok.desks.items
     c.work.new.desks bytes c.requires.can c.in-Ok.ensures worked turned
-    (subst (λ (x : List WorkerValue × List DeskValue). (ls : List (List EditorLine)) → AllZip HasDone ls x.1
+    (subst (λ (x : List WorkerValue × List DeskValue). (ls : List (List EditorLine)) → AllZip HasDoneLines ls x.1
     → IsLiveEnd x.0 ls x.1 bytes) (λ i. (ws i, ds i)) ended))
     c.conclude.ensures

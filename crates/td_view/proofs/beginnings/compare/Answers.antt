@@ -1,7 +1,7 @@
 use Rattle.std.proofs.Common.{ap, subst, List}
 use mathlib.Core.List.{IsPrefix}
 use Rattle.td_view.specs.declared.publish.Publish.{Publish}
-use Rattle.td_view.specs.History.{IsKept}
+use Rattle.td_view.specs.History.{HoldsHistory}
 use Rattle.td_view.proofs.Rising.{legal_prefix}
 use Rattle.td_view.proofs.Prefixes.{prefix_shorter}
 use Rattle.td_view.proofs.beginnings.compare.Goals as goal
@@ -14,5 +14,5 @@ returns-clause-prefix c =
     prefix_shorter c.args.first.now.log c.args.second.now.log both first c.learn.ensures.3 c.requires.shorter
 
 pub returns-clause-legal : goal.returns-clause-legal
-returns-clause-legal c = let k : IsKept _ c.learn.new.self.log = c.learn.ensures.4.1 in
+returns-clause-legal c = let k : HoldsHistory _ c.learn.new.self.log = c.learn.ensures.4.1 in
     legal_prefix c.args.second.now.log c.learn.new.self.log c.learn.ensures.3 k.legal

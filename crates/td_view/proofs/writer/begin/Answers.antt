@@ -1,5 +1,5 @@
 use Rattle.std.proofs.Common.{sym, subst}
-use Rattle.td_view.specs.Publishes.{IsLegal}
+use Rattle.td_view.specs.Publishes.{AreLegal}
 use Rattle.td_view.specs.Deeds.{published}
 use Rattle.td_view.proofs.Standing.{may_follow}
 use Rattle.td_view.proofs.writer.begin.Goals as goal
@@ -19,13 +19,13 @@ returns-in-Some-clause-legal c =
     let p = r.parts in
     let x = c.args.press.now.desk.shown.value in
     let owes = r.owed c.in-Some.next c.in-Some.is in
-    subst IsLegal (sym owes.0)
+    subst AreLegal (sym owes.0)
     (may_follow x c.args.past.now (published c.args.publishing.now x.atoms) p.shown p.rested p.stands r.rises)
 
 pub returns-in_ok-next-in-None-clause-legal : goal.returns-in_ok-next-in-None-clause-legal
 returns-in_ok-next-in-None-clause-legal c =
     let r = c.requires in
     let p = r.parts in
-    subst IsLegal (sym c.in_ok-next-in-None.ensures.log)
+    subst AreLegal (sym c.in_ok-next-in-None.ensures.log)
     (may_follow c.args.press.now.desk.shown.value c.args.past.now
     (published c.args.publishing.now c.published.result.now.atoms) p.shown p.rested p.stands r.rises)

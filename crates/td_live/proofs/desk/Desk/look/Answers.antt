@@ -1,10 +1,10 @@
 use Rattle.std.proofs.Common.{◌≡◌, ◌++◌, ◌∷◌, [], refl, sym, subst, inr, rules}
 use Rattle.std.specs.List.{concat}
 use Rattle.td_view.specs.Deeds.{publish_of}
-use Rattle.td_line.specs.Editors.{IsPending}
+use Rattle.td_line.specs.Editors.{AwaitsAnswer}
 use Rattle.td_trace.specs.declared.log.Did.TheVariants.{Look}
 use Rattle.td_live.specs.declared.next.Next.TheVariants as Next
-use Rattle.td_live.specs.Agenda.{IsNext}
+use Rattle.td_live.specs.Agenda.{IsNextToDo}
 use Rattle.td_live.specs.Following.{Stays as LeadsStays}
 use Rattle.td_live.specs.Desks.{DeskValue}
 use Rattle.td_live.proofs.Turns.{always_err, shown_reader, seen_rises, parts_reader, parts_looked, turn_looked}
@@ -20,7 +20,7 @@ returns-in_err-reserve-clause-err c =
 
 pub returns-in_default-clause-turn : goal.returns-in_default-clause-turn
 returns-in_default-clause-turn c =
-    let idle = subst (λ (d : DeskValue). IsPending d.editor → ⊥) (sym c.self.view_is) c.requires.idle in
+    let idle = subst (λ (d : DeskValue). AwaitsAnswer d.editor → ⊥) (sym c.self.view_is) c.requires.idle in
     rw (← c.self.view_is) (
       record { rest = LeadsStays; did = c.reserve.ensures.items },
       inr (inr (idle, c.in_default.ensures.none)),
@@ -33,7 +33,7 @@ invariant_of-self-in_err-upto c =
       rest = c.self.inside.agenda;
       did = c.self.inside.did.items;
     } in
-    let idle = subst (λ (d : DeskValue). IsPending d.editor → ⊥) (sym c.self.view_is) c.requires.idle in
+    let idle = subst (λ (d : DeskValue). AwaitsAnswer d.editor → ⊥) (sym c.self.view_is) c.requires.idle in
     let s = c.in-Some.ensures.shown in
     parts_reader d c.look.new.self c.self.inside.call c.self.inside.waits c.reserve.new.self.items c.self.invariant idle
     (shown_reader d.editor c.look.new.self c.look.new.self.reader.seen c.in-Some.ensures.some)
@@ -59,8 +59,8 @@ invariant_of-self-2 c =
       rest = c.self.inside.agenda;
       did = c.self.inside.did.items;
     } in
-    let idle = subst (λ (d : DeskValue). IsPending d.editor → ⊥) (sym c.self.view_is) c.requires.idle in
-    let next = subst (λ (d : DeskValue). IsNext Next.Look d.rest) (sym c.self.view_is) c.requires.next in
+    let idle = subst (λ (d : DeskValue). AwaitsAnswer d.editor → ⊥) (sym c.self.view_is) c.requires.idle in
+    let next = subst (λ (d : DeskValue). IsNextToDo Next.Look d.rest) (sym c.self.view_is) c.requires.next in
     let s = c.in-Some.ensures.shown in
     let upto : c.in_ok-upto.upto ≡ s.0.upto = search rules in
     let text : c.in_ok-upto.text ≡ concat s.0.atoms = search rules in
@@ -79,8 +79,8 @@ returns-clause-turn c =
       rest = c.self.inside.agenda;
       did = c.self.inside.did.items;
     } in
-    let idle = subst (λ (d : DeskValue). IsPending d.editor → ⊥) (sym c.self.view_is) c.requires.idle in
-    let next = subst (λ (d : DeskValue). IsNext Next.Look d.rest) (sym c.self.view_is) c.requires.next in
+    let idle = subst (λ (d : DeskValue). AwaitsAnswer d.editor → ⊥) (sym c.self.view_is) c.requires.idle in
+    let next = subst (λ (d : DeskValue). IsNextToDo Next.Look d.rest) (sym c.self.view_is) c.requires.next in
     let s = c.in-Some.ensures.shown in
     let upto : c.in_ok-upto.upto ≡ s.0.upto = search rules in
     let text : c.in_ok-upto.text ≡ concat s.0.atoms = search rules in

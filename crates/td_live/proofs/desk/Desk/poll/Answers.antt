@@ -1,5 +1,5 @@
 use Rattle.std.proofs.Common.{◌≡◌, ◌++◌, ◌∷◌, [], sym, subst, inl}
-use Rattle.td_line.specs.Editors.{IsPending}
+use Rattle.td_line.specs.Editors.{AwaitsAnswer}
 use Rattle.td_trace.specs.declared.log.Did.TheVariants.{Call}
 use Rattle.td_live.specs.Following.{Stays as LeadsStays}
 use Rattle.td_live.specs.Desks.{DeskValue}
@@ -8,7 +8,7 @@ use Rattle.td_live.proofs.desk.Desk.poll.Goals as goal
 
 pub returns-in_default-clause-turn : goal.returns-in_default-clause-turn
 returns-in_default-clause-turn g c =
-    let pending = subst (λ (d : DeskValue). IsPending d.editor) (sym c.self.view_is) c.requires in
+    let pending = subst (λ (d : DeskValue). AwaitsAnswer d.editor) (sym c.self.view_is) c.requires in
     let none = c.in_default.ensures.none in
     rw (← c.self.view_is)
     (record { rest = LeadsStays; did = c.reserve.ensures.items }, inl (pending, none.1, none.0))
@@ -20,7 +20,7 @@ invariant_of-self-2 g c =
       rest = c.self.inside.agenda;
       did = c.self.inside.did.items;
     } in
-    let pending = subst (λ (d : DeskValue). IsPending d.editor) (sym c.self.view_is) c.requires in
+    let pending = subst (λ (d : DeskValue). AwaitsAnswer d.editor) (sym c.self.view_is) c.requires in
     let did : c.push_reserved.new.self.items ≡ d.did ++ Call c.self.inside.call c.in-Some.answer.entry ∷ [] = cc in
     parts_answered d c.poll.new.self c.in-Some.answer c.replied.new.self c.self.inside.call c.self.inside.waits
     c.push_reserved.new.self.items c.self.invariant pending c.in-Some.ensures.polled c.in-Some.ensures.some
@@ -33,7 +33,7 @@ returns-clause-turn g c =
       rest = c.self.inside.agenda;
       did = c.self.inside.did.items;
     } in
-    let pending = subst (λ (d : DeskValue). IsPending d.editor) (sym c.self.view_is) c.requires in
+    let pending = subst (λ (d : DeskValue). AwaitsAnswer d.editor) (sym c.self.view_is) c.requires in
     let did : c.push_reserved.new.self.items ≡ d.did ++ Call c.self.inside.call c.in-Some.answer.entry ∷ [] = cc in
     rw (← c.self.view_is)
     (turn_answered d c.poll.new.self c.in-Some.answer c.replied.new.self c.self.inside.call

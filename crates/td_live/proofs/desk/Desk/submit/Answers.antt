@@ -1,7 +1,7 @@
 use Rattle.std.proofs.Common.{refl, sym, subst, inl, inr}
-use Rattle.td_line.specs.Editors.{IsPending}
+use Rattle.td_line.specs.Editors.{AwaitsAnswer}
 use Rattle.td_live.specs.declared.next.Next.TheVariants as Next
-use Rattle.td_live.specs.Agenda.{IsNext}
+use Rattle.td_live.specs.Agenda.{IsNextToDo}
 use Rattle.td_live.specs.Following.{Stays as LeadsStays}
 use Rattle.td_live.specs.Desks.{DeskValue}
 use Rattle.td_live.proofs.Turns.{parts_submitted, only_full}
@@ -14,18 +14,18 @@ invariant_of-self g c =
       rest = c.self.inside.agenda;
       did = c.self.inside.did.items;
     } in
-    let idle = subst (λ (d : DeskValue). IsPending d.editor → ⊥) (sym c.self.view_is) c.requires.idle in
-    let next = subst (λ (d : DeskValue). IsNext (Next.Ask c.args.request) d.rest) (sym c.self.view_is) c.requires.next
-    in
+    let idle = subst (λ (d : DeskValue). AwaitsAnswer d.editor → ⊥) (sym c.self.view_is) c.requires.idle in
+    let next = subst (λ (d : DeskValue). IsNextToDo (Next.Ask c.args.request) d.rest) (sym c.self.view_is)
+    c.requires.next in
     let sent = c.in-Ok.ensures.submitted in
     parts_submitted d c.submit.new.self c.args.request c.in-Ok.call c.self.inside.call c.self.inside.waits
     c.self.invariant idle next sent.2 sent.3
 
 pub returns-in-Ok-clause-turn : goal.returns-in-Ok-clause-turn
 returns-in-Ok-clause-turn g c =
-    let idle = subst (λ (d : DeskValue). IsPending d.editor → ⊥) (sym c.self.view_is) c.requires.idle in
-    let next = subst (λ (d : DeskValue). IsNext (Next.Ask c.args.request) d.rest) (sym c.self.view_is) c.requires.next
-    in
+    let idle = subst (λ (d : DeskValue). AwaitsAnswer d.editor → ⊥) (sym c.self.view_is) c.requires.idle in
+    let next = subst (λ (d : DeskValue). IsNextToDo (Next.Ask c.args.request) d.rest) (sym c.self.view_is)
+    c.requires.next in
     rw (← c.self.view_is) (record {
       idle = idle;
       request = c.args.request;
@@ -44,9 +44,9 @@ returns-in-Err-clause-turn g c =
       rest = c.self.inside.agenda;
       did = c.self.inside.did.items;
     } in
-    let idle = subst (λ (d : DeskValue). IsPending d.editor → ⊥) (sym c.self.view_is) c.requires.idle in
-    let next = subst (λ (d : DeskValue). IsNext (Next.Ask c.args.request) d.rest) (sym c.self.view_is) c.requires.next
-    in
+    let idle = subst (λ (d : DeskValue). AwaitsAnswer d.editor → ⊥) (sym c.self.view_is) c.requires.idle in
+    let next = subst (λ (d : DeskValue). IsNextToDo (Next.Ask c.args.request) d.rest) (sym c.self.view_is)
+    c.requires.next in
     let why = c.in-Err.ensures.submitted in
     rw (← c.self.view_is) (
       record { rest = LeadsStays; did = refl },

@@ -1,6 +1,6 @@
 use Rattle.std.proofs.Common.{[], refl, sym, subst}
 use Rattle.std.proofs.lemmas.Result.{on_err_weaker}
-use Rattle.td_line.specs.Editors.{IsPending, LaterEditor}
+use Rattle.td_line.specs.Editors.{AwaitsAnswer, LaterEditor}
 use Rattle.td_live.specs.declared.went.Went.{Went}
 use Rattle.td_live.specs.Following.{Stays as LeadsStays}
 use Rattle.td_live.specs.Desks.{DeskValue, IsDesk}
@@ -22,7 +22,7 @@ returns-in-Ask-clause-turn g c =
       rest = c.self.inside.agenda;
       did = c.self.inside.did.items;
     } in
-    let idle = not_waiting c.self.inside.waits (IsPending d.editor) c.self.invariant.waits_is c.if-self.false in
+    let idle = not_waiting c.self.inside.waits (AwaitsAnswer d.editor) c.self.invariant.waits_is c.if-self.false in
     rw (← c.self.view_is)
     (turn_begun d c.submit.new.self c.next.new.self c.submit.result idle (c.next.ensures.leads d.rest [] LeadsStays)
     c.submit.ensures.turn)
@@ -47,7 +47,7 @@ returns-in-Look-clause-turn g c =
       rest = c.self.inside.agenda;
       did = c.self.inside.did.items;
     } in
-    let idle = not_waiting c.self.inside.waits (IsPending d.editor) c.self.invariant.waits_is c.if-self.false in
+    let idle = not_waiting c.self.inside.waits (AwaitsAnswer d.editor) c.self.invariant.waits_is c.if-self.false in
     rw (← c.self.view_is)
     (if_ok (λ (went : Went). IsTurn (record d { rest = c.next.new.self }) went c.look.new.self)
     (λ (went : Went). IsTurn d went c.look.new.self) c.look.result
@@ -86,7 +86,7 @@ returns-in-Over-clause-turn g c =
       rest = c.self.inside.agenda;
       did = c.self.inside.did.items;
     } in
-    let idle = not_waiting c.self.inside.waits (IsPending d.editor) c.self.invariant.waits_is c.if-self.false in
+    let idle = not_waiting c.self.inside.waits (AwaitsAnswer d.editor) c.self.invariant.waits_is c.if-self.false in
     let way = c.next.ensures.leads d.rest [] LeadsStays in
     rw (← c.self.view_is) (
       record { idle = idle; done = done_before way refl (over_done c.next.new.self c.in-Over.ensures.next) },

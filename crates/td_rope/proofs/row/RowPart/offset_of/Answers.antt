@@ -1,7 +1,7 @@
 use Rattle.std.proofs.Common.{◌≡◌, ◌<◌, ◌∙◌, ◌+◌, ◌^◌, List, ap, arith, subst, take}
 use Rattle.std.specs.List.{All, concat, flat_map}
 use Rattle.td_base.specs.Atom.{IsAtom}
-use Rattle.td_rope.specs.Seats.{IsSeat}
+use Rattle.td_rope.specs.AmongParts.{IsAmongParts}
 use Rattle.td_rope.specs.Units.{offset_of, width}
 use Rattle.td_rope.proofs.Offsets.{offset_seated}
 use Rattle.td_rope.proofs.Sizes.{front_small}
@@ -13,7 +13,7 @@ returns g c =
     let ps = c.self.inside.parts.items in
     let s = c.find-seat.result in
     let unit = c.args.unit in
-    let seat = subst (λ (xs : List _). IsSeat f xs c.args.index s.part s.index) c.deref.ensures.value
+    let seat = subst (λ (xs : List _). IsAmongParts f xs c.args.index s.part s.index) c.deref.ensures.value
     c.find-seat.ensures in
     let before = c.width_in.ensures ∙ c.total-before.ensures.widths unit
     ∙ ap (λ (xs : List _). width unit (concat (flat_map f (take s.part xs)))) c.deref-2.ensures.value in
@@ -27,7 +27,7 @@ overflow_add-result g c =
     let ps = c.self.inside.parts.items in
     let s = c.find-seat.result in
     let unit = c.args.unit in
-    let seat = subst (λ (xs : List _). IsSeat f xs c.args.index s.part s.index) c.deref.ensures.value
+    let seat = subst (λ (xs : List _). IsAmongParts f xs c.args.index s.part s.index) c.deref.ensures.value
     c.find-seat.ensures in
     let before = c.width_in.ensures ∙ c.total-before.ensures.widths unit
     ∙ ap (λ (xs : List _). width unit (concat (flat_map f (take s.part xs)))) c.deref-2.ensures.value in

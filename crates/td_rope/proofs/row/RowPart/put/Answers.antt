@@ -1,7 +1,7 @@
 use Rattle.std.proofs.Common.{◌≡◌, ◌∙◌, List, ℕ, sym, ap, set, subst, length, arith}
 use Rattle.std.specs.List.{flat_map, insert_slice}
 use Rattle.std.proofs.lemmas.List.Folds.{length-flat_map-take}
-use Rattle.td_rope.specs.Seats.{IsSeat}
+use Rattle.td_rope.specs.AmongParts.{IsAmongParts}
 use Rattle.td_rope.specs.Sizes.{IsSize, IsSmall, minus, plus}
 use Rattle.td_rope.specs.declared.size.Size.{Size}
 use Rattle.td_rope.proofs.Joined.{length_put, put_part, same_part}
@@ -16,7 +16,7 @@ put-requires-clause-few g c =
     let s = c.find-seat.result in
     let d = c.index_mut.result.now in
     let all : flat_map f ps ≡ c.args.self.now = c.make_room.ensures.same ∙ c.self.view_is in
-    let seat = subst (λ (q : List _). IsSeat f q c.args.index s.part s.index) c.deref.ensures.value
+    let seat = subst (λ (q : List _). IsAmongParts f q c.args.index s.part s.index) c.deref.ensures.value
     c.find-seat.ensures in
     let has : length (f d) ≡ _ = ap (λ p. length (f p)) c.index_mut.ensures.value in
     omega (arith, has, length-flat_map-take f ps s.part d seat.part_within, ap length all, c.requires.few)
@@ -26,7 +26,7 @@ invariant_of-self-in_err-put g c =
     let f = g.P.Part.atoms in
     let ps = c.make_room.new.parts.items in
     let s = c.find-seat.result in
-    let seat = subst (λ (q : List _). IsSeat f q c.args.index s.part s.index) c.deref.ensures.value
+    let seat = subst (λ (q : List _). IsAmongParts f q c.args.index s.part s.index) c.deref.ensures.value
     c.find-seat.ensures in
     subst (λ (atoms : List (List ℕ)). IsSize atoms c.self.inside.size)
     (sym (same_part f ps s.part c.index_mut.result.now c.put.new.self seat.part_within
@@ -37,7 +37,7 @@ returns-in_err-put-clause-err g c =
     let f = g.P.Part.atoms in
     let ps = c.make_room.new.parts.items in
     let s = c.find-seat.result in
-    let seat = subst (λ (q : List _). IsSeat f q c.args.index s.part s.index) c.deref.ensures.value
+    let seat = subst (λ (q : List _). IsAmongParts f q c.args.index s.part s.index) c.deref.ensures.value
     c.find-seat.ensures in
     on_err c.from_residual-in_err-put.result _
     (same_part f ps s.part c.index_mut.result.now c.put.new.self seat.part_within
@@ -48,7 +48,7 @@ minus-requires g c =
     let f = g.P.Part.atoms in
     let ps = c.make_room.new.parts.items in
     let s = c.find-seat.result in
-    let seat = subst (λ (q : List _). IsSeat f q c.args.index s.part s.index) c.deref.ensures.value
+    let seat = subst (λ (q : List _). IsAmongParts f q c.args.index s.part s.index) c.deref.ensures.value
     c.find-seat.ensures in
     changed_within f ps s.part c.index.result.now c.self.inside.size c.size-before.result seat.part_within
     c.index.ensures
@@ -63,7 +63,7 @@ plus-self-inside-requires g c =
     let s = c.find-seat.result in
     let q = c.put.new.self in
     let all : flat_map f ps ≡ c.args.self.now = c.make_room.ensures.same ∙ c.self.view_is in
-    let seat = subst (λ (q : List _). IsSeat f q c.args.index s.part s.index) c.deref.ensures.value
+    let seat = subst (λ (q : List _). IsAmongParts f q c.args.index s.part s.index) c.deref.ensures.value
     c.find-seat.ensures in
     let done : flat_map f (set ps s.part q) ≡ insert_slice c.args.self.now c.args.index c.args.run.now =
     put_part f ps s.part c.index_mut.result.now q c.args.run.now s.index c.args.index seat c.index_mut.ensures.value
@@ -89,7 +89,7 @@ invariant_of-self-2 g c =
     let ps = c.make_room.new.parts.items in
     let s = c.find-seat.result in
     let q = c.put.new.self in
-    let seat = subst (λ (q : List _). IsSeat f q c.args.index s.part s.index) c.deref.ensures.value
+    let seat = subst (λ (q : List _). IsAmongParts f q c.args.index s.part s.index) c.deref.ensures.value
     c.find-seat.ensures in
     subst (IsSize (flat_map f (set ps s.part q)))
     (sym (c.plus-self-inside.ensures ∙ ap (λ (m : Size). plus m c.size-after.result) c.minus.ensures))
@@ -105,7 +105,7 @@ returns-clause-ok g c =
     let ps = c.make_room.new.parts.items in
     let s = c.find-seat.result in
     let all : flat_map f ps ≡ c.args.self.now = c.make_room.ensures.same ∙ c.self.view_is in
-    let seat = subst (λ (q : List _). IsSeat f q c.args.index s.part s.index) c.deref.ensures.value
+    let seat = subst (λ (q : List _). IsAmongParts f q c.args.index s.part s.index) c.deref.ensures.value
     c.find-seat.ensures in
     put_part f ps s.part c.index_mut.result.now c.put.new.self c.args.run.now s.index c.args.index seat
     c.index_mut.ensures.value c.in_ok-put.ensures.ok

@@ -1,7 +1,7 @@
 use Rattle.std.proofs.Common.{◌≡◌, ◌∙◌, ◌<◌, List, ℕ, sym, ap, set, subst, length, arith}
 use Rattle.std.specs.List.{flat_map, remove}
 use Rattle.std.proofs.lemmas.List.{length-set}
-use Rattle.td_rope.specs.Seats.{IsSeat}
+use Rattle.td_rope.specs.AmongParts.{IsAmongParts}
 use Rattle.td_rope.specs.Sizes.{IsSize, IsSmall, minus, plus}
 use Rattle.td_rope.specs.declared.size.Size.{Size}
 use Rattle.td_rope.proofs.Joined.{empty_part, length_removed, taken_from_part}
@@ -13,7 +13,7 @@ minus-requires g c =
     let f = g.P.Part.atoms in
     let ps = c.self.inside.parts.items in
     let s = c.find-seat.result in
-    let seat = subst (λ (xs : List _). IsSeat f xs c.args.index s.part s.index) c.deref.ensures.value
+    let seat = subst (λ (xs : List _). IsAmongParts f xs c.args.index s.part s.index) c.deref.ensures.value
     c.find-seat.ensures in
     changed_within f ps s.part c.index.result.now c.self.inside.size c.size-before.result seat.part_within
     c.index.ensures c.self.invariant c.size-before.ensures
@@ -25,7 +25,7 @@ plus-self-inside-requires g c =
     let s = c.find-seat.result in
     let q = c.take_out.new.self in
     let within : c.args.index < length (flat_map f ps) = omega (arith, c.requires, ap length c.self.view_is) in
-    let seat = subst (λ (xs : List _). IsSeat f xs c.args.index s.part s.index) c.deref.ensures.value
+    let seat = subst (λ (xs : List _). IsAmongParts f xs c.args.index s.part s.index) c.deref.ensures.value
     c.find-seat.ensures in
     let done : flat_map f (set ps s.part q) ≡ remove (flat_map f ps) c.args.index =
     taken_from_part f ps s.part c.index_mut.result.now q s.index c.args.index seat within c.index_mut.ensures.value
@@ -49,7 +49,7 @@ invariant_of-self g c =
     let ps = c.self.inside.parts.items in
     let s = c.find-seat.result in
     let q = c.take_out.new.self in
-    let seat = subst (λ (xs : List _). IsSeat f xs c.args.index s.part s.index) c.deref.ensures.value
+    let seat = subst (λ (xs : List _). IsAmongParts f xs c.args.index s.part s.index) c.deref.ensures.value
     c.find-seat.ensures in
     let within : s.part < length (set ps s.part q) = omega (arith, seat.part_within, length-set ps s.part q) in
     subst (IsSize (flat_map f c.remove.new.self.items))
@@ -69,7 +69,7 @@ invariant_of-self-else-after-eq0 g c =
     let ps = c.self.inside.parts.items in
     let s = c.find-seat.result in
     let q = c.take_out.new.self in
-    let seat = subst (λ (xs : List _). IsSeat f xs c.args.index s.part s.index) c.deref.ensures.value
+    let seat = subst (λ (xs : List _). IsAmongParts f xs c.args.index s.part s.index) c.deref.ensures.value
     c.find-seat.ensures in
     subst (IsSize (flat_map f (set ps s.part q)))
     (sym (c.plus-self-inside.ensures ∙ ap (λ (m : Size). plus m c.size-after.result) c.minus.ensures))
@@ -84,7 +84,7 @@ returns-then-after-eq0 g c =
     let s = c.find-seat.result in
     let q = c.take_out.new.self in
     let within : c.args.index < length (flat_map f ps) = omega (arith, c.requires, ap length c.self.view_is) in
-    let seat = subst (λ (xs : List _). IsSeat f xs c.args.index s.part s.index) c.deref.ensures.value
+    let seat = subst (λ (xs : List _). IsAmongParts f xs c.args.index s.part s.index) c.deref.ensures.value
     c.find-seat.ensures in
     let there : s.part < length (set ps s.part q) = omega (arith, seat.part_within, length-set ps s.part q) in
     ap (flat_map f) c.remove.ensures.items
@@ -100,7 +100,7 @@ returns-else-after-eq0 g c =
     let ps = c.self.inside.parts.items in
     let s = c.find-seat.result in
     let within : c.args.index < length (flat_map f ps) = omega (arith, c.requires, ap length c.self.view_is) in
-    let seat = subst (λ (xs : List _). IsSeat f xs c.args.index s.part s.index) c.deref.ensures.value
+    let seat = subst (λ (xs : List _). IsAmongParts f xs c.args.index s.part s.index) c.deref.ensures.value
     c.find-seat.ensures in
     taken_from_part f ps s.part c.index_mut.result.now c.take_out.new.self s.index c.args.index seat within
     c.index_mut.ensures.value c.take_out.ensures

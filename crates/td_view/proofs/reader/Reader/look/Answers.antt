@@ -2,16 +2,16 @@ use Rattle.std.proofs.Common.{◌≡◌, sym, ◌∙◌, subst, refl}
 use Rattle.td_view.specs.declared.shown.Shown.{Shown}
 use Rattle.td_view.specs.Deeds.{Publishes, publish_of}
 use Rattle.td_view.specs.Publishes.{EndsWith}
-use Rattle.td_view.specs.Tied.{Stands}
+use Rattle.td_view.specs.Tied.{StandsAtEnd}
 use mathlib.Core.List.{IsPrefix}
 use Rattle.td_view.proofs.Prefixes.{prefix_of, prefix_trans}
 use Rattle.td_view.proofs.Moves.{looks}
 use Rattle.td_view.proofs.reader.Reader.look.Goals as goal
 
 -- a copy of what the text carries ends with the text
-copied : (x y : Shown) (a b : Publishes) → y ≡ x → a ≡ y.past → b ≡ a → Stands x → EndsWith b.log (publish_of y)
+copied : (x y : Shown) (a b : Publishes) → y ≡ x → a ≡ y.past → b ≡ a → StandsAtEnd x → EndsWith b.log (publish_of y)
 copied x y a b same first second stands =
-    let y' : Stands y = subst Stands (sym same) stands in
+    let y' : StandsAtEnd y = subst StandsAtEnd (sym same) stands in
     subst (λ (q : Publishes). EndsWith q.log (publish_of y)) (sym (second ∙ first)) y'.ends
 
 pub enter_as-requires : goal.enter_as-requires

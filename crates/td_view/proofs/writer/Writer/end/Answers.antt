@@ -2,7 +2,7 @@ use Rattle.std.proofs.Common.{◌≡◌, ◌+◌, ◌-◌, ◌∙◌, ap, sym, s
 use Rattle.std.proofs.Common.{length-append, List, ◌++◌, ◌∷◌, [], append-nil, ℕ}
 use Rattle.logbook.specs.Pages.{Book}
 use Rattle.td_view.specs.declared.publish.Publish.{Publish}
-use Rattle.td_view.specs.Publishes.{publish, again, Follows}
+use Rattle.td_view.specs.Publishes.{publish, again, MayFollow}
 use Rattle.td_view.specs.Deeds.{Publishes, publish_of}
 use Rattle.td_view.specs.History.{head_of}
 use Rattle.td_view.specs.Values.{ToldValue, tolds}
@@ -16,7 +16,7 @@ count_down-after-requires-clause-legal g c =
     let i = c.loop-last.invariant in
     let x = c.loop-last.press.desk.shown.value in
     let m = c.loop-last.last in
-    let f = subst (λ (q : Publish). Follows (publish_of x) q) (λ j. publish (sym i.4.1 j) (sym i.4.2 j) m)
+    let f = subst (λ (q : Publish). MayFollow (publish_of x) q) (λ j. publish (sym i.4.1 j) (sym i.4.2 j) m)
     (i.6 c.loop-last-test.true) in
     may_add x c.loop-last.past (publish c.upto-upto.result x.atoms m) i.2 i.3 f
 
