@@ -4,7 +4,10 @@ use Rattle.td_session.proofs.session.Session.open.Goals as goal
 
 pub returns-in-Ok : goal.returns-in-Ok
 returns-in-Ok c = record {
-  ok = (c.in-Some.ensures.0, c.of.ensures ∙ c.in-Ok.ensures ∙ ap (λ (s : ℕ). new_replica s c.args.sites) c.in-Some.ensures.1);
+  ok = (
+    c.in-Some.ensures.0,
+    c.of.ensures ∙ c.in-Ok.ensures ∙ ap (λ (s : ℕ). new_replica s c.args.sites) c.in-Some.ensures.1,
+  );
   memory = λ is. tt;
   other = λ no. absurd (no c.in-Some.ensures.0);
 }
