@@ -97,6 +97,8 @@ fn opened(alloc: Global, disk: MemDisk) -> Result<Kept<Rows, MemDisk>, Fail>
     requires { IsSynced ⟦<MemDisk as Disk>⟧ disk }
     ensures { IfOk result (λ kept. IsAllKept ⟦<MemDisk as Disk>⟧ kept) }
 {
-    let kept: Option<Kept<Rows, MemDisk>> = begin_or_open(alloc, site(1)?, 2, disk).ok();
-    Ok(kept.ok_or("a journal")?)
+    match begin_or_open(alloc, site(1)?, 2, disk) {
+        Ok(kept) => Ok(kept),
+        Err(_) => Err("a journal".into()),
+    }
 }
