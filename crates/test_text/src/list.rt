@@ -3,7 +3,9 @@ ghost use Rattle.std.specs.Prelude.{◌≡◌, ◌<◌, ◌^◌, ◌∷◌, [], 
 use std::alloc::Global;
 use std::process::Abort;
 use td_base::Memory;
-use td_list::{Buffered, Chunked, Deferred, Item, Line, Sequence, Share, reserve_by_quarter};
+use td_list::{
+    Buffered, Chunked, Deferred, Item, Line, Sequence, Share, put_at, reserve_by_quarter,
+};
 
 #[test]
 fn a_list_in_a_line_answers(rt: HostRuntime) -> Result<(), Memory> {
@@ -35,6 +37,23 @@ fn a_list_that_gathers_what_is_typed_answers(rt: HostRuntime) -> Result<(), Memo
     ];
     assert_eq!(rt; weights, [9, 4, 10, 6, 8]);
     Ok(())
+}
+
+#[test]
+fn a_piece_is_put_before_an_item_or_at_the_end(rt: HostRuntime) -> Result<(), Memory> {
+    let list = two_put(rt.alloc())?;
+    assert_eq!(rt;
+        (list.first(), list.last(), list.weight()),
+        (Some(3), Some(5), 3)
+    );
+    Ok(())
+}
+
+fn two_put(alloc: Global) -> Result<Line, Memory> {
+    let mut list = Line::empty(alloc)?;
+    put_at(&mut list, None, &[Item::new(5, 2, false)])?;
+    put_at(&mut list, Some(5), &[Item::new(3, 1, false)])?;
+    Ok(list)
 }
 
 #[test]
