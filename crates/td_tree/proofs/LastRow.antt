@@ -1,30 +1,21 @@
 -- The row that was put last.
-use Rattle.std.proofs.Common.{◌≡◌, ◌≢◌, ◌+◌, ◌<◌, ◌∙◌, ℕ, List, [], ◌∷◌, ◌++◌, length, get_or, Option, Some, None}
-use Rattle.std.proofs.Common.{true, slice_get, refl, sym, ap, subst, arith, length-append, true≢false}
+use Rattle.std.proofs.Common.{◌≡◌, ◌≢◌, ◌+◌, ◌*◌, ◌<◌, ◌∙◌, ℕ, List, [], ◌∷◌, ◌++◌, length, get_or, Option, Some, None}
+use Rattle.std.proofs.Common.{sym, ap, subst, arith, length-append, true≢false}
 use Rattle.std.specs.Prelude.{IfSome}
-use Rattle.std.specs.Option.{option_map}
 use Rattle.std.proofs.lemmas.List.{get_or_push}
-use Rattle.std.proofs.lemmas.Option.{slice_get-map, same_Some}
-use Rattle.td_base.specs.RunAtoms.{NamedAtom}
-use Rattle.td_base.proofs.Elements.{In-slice_get}
-use Rattle.td_base.proofs.Lists.{In-filter}
-use Rattle.td_path.specs.declared.slot.Slot.{Slot}
 use Rattle.td_base.specs.Value.{AtomIdValue}
-use Rattle.td_doc.specs.Document.{DocRow, row_id, find_row, is_live, live_rows, live_id_at, is_empty_list, IsDocument}
-use Rattle.td_doc.specs.Array.{named}
-use Rattle.td_doc.specs.Flatten.{flatten}
-use Rattle.td_doc.specs.Answers.{is_live_found, is_live_id, live_before}
-use Rattle.td_doc.proofs.LiveIndex.{found_at_index, index_of_found}
-use Rattle.td_doc.proofs.Flattened.{flatten_keeps_live}
-use Rattle.td_doc.proofs.SubtreeRows.{find_in}
+use Rattle.td_doc.specs.Document.{find_row, live_id_at, is_empty_list}
+use Rattle.td_doc.specs.Answers.{is_live_found, live_before}
+use Rattle.td_doc.proofs.LiveIndex.{found_at_index}
 use Rattle.td_brackets.specs.Brackets.{Entry}
+use Rattle.td_list.specs.Items.{first_name, items_after}
 use Rattle.td_identities.specs.declared.identities.Identities.{Identities}
 use Rattle.td_identities.specs.Identities.{number_of}
 use Rattle.td_identities.specs.Numbers.{with_run}
 use Rattle.td_tree.specs.declared.last.Last.{Last}
 use Rattle.td_tree.specs.declared.tree_row.RowState.TheVariants.{Node, Gone}
 use Rattle.td_tree.specs.Parts.{RowValue, Parts, nobody, row_at, state_at, table}
-use Rattle.td_tree.specs.Parts.{doc_rows, IsTree, IsMoreOpen, IsFlattened}
+use Rattle.td_tree.specs.Parts.{doc_rows, IsTree}
 use Rattle.td_tree.specs.Last.{IsLast}
 use Rattle.td_tree.specs.Whole.{IsWhole}
 use Rattle.td_tree.proofs.RowsFound.{found_row, gone_found}
@@ -45,20 +36,17 @@ pub index_as : (o : Option ℕ) (a b : ℕ) → a ≡ b → IfSome o (λ n. n �
 index_as None a b e h = tt
 index_as (Some n) a b e h = h ∙ e
 
--- in the same rows, with the same numbers
-pub same_last : (p q : Parts) (old new : Identities) (o : Option Last) → doc_rows q ≡ doc_rows p
-    → ((x : AtomIdValue) → number_of new x ≡ number_of old x) → IfSome o (IsLast p old) → IfSome o (IsLast q new)
-same_last p q old new None e h k = tt
-same_last p q old new (Some last) e h k = record {
-  live = ap (λ (rows : List DocRow). is_live_id rows last.id) e ∙ k.live;
+-- with the same numbers
+pub same_last : (p : Parts) (old new : Identities) (o : Option Last)
+    → ((x : AtomIdValue) → number_of new x ≡ number_of old x) → IfSome o (IsLast p old) → IfSome o (IsLast p new)
+same_last p old new None h k = tt
+same_last p old new (Some last) h k = record {
+  live = k.live;
   number = h last.id ∙ k.number;
-  index = index_as last.index (live_before last.id (doc_rows p)) (live_before last.id (doc_rows q))
-      (ap (live_before last.id) (sym e)) k.index;
+  index = k.index;
+  node = k.node;
+  alone = k.alone;
 }
-
-pub open_last : (p q : Parts) (identities : Identities) (o : Option Last) → IsMoreOpen p q
-    → IfSome o (IsLast p identities) → IfSome o (IsLast q identities)
-open_last p q identities o k h = same_last p q identities identities o k.rows (λ x. refl) h
 
 -- its number is that of a row
 pub last_row : (p : Parts) (identities : Identities) (seen : List ℕ) → IsWhole p identities seen → (last : Last)
@@ -78,45 +66,6 @@ pub last_at : (p : Parts) → IsTree p → (identities : Identities) (last : Las
 last_at p t identities last k index e =
     sym (ap (live_id_at (doc_rows p)) (index_is p identities last k index e)
     ∙ found_at_index (doc_rows p) last.id t.brackets.document k.live)
-
--- a flatten leaves it a live row at its index
-
-live_row_id : (rows : List DocRow) (index : ℕ) (x : AtomIdValue) → IsDocument rows → (o : Option DocRow)
-    → slice_get (live_rows rows) index ≡ o → option_map row_id o ≡ Some x → is_live_id rows x ≡ true
-live_row_id rows index x d None e h = absurd cc
-live_row_id rows index x d (Some r) e h =
-    let k = In-filter is_live r rows (In-slice_get (live_rows rows) index r e) in
-    ap (is_live_id rows) (sym (same_Some (row_id r) x h)) ∙ ap is_live_found (find_in rows r d.apart k.0) ∙ k.1
-
-same_live_id : (rows : List DocRow) (slot : Slot) → IsDocument rows → (index : ℕ)
-    → live_id_at (flatten slot rows) index ≡ live_id_at rows index
-same_live_id rows slot d index =
-    through (slice_get (live_rows (flatten slot rows)) index)
-    ∙ ap (option_map (λ (a : NamedAtom). a.id))
-    (sym (slice_get-map named (live_rows (flatten slot rows)) index)
-    ∙ ap (λ (xs : List NamedAtom). slice_get xs index) (flatten_keeps_live rows slot d)
-    ∙ slice_get-map named (live_rows rows) index)
-    ∙ sym (through (slice_get (live_rows rows) index))
-  where
-    through : (o : Option DocRow) → option_map row_id o ≡ option_map (λ (a : NamedAtom). a.id) (option_map named o)
-    through None = refl
-    through (Some r) = refl
-
-pub flat_last : (p q : Parts) (identities : Identities) (slot : Slot) → IsTree p → IsFlattened p q slot
-    → (o : Option Last) → IfSome o (IsLast p identities) → IfSome o (IsLast q identities)
-flat_last p q identities slot t f None k = tt
-flat_last p q identities slot t f (Some last) k =
-    let index : ℕ = live_before last.id (doc_rows p) in
-    let at : live_id_at (doc_rows q) index ≡ Some last.id =
-    ap (λ (rows : List DocRow). live_id_at rows index) f.rows ∙ same_live_id (doc_rows p) slot t.brackets.document index
-    ∙ found_at_index (doc_rows p) last.id t.brackets.document k.live in
-    record {
-      live = live_row_id (doc_rows q) index last.id f.tree.brackets.document
-          (slice_get (live_rows (doc_rows q)) index) refl at;
-      number = k.number;
-      index = index_as last.index index (live_before last.id (doc_rows q))
-          (sym (index_of_found (doc_rows q) index last.id f.tree.brackets.document at)) k.index;
-    }
 
 -- a row that was just put
 module _ (p q : Parts) (id : AtomIdValue) (atom : List ℕ) (row : ℕ) (number : row ≡ length p.rows)
@@ -139,8 +88,9 @@ module _ (p q : Parts) (id : AtomIdValue) (atom : List ℕ) (row : ℕ) (number 
     pub put_last : IsTree q → (old new : Identities)
         → ((x : AtomIdValue) → number_of new x ≡ with_run id (record { first = row; count = 1 }) x (number_of old x))
         → (index : Option ℕ) → IfSome index (λ n. n ≡ live_before (table q row).id (doc_rows q))
+        → first_name (items_after (3 * row + 1) q.items) ≡ Some (3 * row + 2)
         → IsLast q new (record { id = id; row = row; index = index })
-    put_last tree old new numbers index e =
+    put_last tree old new numbers index e alone =
         let f = found_row q tree row put_known (λ g. not_gone (sym put_node ∙ g)) in
         let none : id.offset ≡ id.offset + 0 = omega arith in
         let first : row + 0 ≡ row = omega arith in
@@ -153,6 +103,8 @@ module _ (p q : Parts) (id : AtomIdValue) (atom : List ℕ) (row : ℕ) (number 
               ∙ run_new id row 1 0 (number_of old id) (omega arith) ∙ ap (λ (n : ℕ). Some n) first;
           index = index_as index (live_before (table q row).id (doc_rows q)) (live_before id (doc_rows q))
               (ap (λ (x : AtomIdValue). live_before x (doc_rows q)) named) e;
+          node = put_node;
+          alone = alone;
         }
       where
         not_gone : Node ≡ Gone → ⊥

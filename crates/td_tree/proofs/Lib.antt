@@ -30,7 +30,8 @@ pub mod PutRun
 pub mod RowsFound
 pub mod Walked
 pub mod KnownWalks
-pub mod CountedRows
+pub mod BehindLast
+mod CountedRows
 pub mod Texts
 pub mod Indexes
 pub mod SlotsAfter

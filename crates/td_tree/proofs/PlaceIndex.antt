@@ -1,32 +1,30 @@
 -- The number of live rows before the place of a new row, by the weight of the items before it.
-use Rattle.std.proofs.Common.{◌≡◌, ◌+◌, ◌*◌, ◌/◌, ◌%◌, ◌^◌, ◌<◌, ◌≤◌, ◌∙◌, ℕ, suc, zero, List, [], ◌∷◌}
-use Rattle.std.proofs.Common.{◌++◌, Bool, true, if◌then◌else◌, not, nat_eq, length, Option, Some, refl}
+use Rattle.std.proofs.Common.{◌≡◌, ◌+◌, ◌*◌, ◌^◌, ◌<◌, ◌≤◌, ◌∙◌, ℕ, List, [], ◌∷◌}
+use Rattle.std.proofs.Common.{◌++◌, Bool, true, if◌then◌else◌, length, Option, Some, refl}
 use Rattle.std.proofs.Common.{sym, ap, subst, inl, arith, append_assoc}
-use Rattle.std.specs.Option.{option_eq}
 use Rattle.std.proofs.lemmas.List.{append-nil}
 use Rattle.td_base.specs.Lists.{In}
 use Rattle.td_base.specs.Value.{AtomIdValue}
 use Rattle.td_path.specs.declared.slot.Slot.{Slot}
 use Rattle.td_doc.specs.Document.{is_empty_list}
 use Rattle.td_doc.specs.Answers.{is_live_found, is_live_id, live_before}
-use Rattle.td_list.specs.Items.{Item, IsItem, AreApart, first_name, items_before, items_after, put_at}
+use Rattle.td_list.specs.Items.{Item, AreApart, first_name, items_before, items_after, put_at}
 use Rattle.td_list.specs.Items.{weight_of}
 use Rattle.td_list.proofs.Names.{weight-append, apart-parts}
 use Rattle.td_list.proofs.Parted.{before_at}
 use Rattle.td_brackets.specs.Brackets.{Entry}
-use Rattle.td_tree.specs.declared.tree_row.RowState.{RowState}
 use Rattle.td_tree.specs.declared.tree_row.RowState.TheVariants.{Node, Gone}
 use Rattle.td_tree.specs.Parts.{Parts, state_at, table, token_weight, doc_rows, open_item}
-use Rattle.td_tree.specs.Parts.{atom_item, close_item, node_items, IsKind, IsTree}
+use Rattle.td_tree.specs.Parts.{atom_item, close_item, node_items, IsTree}
 use Rattle.td_tree.specs.Places.{IsPlace}
 use Rattle.td_tree.specs.Stretches.{items_up_to}
-use Rattle.td_tree.proofs.Lent.{same_end}
 use Rattle.td_tree.proofs.Grown.{put_parts}
 use Rattle.td_tree.proofs.Indexes.{index_is, light_before}
 use Rattle.td_tree.proofs.LastRow.{put_known, put_node}
 use Rattle.td_tree.proofs.NodeParts.{node_at, atom_in, atom_there}
 use Rattle.td_tree.proofs.Orders.{item_in}
-use Rattle.td_tree.proofs.RowPlaces.{item_of, place_of_node}
+use Rattle.td_tree.proofs.Places.{after_item}
+use Rattle.td_tree.proofs.RowPlaces.{place_of_node}
 use Rattle.td_tree.proofs.RowsFound.{found_row}
 
 -- the items before a place
@@ -80,27 +78,25 @@ module _ (p : Parts) (t : IsTree p) where
       let before = index_is p t r (3 * r + 1) 0 (place_of_node p t r l s (atom_there p r (node_at p t r l s))) in
       omega arith
 
-  -- what is closed is a node
-  closed_node : (r : ℕ) → IsItem (3 * r + 2) p.items → (r < length p.rows) × (state_at p r ≡ Node)
-  closed_node r h =
-      let i = item_of p t (3 * r + 2) h in
-      let k = t.each i.0 i.1 in
-      let name = i.2 in
-      let row : i.0.name / 3 ≡ r = omega arith in (
-        subst (λ (x : ℕ). x < length p.rows) row k.known,
-        ap (state_at p) (sym row)
-            ∙ kind_node (i.0.name % 3) (state_at p (i.0.name / 3)) i.0.weight (omega arith) k.kind,
-      )
-    where
-      kind_node : (k : ℕ) (s : RowState) (w : ℕ) → k ≡ 2 → IsKind p k s w → s ≡ Node
-      kind_node zero s w e h = absurd (omega arith)
-      kind_node (suc zero) s w e h = absurd (omega arith)
-      kind_node (suc (suc k)) s w e h = h
+-- the items with a new row
+put_is : (p q : Parts) → IsTree p → (slot : Slot) (id : AtomIdValue) (at : Option ℕ) → (place : IsPlace p slot id at)
+    → q.items ≡ put_at at (node_items (length p.rows) [] []) p.items
+    → q.items ≡ (place.front ++ open_item (length p.rows) ∷ []) ++ atom_item (length p.rows) 1
+    ∷ close_item (length p.rows) ∷ place.back
+put_is p q t slot id at place items =
+    let n : ℕ = length p.rows in
+    items ∙ ap (put_at at (node_items n [] [])) place.is
+    ∙ put_parts at (node_items n [] []) place.front place.back (subst AreApart place.is t.apart) place.here
+    ∙ sym (append_assoc place.front (open_item n ∷ []) (atom_item n 1 ∷ close_item n ∷ place.back))
 
-  pub closed_at : (r : ℕ) (at : Option ℕ) (name : ℕ) → ((x : ℕ) → at ≡ Some x → IsItem x p.items) → true
-      ≡ option_eq nat_eq at (Some name) → name ≡ 3 * r + 2 → (r < length p.rows) × (state_at p r ≡ Node)
-  closed_at r at name there e is = closed_node r
-      (there (3 * r + 2) (same_end at (Some name) (ap not (sym e)) ∙ ap (λ (x : ℕ). Some x) is))
+-- nothing stands on its right
+pub alone_put : (p q : Parts) → IsTree p → IsTree q → (slot : Slot) (id : AtomIdValue) (at : Option ℕ)
+    → IsPlace p slot id at → q.items ≡ put_at at (node_items (length p.rows) [] []) p.items
+    → first_name (items_after (3 * length p.rows + 1) q.items) ≡ Some (3 * length p.rows + 2)
+alone_put p q t u slot id at place items =
+    let n : ℕ = length p.rows in
+    ap first_name (after_item q u (place.front ++ open_item n ∷ []) (atom_item n 1) (close_item n ∷ place.back)
+    (put_is p q t slot id at place items))
 
 -- a new row is at the index of its place
 pub index_of_put : (p q : Parts) → IsTree p → IsTree q
@@ -116,10 +112,7 @@ index_of_put p q t u slot id atom at place rows items =
     let was : AreApart (place.front ++ place.back) = subst AreApart place.is t.apart in
     let front : List Item = place.front ++ open_item n ∷ [] in
     let back : List Item = close_item n ∷ place.back in
-    let is : q.items ≡ front ++ atom_item n 1 ∷ back =
-    items ∙ ap (put_at at (node_items n [] [])) place.is
-    ∙ put_parts at (node_items n [] []) place.front place.back was place.here
-    ∙ sym (append_assoc place.front (open_item n ∷ []) (atom_item n 1 ∷ back)) in
+    let is : q.items ≡ front ++ atom_item n 1 ∷ back = put_is p q t slot id at place items in
     let now : AreApart (front ++ atom_item n 1 ∷ back) = subst AreApart is u.apart in
     let before = ap weight_of (ap (items_before (3 * n + 1)) is
     ∙ before_at (3 * n + 1) front (atom_item n 1) back refl

@@ -1,6 +1,6 @@
 -- Places of new rows among the items of a tree.
 use Rattle.std.specs.Prelude.{◌≡◌, ◌≢◌, ◌⊎◌, ◌+◌, ◌/◌, ◌%◌, ◌++◌, ℕ, suc, List, [], ◌∷◌}
-use Rattle.std.specs.Prelude.{false, length, Option, Some, None, IsTrue}
+use Rattle.std.specs.Prelude.{false, length, Option, Some, IsTrue}
 use Rattle.std.specs.Ordering.{is_lt}
 use Rattle.td_base.specs.Order.{id_cmp}
 use Rattle.std.specs.declared.cmp.Ordering.TheVariants.{Less}

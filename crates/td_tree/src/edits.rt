@@ -1,25 +1,69 @@
 // What inserts do in turn: find a place, and put rows there.
 ghost use Rattle.std.specs.Prelude.{◌≡◌, ◌+◌, IsTrue, IsNone, IfSome, IfOk, IfErr, OnOk, OnErr};
 ghost use Rattle.std.specs.Option.{ForSome};
+ghost use Rattle.td_base.specs.declared.bit.Bit.TheVariants.{Right};
 ghost use Rattle.td_doc.specs.Document.{find_row};
 ghost use Rattle.td_doc.specs.Answers.{IsFresh, IsSlotFault, is_rooted};
 ghost use Rattle.td_doc.specs.Insertion.{insert_atom, insert_run};
 ghost use Rattle.td_list.specs.Items.{IsItem, weight_of};
 ghost use Rattle.td_path.specs.declared.slot.Slot.{Slot};
+ghost use Rattle.td_path.specs.declared.slot.Slot.TheVariants.{At};
+ghost use Rattle.td_tree.specs.Last.{IsEmptyEnd};
 ghost use Rattle.td_tree.specs.Nodes.{AddsFewIn};
 ghost use Rattle.td_tree.specs.Places.{IsNewPlace, top_id};
 ghost use Rattle.td_tree.specs.Parts.{doc_rows, nodes_of, tokens};
 ghost use Rattle.td_tree.specs.Stretches.{items_up_to};
 
+use crate::item_of::close_item;
 use crate::last::Last;
 use crate::tree::Tree;
-use td_base::{Atom, AtomId, Dot, Memory, Run};
+use td_base::{Atom, AtomId, Bit, Dot, Memory, Run};
 use td_doc::DocFault;
 use td_path::Slot;
 
 impl Tree {
+    /// The token that ends a slot, where that is the right side of the row put last: nothing stands there.
+    pub(crate) fn end_behind_last(&self, slot: &Slot) -> Option<u32>
+        ensures { IfSome result (IsEmptyEnd self.now slot.now) }
+    {
+        match *slot {
+            Slot::At {
+                atom,
+                bit: Bit::Right,
+            } => self.end_behind(atom),
+            _ => None,
+        }
+    }
+
+    // The same of the right side of an atom.
+    fn end_behind(&self, atom: AtomId) -> Option<u32>
+        ensures { IfSome result (IsEmptyEnd self.now (At atom Right)) }
+    {
+        if let Some(last) = self.last
+            && last.id == atom
+        {
+            return Some(close_item(last.row).name());
+        }
+        None
+    }
+
     /// The token before which a new row is put in a slot; a leaf on the way is opened.
     pub(crate) fn place_in(&mut self, slot: Slot, id: AtomId) -> Result<Option<u32>, DocFault>
+        requires { IsNone (find_row id (doc_rows self.old)) }
+        ensures place { IfOk result (λ at. IsNewPlace self.new slot id at) }
+        ensures rooted { OnOk result (IsTrue (is_rooted (doc_rows self.old) slot)) }
+        ensures fault { IfErr result (IsSlotFault (doc_rows self.old) slot) }
+        ensures same { doc_rows self.new ≡ doc_rows self.old }
+        ensures nodes { AddsFewIn self.old self.new slot 0 }
+    {
+        match self.end_behind_last(&slot) {
+            Some(end) => Ok(Some(end)),
+            None => self.place_elsewhere(slot, id),
+        }
+    }
+
+    // The same where that is not right behind the row put last.
+    fn place_elsewhere(&mut self, slot: Slot, id: AtomId) -> Result<Option<u32>, DocFault>
         requires { IsNone (find_row id (doc_rows self.old)) }
         ensures place { IfOk result (λ at. IsNewPlace self.new slot id at) }
         ensures rooted { OnOk result (IsTrue (is_rooted (doc_rows self.old) slot)) }
@@ -31,6 +75,7 @@ impl Tree {
             Slot::Root => Ok(self.tokens.place_in_root(id)),
             Slot::At { atom, bit } => match self.number(atom) {
                 Some(row) => {
+                    self.last = None;
                     self.tokens.open_to(row)?;
                     Ok(self.tokens.place_on(row, bit, id))
                 }
@@ -46,7 +91,7 @@ impl Tree {
         ensures { IfSome result (λ n. n ≡ weight_of (items_up_to at self.now.items)) }
     {
         match self.last {
-            Some(last) if self.tokens.is_behind(last.row, at) => match last.index {
+            Some(last) if at == Some(close_item(last.row).name()) => match last.index {
                 Some(index) => Some(index + 1),
                 None => Some(self.tokens.index_at(at)),
             },

@@ -1,17 +1,16 @@
 // What is told of a row.
-ghost use Rattle.std.specs.Prelude.{◌≡◌, ◌≢◌, ◌<◌, ◌+◌, ◌*◌, ◌++◌, ◌∷◌, [], List, Some, length, IsTrue};
+ghost use Rattle.std.specs.Prelude.{◌≡◌, ◌≢◌, ◌<◌, ◌+◌, ◌*◌, ◌++◌, ◌∷◌, [], List, Some, length};
 ghost use Rattle.std.specs.Option.{ForSome};
 ghost use Rattle.td_doc.specs.Document.{DocRow, find_row};
 ghost use Rattle.td_doc.specs.Slots.{own_slot};
 ghost use Rattle.td_doc.specs.Answers.{row_told, live_before};
-ghost use Rattle.td_list.specs.Items.{Item, IsItem, items_after, first_name, weight_of};
+ghost use Rattle.td_list.specs.Items.{Item, IsItem, weight_of};
 ghost use Rattle.td_brackets.specs.Brackets.{move_all, slot_round};
-ghost use Rattle.td_tree.specs.declared.tree_row.RowState.TheVariants.{Node, Gone};
+ghost use Rattle.td_tree.specs.declared.tree_row.RowState.TheVariants.{Gone};
 ghost use Rattle.td_tree.specs.Parts.{state_at, table, tokens_of, doc_rows, IsTree};
 ghost use Rattle.td_tree.specs.Stretches.{items_up_to};
 ghost use Rattle.td_tree.specs.Walks.{StepsOver, ended_side};
 
-use crate::item_of::{atom_item, close_item};
 use crate::tokens::Tokens;
 use crate::tree_row::RowState;
 use td_base::{Atom, Bit};
@@ -65,17 +64,6 @@ impl Tokens {
             Some(name) => self.list.weight_before(name),
             None => self.list.weight(),
         }
-    }
-
-    /// Whether a place is right behind the atom of a row, on whose right nothing stands.
-    pub fn is_behind(&self, row: u32, at: Option<u32>) -> bool
-        requires tree { IsTree self.now }
-        requires row { row < length self.now.rows }
-        requires there { ForSome at (λ x. IsItem x self.now.items) }
-        ensures node { IsTrue result → state_at self.now row ≡ Node }
-        ensures next { IsTrue result → first_name (items_after (3 * row + 1) self.now.items) ≡ at }
-    {
-        at == Some(close_item(row).name()) && self.next(atom_item(row, 0).name()) == at
     }
 
     // The slot in which a row stands.

@@ -104,10 +104,10 @@ impl Doc for Tree {
     {
         match self.number(id) {
             Some(row) => {
+                self.last = None;
                 self.tokens.open_to(row)?;
                 self.tokens.delete_row(row, by)?;
                 self.seen.add(by);
-                self.last = None;
                 Ok(())
             }
             None => Err(DocFault::Gone { id }),
@@ -124,11 +124,13 @@ impl Doc for Tree {
     {
         match slot {
             Slot::Root => {
+                self.last = None;
                 self.tokens.flatten_root()?;
                 Ok(())
             }
             Slot::At { atom, bit } => match self.number(atom) {
                 Some(row) => {
+                    self.last = None;
                     self.tokens.open_to(row)?;
                     self.tokens.flatten_side(row, bit)?;
                     Ok(())
@@ -188,6 +190,9 @@ impl Doc for Tree {
     }
 
     fn slot_empty(&self, slot: Slot) -> bool {
+        if let Some(_) = self.end_behind_last(&slot) {
+            return true;
+        }
         match slot {
             Slot::Root => self.rows() == 0,
             Slot::At { atom, bit } => match self.number(atom) {

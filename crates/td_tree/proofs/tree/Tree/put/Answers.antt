@@ -1,4 +1,4 @@
-use Rattle.std.proofs.Common.{refl, ◌≡◌, ◌∙◌, ◌+◌, ℕ, None, sym, ap, subst}
+use Rattle.std.proofs.Common.{◌≡◌, ◌∙◌, ◌+◌, ◌*◌, ℕ, None, Some, sym, ap, subst}
 use Rattle.std.specs.Prelude.{IfSome, IsTrue, IsNone}
 use Rattle.td_base.specs.Value.{AtomIdValue}
 use Rattle.td_clock.specs.Vector.{vector_has}
@@ -11,12 +11,12 @@ use Rattle.td_tree.specs.Parts.{Parts, table, doc_rows, nodes_of, tokens, IsTree
 use Rattle.td_tree.specs.Places.{IsNewPlace}
 use Rattle.td_tree.specs.Last.{IsLast}
 use Rattle.td_tree.specs.Stretches.{items_up_to}
-use Rattle.td_list.specs.Items.{weight_of}
+use Rattle.td_list.specs.Items.{first_name, items_after, weight_of}
 use Rattle.td_doc.specs.Answers.{live_before}
 use Rattle.td_tree.specs.Whole.{IsWhole}
 use Rattle.td_tree.proofs.Wholes.{none_of, put_whole, same_whole}
 use Rattle.td_tree.proofs.LastRow.{index_as, same_last, put_last}
-use Rattle.td_tree.proofs.PlaceIndex.{index_of_put}
+use Rattle.td_tree.proofs.PlaceIndex.{index_of_put, alone_put}
 use Rattle.td_tree.proofs.PutRow.{place_there}
 use Rattle.td_tree.proofs.tree.Tree.put.Goals as goal
 
@@ -30,8 +30,7 @@ pub invariant_of-self : goal.invariant_of-self
 invariant_of-self c = (
   same_whole c.self.inside.tokens c.self.inside.identities c.make_room.new.self
       c.self.inside.seen c.self.invariant.0 c.make_room.ensures.same,
-  same_last c.self.inside.tokens
-      c.self.inside.tokens c.self.inside.identities c.make_room.new.self c.self.inside.last refl
+  same_last c.self.inside.tokens c.self.inside.identities c.make_room.new.self c.self.inside.last
       c.make_room.ensures.same c.self.invariant.1,
 )
 
@@ -41,8 +40,8 @@ invariant_of-self-in_err-put_row c =
     × IfSome c.self.inside.last (IsLast p c.make_room.new.self)) (sym c.in_err-put_row.ensures.err) (
       same_whole c.self.inside.tokens c.self.inside.identities c.make_room.new.self c.self.inside.seen
           c.self.invariant.0 c.make_room.ensures.same,
-      same_last c.self.inside.tokens c.self.inside.tokens
-          c.self.inside.identities c.make_room.new.self c.self.inside.last refl c.make_room.ensures.same
+      same_last c.self.inside.tokens c.self.inside.identities c.make_room.new.self c.self.inside.last
+          c.make_room.ensures.same
           c.self.invariant.1,
     )
 
@@ -73,7 +72,10 @@ invariant_of-self-2 c =
           (ap (λ (q : Parts). weight_of (items_up_to c.args.at q.items)) (sym c.self.view_is)
           ∙ index_of_put p now w.tree tree place.0 c.args.id c.args.atom.now c.args.at place.1.place put.rows put.items
           ∙ ap (λ (n : ℕ). live_before (table now n).id (doc_rows now)) (sym c.next_row-row.ensures.number))
-          c.index_at-index.ensures),
+          c.index_at-index.ensures)
+          (ap (λ (n : ℕ). first_name (items_after (3 * n + 1) now.items)) c.next_row-row.ensures.number
+          ∙ alone_put p now w.tree tree place.0 c.args.id c.args.at place.1.place put.items
+          ∙ ap (λ (n : ℕ). Some (3 * n + 2)) (sym c.next_row-row.ensures.number)),
     )
 
 pub returns-clause-nodes : goal.returns-clause-nodes

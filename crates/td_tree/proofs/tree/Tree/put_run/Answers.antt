@@ -1,4 +1,4 @@
-use Rattle.std.proofs.Common.{refl, ◌∙◌, sym, ap, subst}
+use Rattle.std.proofs.Common.{◌∙◌, sym, ap, subst}
 use Rattle.std.specs.Prelude.{IfSome, IsTrue}
 use Rattle.td_path.specs.declared.slot.Slot.{Slot}
 use Rattle.td_doc.specs.Answers.{IsFresh, is_rooted}
@@ -16,8 +16,7 @@ pub invariant_of-self : goal.invariant_of-self
 invariant_of-self c = (
   same_whole c.self.inside.tokens c.self.inside.identities c.make_room.new.self
       c.self.inside.seen c.self.invariant.0 c.make_room.ensures.same,
-  same_last c.self.inside.tokens
-      c.self.inside.tokens c.self.inside.identities c.make_room.new.self c.self.inside.last refl
+  same_last c.self.inside.tokens c.self.inside.identities c.make_room.new.self c.self.inside.last
       c.make_room.ensures.same c.self.invariant.1,
 )
 
@@ -27,8 +26,8 @@ invariant_of-self-in_err-put_run c =
     × IfSome c.self.inside.last (IsLast p c.make_room.new.self)) (sym c.in_err-put_run.ensures.err) (
       same_whole c.self.inside.tokens c.self.inside.identities c.make_room.new.self c.self.inside.seen
           c.self.invariant.0 c.make_room.ensures.same,
-      same_last c.self.inside.tokens c.self.inside.tokens
-          c.self.inside.identities c.make_room.new.self c.self.inside.last refl c.make_room.ensures.same
+      same_last c.self.inside.tokens c.self.inside.identities c.make_room.new.self c.self.inside.last
+          c.make_room.ensures.same
           c.self.invariant.1,
     )
 

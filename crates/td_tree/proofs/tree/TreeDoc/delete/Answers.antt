@@ -1,5 +1,4 @@
 use Rattle.std.proofs.Common.{◌∙◌, List, sym, ap, subst, arith}
-use Rattle.std.specs.Prelude.{IfSome}
 use Rattle.td_base.specs.Value.{AtomIdValue}
 use Rattle.td_doc.specs.Document.{DocRow}
 use Rattle.td_doc.specs.Deletion.{delete}
@@ -8,26 +7,22 @@ use Rattle.td_tree.specs.Whole.{IsWhole}
 use Rattle.td_tree.proofs.Wholes.{open_whole, deleted_whole, is_row_at}
 use Rattle.td_tree.specs.Nodes.{AddsFew}
 use Rattle.td_tree.proofs.LeafNodes.{opened_at, few_more}
-use Rattle.td_tree.specs.Last.{IsLast}
-use Rattle.td_tree.proofs.LastRow.{open_last}
 use Rattle.td_tree.proofs.tree.TreeDoc.delete.Goals as goal
 
 pub invariant_of-self : goal.invariant_of-self
 invariant_of-self c = (
   open_whole c.self.inside.tokens c.open_to.new.self c.self.inside.identities c.self.inside.seen c.self.invariant.0
       c.open_to.ensures.kept,
-  open_last c.self.inside.tokens c.open_to.new.self c.self.inside.identities c.self.inside.last c.open_to.ensures.kept
-      c.self.invariant.1,
+  tt,
 )
 
 pub invariant_of-self-in_err-delete_row-in-Some : goal.invariant_of-self-in_err-delete_row-in-Some
 invariant_of-self-in_err-delete_row-in-Some c =
-    subst (λ (p : Parts). IsWhole p c.self.inside.identities c.self.inside.seen
-    × IfSome c.self.inside.last (IsLast p c.self.inside.identities)) (sym c.in_err-delete_row-in-Some.ensures.err) (
+    subst (λ (p : Parts). IsWhole p c.self.inside.identities c.self.inside.seen × Unit {0})
+    (sym c.in_err-delete_row-in-Some.ensures.err) (
       open_whole c.self.inside.tokens c.open_to.new.self c.self.inside.identities c.self.inside.seen
           c.self.invariant.0 c.open_to.ensures.kept,
-      open_last c.self.inside.tokens c.open_to.new.self c.self.inside.identities c.self.inside.last
-          c.open_to.ensures.kept c.self.invariant.1,
+      tt,
     )
 
 pub invariant_of-self-in-Some : goal.invariant_of-self-in-Some

@@ -1,5 +1,5 @@
 use Rattle.std.proofs.Common.{◌≡◌, ◌∙◌, ap, sym, subst, arith}
-use Rattle.std.specs.Prelude.{IfSome, IsTrue}
+use Rattle.std.specs.Prelude.{IsTrue}
 use Rattle.td_base.specs.Value.{AtomIdValue}
 use Rattle.td_base.specs.declared.bit.Bit.{Bit}
 use Rattle.td_path.specs.declared.slot.Slot.{Slot}
@@ -12,35 +12,29 @@ use Rattle.td_tree.proofs.Wholes.{open_whole, is_row_at}
 use Rattle.td_tree.proofs.FlatWholes.{flat_whole}
 use Rattle.td_tree.specs.Nodes.{AddsFewIn}
 use Rattle.td_tree.proofs.LeafNodes.{opened_at, few_more_in, few_at}
-use Rattle.td_tree.specs.Last.{IsLast}
-use Rattle.td_tree.proofs.LastRow.{open_last, flat_last}
 use Rattle.td_tree.proofs.tree.TreeDoc.flatten.Goals as goal
 
 pub invariant_of-self-in-Root : goal.invariant_of-self-in-Root
 invariant_of-self-in-Root c = (
   flat_whole c.self.inside.tokens c.flatten_root.new.self c.self.inside.identities c.self.inside.seen Root
       c.self.invariant.0 c.in_ok-flatten_root-in-Root.ensures.ok,
-  flat_last c.self.inside.tokens c.flatten_root.new.self c.self.inside.identities Root c.self.invariant.0.tree
-      c.in_ok-flatten_root-in-Root.ensures.ok c.self.inside.last c.self.invariant.1,
+  tt,
 )
 
 pub invariant_of-self-in_err-open_to-in-Some : goal.invariant_of-self-in_err-open_to-in-Some
 invariant_of-self-in_err-open_to-in-Some c = (
   open_whole c.self.inside.tokens c.open_to.new.self c.self.inside.identities c.self.inside.seen c.self.invariant.0
       c.open_to.ensures.kept,
-  open_last c.self.inside.tokens c.open_to.new.self c.self.inside.identities c.self.inside.last c.open_to.ensures.kept
-      c.self.invariant.1,
+  tt,
 )
 
 pub invariant_of-self-in_err-flatten_side-in-Some : goal.invariant_of-self-in_err-flatten_side-in-Some
 invariant_of-self-in_err-flatten_side-in-Some c =
-    subst (λ (p : Parts). IsWhole p c.self.inside.identities c.self.inside.seen
-    × IfSome c.self.inside.last (IsLast p c.self.inside.identities))
+    subst (λ (p : Parts). IsWhole p c.self.inside.identities c.self.inside.seen × Unit {0})
     (sym c.in_err-flatten_side-in-Some.ensures.err) (
       open_whole c.self.inside.tokens c.open_to.new.self c.self.inside.identities c.self.inside.seen
           c.self.invariant.0 c.open_to.ensures.kept,
-      open_last c.self.inside.tokens c.open_to.new.self c.self.inside.identities c.self.inside.last
-          c.open_to.ensures.kept c.self.invariant.1,
+      tt,
     )
 
 pub invariant_of-self-in-Some : goal.invariant_of-self-in-Some
@@ -49,11 +43,7 @@ invariant_of-self-in-Some c = (
       (At (table c.open_to.new.self c.in-Some.row).id c.in-At.bit)
       (open_whole c.self.inside.tokens c.open_to.new.self c.self.inside.identities c.self.inside.seen
       c.self.invariant.0 c.open_to.ensures.kept) c.in_ok-flatten_side-in-Some.ensures.ok,
-  flat_last c.open_to.new.self c.flatten_side.new.self c.self.inside.identities
-      (At (table c.open_to.new.self c.in-Some.row).id c.in-At.bit) c.open_to.ensures.kept.tree
-      c.in_ok-flatten_side-in-Some.ensures.ok c.self.inside.last
-      (open_last c.self.inside.tokens c.open_to.new.self c.self.inside.identities c.self.inside.last
-      c.open_to.ensures.kept c.self.invariant.1),
+  tt,
 )
 
 pub returns-in_ok-flatten_side-in-Some-clause-ok : goal.returns-in_ok-flatten_side-in-Some-clause-ok

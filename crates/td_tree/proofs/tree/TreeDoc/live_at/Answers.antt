@@ -1,4 +1,4 @@
-use Rattle.std.proofs.Common.{ap, ◌∙◌}
+use Rattle.std.proofs.Common.{◌∙◌}
 use Rattle.td_doc.specs.Document.{live_id_at}
 use Rattle.td_tree.specs.Parts.{Parts, doc_rows}
 use Rattle.td_tree.proofs.LastRow.{last_is, last_at}
