@@ -47,8 +47,8 @@ impl Tree {
         None
     }
 
-    /// The token before which a new row is put in a slot; a leaf on the way is opened.
-    pub(crate) fn place_in(&mut self, slot: Slot, id: AtomId) -> Result<Option<u32>, DocFault>
+    /// The token before which a new row is put in a slot: mostly that of a letter typed behind the one put last.
+    pub(crate) fn place_typed(&mut self, slot: Slot, id: AtomId) -> Result<Option<u32>, DocFault>
         requires { IsNone (find_row id (doc_rows self.old)) }
         ensures place { IfOk result (λ at. IsNewPlace self.new slot id at) }
         ensures rooted { OnOk result (IsTrue (is_rooted (doc_rows self.old) slot)) }
@@ -58,12 +58,12 @@ impl Tree {
     {
         match self.end_behind_last(&slot) {
             Some(end) => Ok(Some(end)),
-            None => self.place_elsewhere(slot, id),
+            None => self.place_in(slot, id),
         }
     }
 
-    // The same where that is not right behind the row put last.
-    fn place_elsewhere(&mut self, slot: Slot, id: AtomId) -> Result<Option<u32>, DocFault>
+    /// The token before which a new row is put in a slot; a leaf on the way is opened.
+    pub(crate) fn place_in(&mut self, slot: Slot, id: AtomId) -> Result<Option<u32>, DocFault>
         requires { IsNone (find_row id (doc_rows self.old)) }
         ensures place { IfOk result (λ at. IsNewPlace self.new slot id at) }
         ensures rooted { OnOk result (IsTrue (is_rooted (doc_rows self.old) slot)) }

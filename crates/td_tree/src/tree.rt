@@ -70,7 +70,7 @@ impl Doc for Tree {
         ensures err { OnErr result (doc_rows self.new ≡ doc_rows self.old) }
         ensures nodes { AddsFewIn self.old self.new slot 1 }
     {
-        let at = self.place_in(slot, id)?;
+        let at = self.place_typed(slot, id)?;
         self.put(at, id, &atom)?;
         Ok(())
     }
