@@ -257,7 +257,7 @@ impl<D: Doc> State<D> {
     {
         self.reserve(op.dot().site)?;
         let number = self.number_from(origin);
-        let change = self.change_document(op, number)?;
+        let change = self.change_taken(op, number)?;
         self.note(op, origin);
         Ok(Done {
             reply,

@@ -10,7 +10,7 @@ ghost use Rattle.td_doc.specs.Insertion.{insert_run};
 ghost use Rattle.td_path.specs.Slot.{slot_site};
 ghost use Rattle.td_store.specs.Inserting.{inserting};
 ghost use Rattle.td_replica.specs.declared.state.Origin.TheVariants.{Here};
-ghost use Rattle.td_op.specs.declared.body.Body.TheVariants.{Delete};
+ghost use Rattle.td_op.specs.declared.body.Body.TheVariants.{Delete, Insert};
 ghost use Rattle.td_machine.specs.Counts.{IsNext};
 ghost use Rattle.td_machine.specs.Log.{committed};
 ghost use Rattle.td_machine.specs.Machine.{Machine, made, next_dot, next_op, start};
@@ -146,6 +146,43 @@ impl<D: Doc> State<D> {
         ensures err { OnErr result (self.new ≡ self.old) }
     {
         apply(&mut self.doc, &self.past, op, number)
+    }
+
+    // The same of an operation that is taken. Most put a run: that is looked for first.
+    pub(crate) fn change_taken(&mut self, op: &Op, number: u32) -> Result<LastChange, Memory>
+        requires fresh { IsFresh self.old.machine.doc op.now.dot }
+        requires keeps { KeepsSlots self.old.machine.doc
+            (effect self.old.machine.log op.now.dot op.now.body self.old.machine.doc) self.old.machine.holds }
+        ensures ok { OnOk result (self.new ≡ record self.old { machine = with_effect op.now self.old.machine }) }
+        ensures change { IfOk result (λ last. (ops : List OpValue) → slice_get ops number ≡ Some op.now
+            → change_of last ops self.new.machine.doc ≡ change_by op.now.dot op.now.body self.old.machine.doc) }
+        ensures err { OnErr result (self.new ≡ self.old) }
+    {
+        match op.body_ref() {
+            Body::Insert { slot, run } => self.put_inserted(op, slot, run, number),
+            _ => self.change_document(op, number),
+        }
+    }
+
+    // The same of an insertion.
+    fn put_inserted(
+        &mut self,
+        op: &Op,
+        slot: &Slot,
+        run: &Run,
+        number: u32,
+    ) -> Result<LastChange, Memory>
+        requires inserts { op.now.body ≡ Insert slot.now run.now }
+        requires fresh { IsFresh self.old.machine.doc op.now.dot }
+        requires keeps { KeepsSlots self.old.machine.doc
+            (effect self.old.machine.log op.now.dot op.now.body self.old.machine.doc) self.old.machine.holds }
+        ensures ok { OnOk result (self.new ≡ record self.old { machine = with_effect op.now self.old.machine }) }
+        ensures change { IfOk result (λ last. (ops : List OpValue) → slice_get ops number ≡ Some op.now
+            → change_of last ops self.new.machine.doc ≡ change_by op.now.dot op.now.body self.old.machine.doc) }
+        ensures err { OnErr result (self.new ≡ self.old) }
+    {
+        self.put_run(slot, op.dot(), run)?;
+        Ok(LastChange::Put { number })
     }
 
     // Puts the run in a slot of the document, as an insert with this dot does.

@@ -12,13 +12,13 @@ use Rattle.td_replica.proofs.Stepping.{change_once}
 use Rattle.td_replica.proofs.Taking.{next_taken, fresh_taken, changed_taken, take_log}
 use Rattle.td_replica.proofs.state.State.absorb_change.Goals as goal
 
-pub change_document-requires-clause-fresh : goal.change_document-requires-clause-fresh
-change_document-requires-clause-fresh g c =
+pub change_taken-requires-clause-fresh : goal.change_taken-requires-clause-fresh
+change_taken-requires-clause-fresh g c =
     rw c.in_ok-reserve.ensures.same.machine
     (fresh_taken c.args.self.now.machine c.requires.built c.args.op.now c.requires.fit)
 
-pub change_document-requires-clause-keeps : goal.change_document-requires-clause-keeps
-change_document-requires-clause-keeps g c =
+pub change_taken-requires-clause-keeps : goal.change_taken-requires-clause-keeps
+change_taken-requires-clause-keeps g c =
     rw c.in_ok-reserve.ensures.same.machine
     (taken_keeps c.args.self.now.machine c.requires.built c.args.op.now c.requires.fit c.requires.change)
 
@@ -38,10 +38,10 @@ returns-clause-ok g c =
     let m : Machine = c.args.self.now.machine in
     let x : OpValue = c.args.op.now in
     let same : c.reserve-2.new.self.machine ≡ m = c.in_ok-reserve.ensures.same.machine in
-    let things : c.change_document.new.self.room.things ≡ c.reserve-2.new.self.room.things =
+    let things : c.change_taken.new.self.room.things ≡ c.reserve-2.new.self.room.things =
     ap (λ (s : StateValue). s.room.things) c.in_ok-change.ensures.ok in
     let enough : 8 ≤ c.reserve-2.new.self.room.things = c.in_ok-reserve.ensures.ok.things in
-    let less : c.note.new.self.room.things + 1 ≡ c.change_document.new.self.room.things = c.note.ensures.things in
+    let less : c.note.new.self.room.things + 1 ≡ c.change_taken.new.self.room.things = c.note.ensures.things in
     record {
       reply = refl;
       machine = c.note.ensures.machine
@@ -52,7 +52,7 @@ returns-clause-ok g c =
           ∙ c.in_ok-reserve.ensures.same.entries;
       change = ap (λ (k : Machine). change_of c.in_ok-change.change c.note.new.self.ops k.doc) c.note.ensures.machine
           ∙ ap (change_of c.in_ok-change.change c.note.new.self.ops)
-          (doc_noted c.args.origin x c.change_document.new.self.machine)
+          (doc_noted c.args.origin x c.change_taken.new.self.machine)
           ∙ c.in_ok-change.ensures.change c.note.new.self.ops (returns-clause-number g c)
           ∙ ap (λ (k : Machine). change_by x.dot x.body k.doc) same
           ∙ sym (change_once m (take x m) x (take_log m c.requires.built x c.requires.fit));
