@@ -2,11 +2,11 @@
 ghost use Rattle.std.specs.Prelude.{◌≡◌, ◌<◌, ◌≤◌, ◌+◌, ◌-◌, ◌++◌, ℕ, length, true, Some, IfOk, OnOk, OnErr};
 ghost use Rattle.std.specs.List.{slice_get};
 ghost use Rattle.td_base.specs.Lists.{In};
-ghost use Rattle.td_op.specs.declared.input.Input.TheVariants.{Next};
+ghost use Rattle.td_op.specs.declared.input.Input.TheVariants.{Next, Take};
 ghost use Rattle.td_op.specs.declared.message.Message.{Message};
-ghost use Rattle.td_world.specs.World.{IsWorld, size, moved, moved_all};
+ghost use Rattle.td_world.specs.World.{IsWorld, size, moved, moved_all, reply_to};
 ghost use Rattle.td_op.specs.Message.{is_for};
-ghost use Rattle.td_world.specs.Calls.{is_wanted, nexts_after, give_moves, took, found_moves, found_given};
+ghost use Rattle.td_world.specs.Calls.{is_wanted, take, nexts_after, give_moves, took, found_moves, found_given};
 ghost use Rattle.td_world.specs.Calls.{numbered_moves, numbered_given, wanted_moves, wanted_given, wanted_answer};
 ghost use Rattle.td_world.specs.Calls.{offered, offer_moves, give_all_moves, give_all_given, IsStopped, IsCutShort};
 ghost use Rattle.td_world.specs.Parts.{IsPassed, ArePassed};
@@ -69,7 +69,9 @@ impl<D: Doc> World<D> {
     {
         let sent = self.numbered(number);
         match &sent {
-            Some(message) => self.offer_at(to, number as usize - 1, message),
+            Some(message) => {
+                self.offer_at(to, number as usize - 1, message, &Input::Take(*message))
+            }
             None => Ok(None),
         }
     }
@@ -83,7 +85,13 @@ impl<D: Doc> World<D> {
     }
 
     // Gives the message, where the site wants it.
-    fn offer_to(&mut self, to: Site, message: &Message) -> Result<Option<Given>, Memory>
+    fn offer_to(
+        &mut self,
+        to: Site,
+        message: &Message,
+        input: &Input,
+    ) -> Result<Option<Given>, Memory>
+        requires input { input.now ≡ Take message.now }
         requires within { to ≤ size self.old }
         requires sent { In message.now self.old.sent }
         requires world { IsWorld self.old }
@@ -96,7 +104,7 @@ impl<D: Doc> World<D> {
         if !self.is_wanted(to, message) {
             return Ok(None);
         }
-        Ok(Some(self.take(to, message)?))
+        Ok(Some(self.take(to, message, input)?))
     }
 
     // Gives the message, where it is for the site.
@@ -113,11 +121,12 @@ impl<D: Doc> World<D> {
         if !message.is_for(to) {
             return Ok(Given::Stray);
         }
-        self.take(to, message)
+        self.take(to, message, &Input::Take(*message))
     }
 
     // The site takes the message, and then what waits and is ready.
-    fn take(&mut self, to: Site, message: &Message) -> Result<Given, Memory>
+    fn take(&mut self, to: Site, message: &Message, input: &Input) -> Result<Given, Memory>
+        requires input { input.now ≡ Take message.now }
         requires within { to ≤ size self.old }
         requires sent { In message.now self.old.sent }
         requires addressed { is_for to message.now ≡ true }
@@ -127,9 +136,25 @@ impl<D: Doc> World<D> {
         ensures world { IsWorld self.new }
         ensures some { 1 ≤ to }
     {
-        let reply = self.step(to, &Input::Take(*message))?;
+        let reply = self.step_taking(to, message, input)?;
         let next = self.go_on(to)?;
         Ok(Given::Took { reply, next })
+    }
+
+    // The step of a site that takes the message.
+    fn step_taking(&mut self, to: Site, message: &Message, input: &Input) -> Result<Reply, Memory>
+        requires input { input.now ≡ Take message.now }
+        requires within { to ≤ size self.old }
+        requires sent { In message.now self.old.sent }
+        requires addressed { is_for to message.now ≡ true }
+        ensures reply { IfOk result (λ reply. reply ≡ reply_to (take to message.now) self.old) }
+        ensures ok { OnOk result (self.new ≡ moved (take to message.now) self.old) }
+        ensures err { OnErr result (self.new ≡ self.old) }
+        ensures was { IsWorld self.old }
+        ensures some { 1 ≤ to }
+        ensures world { IsWorld self.new }
+    {
+        self.step(to, input)
     }
 
     // The site takes what waits, as long as something is ready; how often is answered.
@@ -221,13 +246,24 @@ impl<D: Doc> World<D> {
             self.pass_over(to, k);
             return Ok(None);
         }
-        let message = self.at(k);
-        self.offer_at(to, k, &message)
+        // a message has some 240 bytes: it is made where it is given
+        let input = Input::Take(self.at(k));
+        match &input {
+            Input::Take(message) => self.offer_at(to, k, message, &input),
+            Input::Local(_) | Input::Next => Ok(None),
+        }
     }
 
     // Gives the message at the place, where it is wanted. Where all before it need not be looked at again, and it
     // neither, that is noted.
-    fn offer_at(&mut self, to: Site, k: usize, message: &Message) -> Result<Option<Given>, Memory>
+    fn offer_at(
+        &mut self,
+        to: Site,
+        k: usize,
+        message: &Message,
+        input: &Input,
+    ) -> Result<Option<Given>, Memory>
+        requires input { input.now ≡ Take message.now }
         requires within { to ≤ size self.old }
         requires sent { slice_get self.old.sent k ≡ Some message.now }
         requires world { IsWorld self.old }
@@ -237,7 +273,7 @@ impl<D: Doc> World<D> {
         ensures world { IsWorld self.new }
         ensures some { 1 ≤ to }
     {
-        let given = self.offer_to(to, message)?;
+        let given = self.offer_to(to, message, input)?;
         self.pass_by(to, k, message);
         Ok(given)
     }
