@@ -62,6 +62,21 @@ module _ {X : Type 0} where
   starts_rise at (r ∷ ramps) end h (suc i) (suc j) d le l =
       starts_rise (first_start ramps end) ramps end h.2 i j d (omega arith) (omega arith)
 
+  -- where the last ramp begins at a place or before, all do
+  pub all_begun : (ramps : List (Ramp X)) (last : Ramp X) (k : ℕ) → slice_get ramps (length ramps - 1) ≡ Some last
+      → last.start ≤ k → IsNonDecreasingBy (λ (r : Ramp X). r.start) ramps
+      → IsPartitionPoint (λ (r : Ramp X). leb r.start k ≡ true) (λ (r : Ramp X). leb r.start k ≡ false) ramps
+      (length ramps)
+  all_begun ramps last k e low rise = (
+    λ i d from l.
+        let is : (slice_index_or ramps (length ramps - 1) d).start ≡ last.start =
+        ap (λ (r : Ramp X). r.start) (get_or_from_slice_get ramps (length ramps - 1) last d e) in
+        let up : (slice_index_or ramps i d).start ≤ (slice_index_or ramps (length ramps - 1) d).start =
+        rise i (length ramps - 1) d (omega (arith, l)) (omega (arith, l)) in
+        le-leb (slice_index_or ramps i d).start k (omega (arith, is, up, low)),
+    λ i d from l. absurd (omega (arith, from, l)),
+  )
+
   first_above : (ramps : List (Ramp X)) (end k : ℕ) (d : Ramp X) → k < end
       → (0 < length ramps → k < (slice_index_or ramps 0 d).start) → k < first_start ramps end
   first_above [] end k d l above = l

@@ -104,12 +104,17 @@ impl<T: GoesOn> Ramps<T> {
     }
 }
 
-// How many ramps begin at this place or before.
+// How many ramps begin at this place or before. Mostly a late one is asked for: the last is looked at first.
 fn begun<T: GoesOn>(ramps: &[Ramp<T>], k: u64) -> usize
     ensures bound { result ≤ length ramps.now }
     ensures point { IsNonDecreasingBy (λ (r : Ramp T). r.start) ramps.now → IsPartitionPoint
         (λ (r : Ramp T). leb r.start k ≡ true) (λ (r : Ramp T). leb r.start k ≡ false) ramps.now result }
 {
+    if let Some(last) = ramps.last()
+        && last.start as u64 <= k
+    {
+        return ramps.len();
+    }
     ramps.partition_point(|ramp| ramp.start as u64 <= k)
 }
 
