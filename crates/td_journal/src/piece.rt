@@ -40,13 +40,13 @@ impl Piece {
     }
 
     /// Adds a record.
-    pub(crate) fn push(&mut self, record: &[u8]) -> Result<(), Memory>
-        requires { BeginsOpen record.now }
-        ensures ok { OnOk result (self.new ≡ self.old ++ record.now) }
+    pub(crate) fn push(&mut self, bytes: &[u8]) -> Result<(), Memory>
+        requires { BeginsOpen bytes.now }
+        ensures ok { OnOk result (self.new ≡ self.old ++ bytes.now) }
         ensures memory { OnErr result (self.new ≡ self.old) }
     {
         let gate = self.items.len() - 1;
-        self.items.extend_from_slice(record.split_at(1).1)?;
+        self.items.extend_from_slice(bytes.split_at(1).1)?;
         if self.items.push(0).is_err() {
             self.items.truncate(gate + 1);
             return Err(Memory);

@@ -5,7 +5,7 @@ use Rattle.td_journal.proofs.piece.Piece.push.Goals as goal
 pub returns-clause-ok : goal.returns-clause-ok
 returns-clause-ok c =
     let items : List ℕ = c.self.inside.items.items in
-    let bytes : List ℕ = c.args.record.now in
+    let bytes : List ℕ = c.args.bytes.now in
     let gate : ℕ = c.len-gate.result - 1 in
     let at : gate ≡ length items - 1 = search rules in
     let more : c.extend_from_slice.new.self.items ≡ items ++ drop 1 bytes = search rules in
