@@ -10,6 +10,7 @@ ghost use Rattle.td_coord.specs.Places.{IsPlace};
 use crate::ballot::Ballot;
 use crate::counted::Counted;
 use std::alloc::Global;
+use std::cmp::Ordering;
 use std::marker::Model;
 use td_base::{Dot, MAX_SITE, Memory, Site};
 use td_op::Vote;
@@ -163,10 +164,18 @@ impl Tally {
     }
 }
 
-// Where the ballot on the proposal stands, or where it is to be put.
+// Where the ballot on the proposal stands, or where it is to be put. The last is looked at first: mostly it is on the
+// newest proposal.
 fn place_of(ballots: &[Ballot], proposal: Dot) -> Result<usize, usize>
     requires { IsRising ballots.now }
     ensures { IsPlace proposal ballots.now result }
 {
-    ballots.binary_search_by(|ballot| ballot.proposal().cmp(&proposal))
+    let Some(last) = ballots.last() else {
+        return Err(0);
+    };
+    match last.proposal().cmp(&proposal) {
+        Ordering::Less => Err(ballots.len()),
+        Ordering::Equal => Ok(ballots.len() - 1),
+        Ordering::Greater => ballots.binary_search_by(|ballot| ballot.proposal().cmp(&proposal)),
+    }
 }

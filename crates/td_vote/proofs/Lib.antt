@@ -5,6 +5,7 @@ pub mod BySite
 pub mod Newest
 pub mod Between
 pub mod Beside
+pub mod LastFirst
 pub mod Least
 pub mod Placed
 pub mod Sides

@@ -39,13 +39,18 @@ pub fn put(commits: &mut Vec<Committed>, dot: Dot, slot: Slot) -> Result<(), Mem
     Ok(())
 }
 
-// The place of a commit with the dot among them.
+// The place of a commit with the dot among them. Mostly it is the newest: the last is looked at first.
 fn place_of(commits: &[Committed], dot: Dot) -> usize
     requires { InOrder commits.now }
     ensures bound { result ≤ length commits.now }
     ensures place { (slot : Slot) → insert commits.now result (commit_at dot slot)
         ≡ put_commit (commit_at dot slot) commits.now }
 {
+    if let Some(last) = commits.last()
+        && last.dot < dot
+    {
+        return commits.len();
+    }
     commits.partition_point(|commit| commit.dot < dot)
 }
 

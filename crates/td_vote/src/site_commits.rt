@@ -1,6 +1,7 @@
 // The commits of one site.
-ghost use Rattle.std.specs.Prelude.{◌≡◌, ◌||◌, not, filter};
+ghost use Rattle.std.specs.Prelude.{◌≡◌, ◌≤◌, ◌||◌, not, true, false, filter, length};
 ghost use Rattle.std.specs.List.{list_all};
+ghost use Rattle.std.specs.List.Sorted.{IsPartitionedBy, IsPartitionPoint};
 ghost use Rattle.td_clock.specs.Vector.{vector_has};
 ghost use Rattle.td_machine.specs.Log.{Committed as CommittedValue};
 ghost use Rattle.td_machine.specs.Vote.{is_apart};
@@ -40,6 +41,21 @@ fn unseen<'a>(of_site: &'a SiteCommits, v: &Vector) -> &'a [Committed]
     requires { IsOfSite of_site.now.site of_site.now.commits.items }
     ensures { result.now ≡ filter (λ (c : CommittedValue). not (vector_has v.now c.dot)) of_site.now.commits.items }
 {
-    let had = of_site.commits.partition_point(|commit| v.has(commit.dot));
+    let had = count_had(&of_site.commits, v);
     &of_site.commits[had..]
+}
+
+// How many commits of a site the vector has: they stand first. The last is looked at first: mostly it has all.
+fn count_had(commits: &[Committed], v: &Vector) -> usize
+    requires { IsPartitionedBy (λ (c : CommittedValue). vector_has v.now c.dot) commits.now }
+    ensures few { result ≤ length commits.now }
+    ensures had { IsPartitionPoint (λ (c : CommittedValue). vector_has v.now c.dot ≡ true)
+        (λ (c : CommittedValue). vector_has v.now c.dot ≡ false) commits.now result }
+{
+    if let Some(last) = commits.last()
+        && v.has(last.dot)
+    {
+        return commits.len();
+    }
+    commits.partition_point(|commit| v.has(commit.dot))
 }
